@@ -1,0 +1,33 @@
+-- Constants: numbers as trees, with leaf i at bit i. Assumes nothing.
+use mathlib.Core.Bool.{Bool}
+use mathlib.Core.List.{List, [], _∷_}
+use Prim.Native.Nat.{ℕ, zero, suc, _+_, _*_, _/_, _%_, _^_}
+use lib.Dec.{eqb}
+use Rattle.shares.specs.Below.{one}
+use Rattle.shares.specs.Tree.{Tree, treeOf}
+
+-- bit i of a number, lowest first
+unfoldable pub bit : ℕ → ℕ → Bool
+bit n i = eqb (n / 2 ^ i % 2) 1
+
+-- the number of w bits that has f i as its bit i
+unfoldable pub numberOf : ℕ → (ℕ → Bool) → ℕ
+numberOf zero f = 0
+numberOf (suc w) f = numberOf w (λ i. f (suc i)) * 2 + one (f 0)
+
+-- the tree that has leaf i, of 2 ^ k, at bit i of the number n
+abbrev pub numberTree : ℕ → ℕ → Tree
+numberTree k n = treeOf k (bit n)
+
+-- a constant has 32 leaves: it is at most this tall
+abbrev pub constantLevels : ℕ
+constantLevels = 5
+
+-- the constant that the number n stands for
+abbrev pub constant : ℕ → Tree
+constant n = numberTree constantLevels n
+
+-- the number that bytes make, the lowest first
+unfoldable pub number : List ℕ → ℕ
+number [] = 0
+number (b ∷ bs) = number bs * 2 ^ 8 + b

@@ -1,0 +1,15 @@
+pub mod Test
+pub mod Below
+pub mod BelowLaws
+pub mod Blocks
+pub mod Tree
+pub mod TreeLaws
+pub mod Constant
+pub mod Answer
+pub mod Text
+pub mod TextLaws
+pub mod JoinLaws
+pub mod BitLaws
+pub mod BitParts
+pub mod ConstantLaws
+pub mod Examples

@@ -1,0 +1,11 @@
+-- The text of a tree. Assumes nothing.
+use mathlib.Core.Bool.{true, false}
+use mathlib.Core.List.{List, [], _∷_, _++_}
+use Prim.Native.Nat.{ℕ}
+use Rattle.shares.specs.Tree.{Tree, leaf, pair}
+
+-- `o` empty, `*` full, `(` left right `)` a pair, as bytes
+unfoldable pub text : Tree → List ℕ
+text (leaf false) = 0x6F ∷ []
+text (leaf true) = 0x2A ∷ []
+text (pair l r) = 0x28 ∷ (text l ++ (text r ++ (0x29 ∷ [])))
