@@ -1,0 +1,9 @@
+pub mod Heights
+pub mod HeightLaws
+pub mod Choices
+pub mod ChoiceLaws
+pub mod Problem
+pub mod ProblemLaws
+pub mod Second
+pub mod SecondLaws
+pub mod AtHeight

@@ -1,0 +1,68 @@
+-- The problem at the leaves: one choice for each leaf, what is asked of it, its solutions of every height, the test that decides it,
+-- and the fixed solution. Assumes nothing.
+use mathlib.Core.Bool.{Bool, cond, _&&_}
+use Prim.Native.Nat.{ℕ, _/_, _%_, _^_, _≤_, _<_}
+use lib.Dec.{T, ltb, eqb}
+use Rattle.shares.specs.Below.{everyBelow, someBelow, firstBelow, countBelow}
+use Rattle.shares.specs.Blocks.{blockOf}
+use Rattle.leaves.specs.Choices.{Picker, someChoice}
+
+-- what is asked of a choice at each block; the blocks are the 2 ^ h leaves of the constants
+pub record Problem (X : Type 0) : Type 0 where
+  -- the positive clauses hold at block b for the choice x
+  pub pos : ℕ → X → Bool
+  -- how many disequations there are, and that number j holds at block b for the choice x
+  pub count : ℕ
+  pub dis : ℕ → ℕ → X → Bool
+
+-- the choices s at 2 ^ w leaves solve the problem: the positive clauses hold at every leaf, and each disequation at one
+pub record Solves {X : Type 0} (h : ℕ) (P : Problem X) (w : ℕ) (s : ℕ → X) : Type 0 where
+  pub tall : h ≤ w
+  pub everywhere : (i : ℕ) → i < 2 ^ w → T (P .pos (blockOf h w i) (s i))
+  pub somewhere : (j : ℕ) → j < P .count → (i : ℕ) × (i < 2 ^ w) × T (P .dis j (blockOf h w i) (s i))
+
+-- a solution whose height is among A
+pub record Solution {X : Type 0} (A : ℕ → Type 0) (h : ℕ) (P : Problem X) : Type 0 where
+  pub height : ℕ
+  pub allowed : A height
+  pub leaves : ℕ → X
+  pub solves : Solves h P height leaves
+
+-- each block by itself: it has a choice for the positive clauses, and each disequation has a block with a choice for it and them
+pub record Leafwise {X : Type 0} (h : ℕ) (P : Problem X) : Type 0 where
+  pub plain : (b : ℕ) → b < 2 ^ h → (x : X) × T (P .pos b x)
+  pub special : (j : ℕ) → j < P .count → (b : ℕ) × (b < 2 ^ h) × (x : X) × T (P .pos b x) × T (P .dis j b x)
+
+module _ {X : Type 0} (C : Picker X) (P : Problem X) where
+  -- at block b some choice meets the positive clauses
+  unfoldable pub plainAt : ℕ → Bool
+  plainAt b = someChoice C (P .pos b)
+
+  -- at block b some choice meets the positive clauses and disequation j
+  unfoldable pub specialAt : ℕ → ℕ → Bool
+  specialAt j b = someChoice C (λ x. P .pos b x && P .dis j b x)
+
+module _ {X : Type 0} (C : Picker X) (h : ℕ) (P : Problem X) where
+  -- the test: every block meets the positive clauses, and each disequation can be met at some block
+  unfoldable pub solvable : Bool
+  solvable = everyBelow (2 ^ h) (plainAt C P) && everyBelow (P .count) (λ j. someBelow (2 ^ h) (specialAt C P j))
+
+  -- the leftmost block that can meet disequation j: there it stands
+  unfoldable pub home : ℕ → ℕ
+  home j = firstBelow (2 ^ h) (specialAt C P j)
+
+  -- at which sub-leaf of that block it stands: after those before it that stand there
+  unfoldable pub place : ℕ → ℕ
+  place j = countBelow j (λ i. eqb (home i) (home j))
+
+  -- the disequation that stands at sub-leaf r of block b; their count where none does
+  unfoldable pub guest : ℕ → ℕ → ℕ
+  guest b r = firstBelow (P .count) (λ j. eqb (home j) b && eqb (place j) r)
+
+  -- the choice at sub-leaf r of block b: one for the disequation that stands there, or one for the positive clauses alone
+  unfoldable pub choiceAt : ℕ → ℕ → X
+  choiceAt b r = cond (ltb (guest b r) (P .count)) (C .pick (λ x. P .pos b x && P .dis (guest b r) b x)) (C .pick (P .pos b))
+
+  -- the fixed solution, of height h + k: each block is split into 2 ^ k sub-leaves
+  unfoldable pub candidate : ℕ → ℕ → X
+  candidate k i = choiceAt (i / 2 ^ k) (i % 2 ^ k)

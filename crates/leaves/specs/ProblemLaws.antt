@@ -1,0 +1,147 @@
+-- Cut and glue: a problem at the leaves has a solution exactly if its test passes, and then the fixed one solves it. Assumes nothing.
+use mathlib.Core.Path.{_≡_}
+use mathlib.Core.Logic.{_⊎_, inl, inr, _↔_}
+use mathlib.Core.Bool.{Bool, not, _&&_}
+use Prim.Native.Nat.{ℕ, _+_, _*_, _/_, _%_, _^_, _≤_, _<_, suc-le-suc}
+use native.Mathlib.Nat.{le-trans, le-add-right, eq-or-lt-of-le}
+use native.Mathlib.Omega.{arith}
+use lib.Dec.{T, ltb, eqb, ltb→lt, lt→ltb, eqb→eq, eqb-refl}
+use lib.Pow.{shr-lt, high, low}
+use Rattle.shares.specs.Test.{passes, and-intro, and-left, and-right, cond-passed, cond-failed}
+use Rattle.shares.specs.Below.{everyBelow, someBelow, countBelow}
+use Rattle.shares.specs.BelowLaws.{every-at, every-intro, some-intro, some-found, first-passes, first-below, first-min, count-le, count-lt}
+use Rattle.shares.specs.Blocks.{blockOf, firstOf, block-lt, first-lt, block-first, block-split, leaf-lt}
+use Rattle.leaves.specs.Heights.{Room}
+use Rattle.leaves.specs.Choices.{Picker}
+use Rattle.leaves.specs.ChoiceLaws.{choice-intro, choice-found, both-intro}
+use Rattle.leaves.specs.Problem.{Problem, Solves, Solution, Leafwise, plainAt, specialAt, solvable, home, place, guest, choiceAt, candidate}
+
+-- ---- cut: a solution of any height has what each block needs
+
+pub cut : {X : Type 0} (h : ℕ) (P : Problem X) (w : ℕ) (s : ℕ → X) → Solves h P w s → Leafwise h P
+cut h P w s S = record {
+  plain = λ b l. (s (firstOf h w b), rw (block-first h w b) at (S .everywhere (firstOf h w b) (first-lt (S .tall) l)));
+  special = λ j l.
+      let (i, u, t) = S .somewhere j l in
+      (blockOf h w i, block-lt (S .tall) u, s i, S .everywhere i u, t);
+}
+
+module _ {X : Type 0} (C : Picker X) (h : ℕ) (P : Problem X) where
+  pub solvable-intro : Leafwise h P → T (solvable C h P)
+  unfolding solvable plainAt specialAt
+  solvable-intro L =
+      and-intro (everyBelow (2 ^ h) (plainAt C P)) _
+      (every-intro (2 ^ h) _ (λ b l. let (x, t) = L .plain b l in choice-intro C (P .pos b) x t))
+      (every-intro (P .count) _ (λ j l.
+      let (b, u, x, t, v) = L .special j l in
+      some-intro (2 ^ h) _ b u (both-intro C (P .pos b) (P .dis j b) x t v)))
+
+  pub cut-solvable : (w : ℕ) (s : ℕ → X) → Solves h P w s → T (solvable C h P)
+  cut-solvable w s S = solvable-intro (cut h P w s S)
+
+  -- ---- glue: one choice for each block, and one sub-leaf for each disequation
+
+  module _ (t : T (solvable C h P)) where
+    pub plain-passes : (b : ℕ) → b < 2 ^ h → T (plainAt C P b)
+    unfolding solvable
+    plain-passes b l = every-at (2 ^ h) (plainAt C P) (and-left (everyBelow (2 ^ h) (plainAt C P)) _ t) b l
+
+    pub home-passes : (j : ℕ) → j < P .count → (home C h P j < 2 ^ h) × T (specialAt C P j (home C h P j))
+    unfolding solvable home
+    home-passes j l =
+        let (b, u, v) = some-found (2 ^ h) (specialAt C P j)
+        (every-at (P .count) (λ j. someBelow (2 ^ h) (specialAt C P j)) (and-right (everyBelow (2 ^ h) (plainAt C P)) _ t) j l) in
+        first-passes (2 ^ h) (specialAt C P j) b u v
+
+    -- a sub-leaf where a disequation stands meets it, beside the positive clauses
+    served : (b r : ℕ) → guest C h P b r < P .count → T (P .pos b (choiceAt C h P b r)) × T (P .dis (guest C h P b r) b (choiceAt C h P b r))
+    unfolding choiceAt specialAt guest
+    served b r l =
+        let j = guest C h P b r in
+        let v = first-below (P .count) (λ j. eqb (home C h P j) b && eqb (place C h P j) r) l in
+        let e : home C h P j ≡ b = eqb→eq (home C h P j) b (and-left (eqb (home C h P j) b) _ v) in
+        let u : T (specialAt C P j b) = rw e at (home-passes j l .1) in
+        let p : X → Bool = λ x. P .pos b x && P .dis j b x in
+        let w : T (p (C .pick p)) = choice-found C p u in
+        rw (cond-passed (ltb j (P .count)) (C .pick p) (C .pick (P .pos b)) (lt→ltb j (P .count) l))
+        (and-left (P .pos b (C .pick p)) _ w, and-right (P .pos b (C .pick p)) _ w)
+
+    choice-pos : (b r : ℕ) → b < 2 ^ h → T (P .pos b (choiceAt C h P b r))
+    unfolding choiceAt plainAt
+    choice-pos b r l = go (passes (ltb (guest C h P b r) (P .count)))
+      where
+        j : ℕ
+        j = guest C h P b r
+
+        go : T (ltb j (P .count)) ⊎ T (not (ltb j (P .count))) → T (P .pos b (choiceAt C h P b r))
+        go (inl v) = served b r (ltb→lt j (P .count) v) .0
+        go (inr v) =
+            rw (cond-failed (ltb j (P .count)) (C .pick (λ x. P .pos b x && P .dis j b x)) (C .pick (P .pos b)) v)
+            (choice-found C (P .pos b) (plain-passes b l))
+
+  -- no two disequations stand at one sub-leaf
+  places-apart : (i j : ℕ) → i < j → home C h P i ≡ home C h P j → ¬ (place C h P i ≡ place C h P j)
+  unfolding place
+  places-apart i j l p q =
+      let v : T (eqb (home C h P i) (home C h P j)) = rw p (eqb-refl (home C h P j)) in
+      let e : countBelow i (λ i. eqb (home C h P i) (home C h P j)) ≡ countBelow j (λ i. eqb (home C h P i) (home C h P j)) = rw p at q in
+      omega (arith, count-lt j (λ i. eqb (home C h P i) (home C h P j)) i l v)
+
+  -- the disequation that stands where j stands is j
+  pub guest-home : (j : ℕ) → j < P .count → guest C h P (home C h P j) (place C h P j) ≡ j
+  unfolding guest
+  guest-home j l = go (eq-or-lt-of-le (first-min (P .count) p j own))
+    where
+      b : ℕ
+      b = home C h P j
+
+      r : ℕ
+      r = place C h P j
+
+      p : ℕ → Bool
+      p i = eqb (home C h P i) b && eqb (place C h P i) r
+
+      own : T (p j)
+      own = and-intro (eqb b b) _ (eqb-refl b) (eqb-refl r)
+
+      go : (guest C h P b r ≡ j) ⊎ (guest C h P b r < j) → guest C h P b r ≡ j
+      go (inl e) = e
+      go (inr m) =
+          let i = guest C h P b r in
+          let v : T (p i) = first-passes (P .count) p j l own .1 in
+          absurd (places-apart i j m
+          (eqb→eq (home C h P i) b (and-left (eqb (home C h P i) b) _ v))
+          (eqb→eq (place C h P i) r (and-right (eqb (home C h P i) b) _ v)))
+
+  pub place-lt : (k j : ℕ) → P .count ≤ 2 ^ k → j < P .count → place C h P j < 2 ^ k
+  unfolding place
+  place-lt k j e l = le-trans (suc-le-suc (count-le j (λ i. eqb (home C h P i) (home C h P j)))) (le-trans l e)
+
+  -- the fixed solution solves the problem, at any height with room for its disequations
+  pub candidate-solves : T (solvable C h P) → (k : ℕ) → P .count ≤ 2 ^ k → Solves h P (h + k) (candidate C h P k)
+  unfolding candidate
+  candidate-solves t k e = record {
+    tall = le-add-right h k;
+    everywhere = λ i l. rw block-split (choice-pos t (i / 2 ^ k) (i % 2 ^ k) (shr-lt h k l));
+    somewhere = λ j l.
+        let f = place-lt k j e l in
+        let g = guest-home j l in (
+          home C h P j * 2 ^ k + place C h P j,
+          leaf-lt h k (home-passes t j l .0) f,
+          rw (block-split, high (home C h P j) k f, low (home C h P j) k f)
+              (rw g at (served t (home C h P j) (place C h P j) (rw g l) .1)),
+        );
+  }
+
+  -- ---- the test is right, of the solutions held to any heights that have room for the disequations
+
+  pub solution-glued : (A : ℕ → Type 0) → Room A h (P .count) → T (solvable C h P) → Solution A h P
+  solution-glued A r t = record {
+    height = h + r .times;
+    allowed = r .allowed;
+    leaves = candidate C h P (r .times);
+    solves = candidate-solves t (r .times) (r .enough);
+  }
+
+  pub solvable-iff : (A : ℕ → Type 0) → Room A h (P .count) → Solution A h P ↔ T (solvable C h P)
+  solvable-iff A r = (λ S. cut-solvable (S .height) (S .leaves) (S .solves), solution-glued A r)

@@ -1,0 +1,49 @@
+-- A question at the leaves: the test of an atom at one leaf, and the problems that the two systems pose there. Assumes nothing.
+use mathlib.Core.Bool.{Bool, true, false, not, cond, _&&_, Bool·beq}
+use mathlib.Core.List.{List, [], _∷_}
+use Prim.Native.Nat.{ℕ, _-_}
+use lib.Dec.{ltb}
+use lib.ListN.{length, getD}
+use Rattle.shares.specs.Blocks.{firstOf}
+use Rattle.shares.specs.Constant.{bit}
+use Rattle.shares.specs.Tree.{joins}
+use Rattle.leaves.specs.Choices.{Row, at}
+use Rattle.leaves.specs.Problem.{Problem}
+use Rattle.leaves.specs.Second.{Second}
+use Rattle.systems.specs.Clauses.{Constants, Term, variable, constant, Atom, joined, equal, positives, disequations, disequation}
+use Rattle.systems.specs.Questions.{Question}
+
+-- a term at block b of 2 ^ h, where variable v is x v
+unfoldable pub termAt : ℕ → Constants → ℕ → (ℕ → Bool) → Term → Bool
+termAt h cs b x (variable v) = x v
+termAt h cs b x (constant i) = bit (getD (cs .numbers) i 0) (firstOf h (cs .levels) b)
+
+-- an atom there
+unfoldable pub atomAt : ℕ → Constants → ℕ → (ℕ → Bool) → Atom → Bool
+atomAt h cs b x (joined u v w) = joins (termAt h cs b x u) (termAt h cs b x v) (termAt h cs b x w)
+atomAt h cs b x (equal u v) = Bool·beq (termAt h cs b x u) (termAt h cs b x v)
+
+-- all of some atoms
+unfoldable pub allAt : ℕ → Constants → ℕ → (ℕ → Bool) → List Atom → Bool
+allAt h cs b x [] = true
+allAt h cs b x (a ∷ l) = atomAt h cs b x a && allAt h cs b x l
+
+-- the n free variables first, then the own ones
+unfoldable pub bothAt : ℕ → (ℕ → Bool) → (ℕ → Bool) → ℕ → Bool
+bothAt n x y v = cond (ltb v n) (x v) (y (v - n))
+
+-- what the first system asks of the free variables at each leaf
+abbrev pub firstAt : ℕ → (q : Question) → Problem (Row Bool (q .free))
+firstAt h q = record {
+  pos = λ b x. allAt h (q .constants) b (at false x) (positives (q .first));
+  count = length (disequations (q .first));
+  dis = λ j b x. not (atomAt h (q .constants) b (at false x) (disequation (q .first) j));
+}
+
+-- what the second asks of the own ones beside them
+abbrev pub secondAt : ℕ → (q : Question) → Second (Row Bool (q .free)) (Row Bool (q .own))
+secondAt h q = record {
+  pos = λ b x y. allAt h (q .constants) b (bothAt (q .free) (at false x) (at false y)) (positives (q .second));
+  count = length (disequations (q .second));
+  dis = λ j b x y. not (atomAt h (q .constants) b (bothAt (q .free) (at false x) (at false y)) (disequation (q .second) j));
+}

@@ -1,0 +1,90 @@
+-- Terms and atoms at the leaves of trees: an atom holds exactly if its test passes at every leaf, for every height from h up. Assumes nothing.
+use mathlib.Core.Path.{_≡_, sym, ap, _∙_}
+use mathlib.Core.Bool.{Bool, not}
+use mathlib.Core.List.{List, [], _∷_}
+use mathlib.Core.Logic.{_↔_}
+use Prim.Native.Nat.{ℕ, _^_, _≤_, _<_}
+use native.Mathlib.Nat.{le-trans}
+use lib.Dec.{T}
+use lib.ListN.{length, getD}
+use Rattle.shares.specs.Test.{and-intro, and-left, and-right}
+use Rattle.shares.specs.BelowLaws.{Below, fails-iff}
+use Rattle.shares.specs.Blocks.{blockOf, firstOf, block-lt, first-lt, block-first}
+use Rattle.shares.specs.Tree.{Folded, height, leafAt}
+use Rattle.shares.specs.TreeLaws.{treeOf-folded, blocks, equal-test-iff}
+use Rattle.shares.specs.JoinLaws.{join-iff}
+use Rattle.shares.specs.Constant.{bit, numberTree}
+use Rattle.shares.specs.ConstantLaws.{leaf-number}
+use Rattle.systems.specs.Clauses.{Term, variable, constant, Atom, joined, equal, System, positives, disequations, disequation, Constants, constantTree, Assignment, valueOf, Holds, AllHold}
+use Rattle.systems.specs.Questions.{Defined, Within, InAtom, InSystem}
+use Rattle.systems.specs.SystemLaws.{InAtoms, in-positives, in-disequation}
+use Rattle.systems.specs.AtLeaves.{termAt, atomAt, allAt}
+
+-- a term names something defined, no taller than h
+abbrev pub Good : ℕ → ℕ → Constants → Term → Type 0
+Good n h cs t = Defined n cs t × Within h cs t
+
+-- the bits x i v are leaf i of variable v's tree, which is no taller than k, for each of the first n variables
+pub record Reads (n k : ℕ) (ρ : Assignment) (x : ℕ → ℕ → Bool) : Type 0 where
+  pub low : (v : ℕ) → v < n → height (ρ v .tree) ≤ k
+  pub bits : (i : ℕ) → i < 2 ^ k → (v : ℕ) → v < n → x i v ≡ leafAt k (ρ v .tree) i
+
+-- a constant of 2 ^ w leaves, no taller than h, at block b
+constant-at : (w h m b : ℕ) → h ≤ w → height (numberTree w m) ≤ h → b < 2 ^ h → bit m (firstOf h w b) ≡ leafAt h (numberTree w m) b
+constant-at w h m b hw low l =
+    sym (leaf-number w m (firstOf h w b) (first-lt hw l))
+    ∙ blocks h w (numberTree w m) (firstOf h w b) low hw
+    ∙ ap (leafAt h (numberTree w m)) (block-first h w b)
+
+module _ (n h : ℕ) (cs : Constants) (hw : h ≤ cs .levels) (k : ℕ) (hk : h ≤ k) (ρ : Assignment) (x : ℕ → ℕ → Bool) (R : Reads n k ρ x) where
+  term-folded : (t : Term) → Folded (valueOf cs ρ t)
+  term-folded (variable v) = ρ v .folded
+  term-folded (constant i) = treeOf-folded (cs .levels) _
+
+  term-low : (t : Term) → Good n h cs t → height (valueOf cs ρ t) ≤ k
+  term-low (variable v) g = R .low v (g .0)
+  term-low (constant i) g = le-trans (g .1) hk
+
+  term-at : (t : Term) → Good n h cs t → (i : ℕ) → i < 2 ^ k → termAt h cs (blockOf h k i) (x i) t ≡ leafAt k (valueOf cs ρ t) i
+  unfolding termAt
+  term-at (variable v) g i l = R .bits i l v (g .0)
+  term-at (constant m) g i l =
+      constant-at (cs .levels) h (getD (cs .numbers) m 0) (blockOf h k i) hw (g .1) (block-lt hk l)
+      ∙ sym (blocks h k (constantTree cs m) i (g .1) hk)
+
+  -- an atom holds exactly if its test passes at every leaf
+  atom-iff : (a : Atom) → InAtom (Good n h cs) a → Holds cs ρ a ↔ ((i : ℕ) → i < 2 ^ k → T (atomAt h cs (blockOf h k i) (x i) a))
+  unfolding atomAt
+  atom-iff (joined u v w) g =
+      let J = join-iff k (valueOf cs ρ u) (valueOf cs ρ v) (valueOf cs ρ w) (term-folded w) (term-low u (g .0)) (term-low v (g .1)) (term-low w (g .2)) in (
+        λ e i l. rw (term-at u (g .0) i l, term-at v (g .1) i l, term-at w (g .2) i l) (J .0 e i l),
+        λ f. J .1 (λ i l. rw (← (term-at u (g .0) i l), ← (term-at v (g .1) i l), ← (term-at w (g .2) i l)) (f i l)),
+      )
+  atom-iff (equal u v) g =
+      let J = equal-test-iff k (valueOf cs ρ u) (valueOf cs ρ v) (term-folded u) (term-folded v) (term-low u (g .0)) (term-low v (g .1)) in (
+        λ e i l. rw (term-at u (g .0) i l, term-at v (g .1) i l) (J .0 e i l),
+        λ f. J .1 (λ i l. rw (← (term-at u (g .0) i l), ← (term-at v (g .1) i l)) (f i l)),
+      )
+
+  all-iff : (l : List Atom) → InAtoms (Good n h cs) l → AllHold cs ρ l ↔ ((i : ℕ) → i < 2 ^ k → T (allAt h cs (blockOf h k i) (x i) l))
+  unfolding allAt
+  all-iff [] g = (λ e i m. tt, λ f. tt)
+  all-iff (a ∷ l) g = (
+    λ e i m. and-intro (atomAt h cs (blockOf h k i) (x i) a) _ (atom-iff a (g .0) .0 (e .0) i m) (all-iff l (g .1) .0 (e .1) i m),
+    λ f. (
+      atom-iff a (g .0) .1 (λ i m. and-left (atomAt h cs (blockOf h k i) (x i) a) _ (f i m)),
+      all-iff l (g .1) .1 (λ i m. and-right (atomAt h cs (blockOf h k i) (x i) a) _ (f i m)),
+    ),
+  )
+
+  module _ (s : System) (g : InSystem (Good n h cs) s) where
+    -- positive clauses hold exactly if they do at every leaf
+    pub positives-iff : AllHold cs ρ (positives s) ↔ ((i : ℕ) → i < 2 ^ k → T (allAt h cs (blockOf h k i) (x i) (positives s)))
+    positives-iff = all-iff (positives s) (in-positives (Good n h cs) s g)
+
+    -- a disequation holds exactly if it does at one leaf
+    pub disequation-iff : (j : ℕ) → j < length (disequations s)
+        → (¬ Holds cs ρ (disequation s j)) ↔ Below (2 ^ k) (λ i. not (atomAt h cs (blockOf h k i) (x i) (disequation s j)))
+    disequation-iff j l =
+        fails-iff (2 ^ k) (λ i. atomAt h cs (blockOf h k i) (x i) (disequation s j))
+        (atom-iff (disequation s j) (in-disequation (Good n h cs) s g j l))

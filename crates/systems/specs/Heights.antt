@@ -1,0 +1,264 @@
+-- The rule of heights holds of every well-formed question, and so does exactness. Assumes nothing.
+use mathlib.Core.Path.{_≡_, refl, sym, subst}
+use mathlib.Core.Bool.{Bool, false}
+use mathlib.Core.Logic.{_↔_, _⊎_, inl, inr, Iff·trans, Iff·symm}
+use mathlib.Core.List.{List, [], _∷_}
+use Prim.Native.Nat.{ℕ, zero, suc, _+_, _^_, _≤_, _<_, max}
+use native.Mathlib.Nat.{le-trans, le-max-left, le-max-right, max-le, le-add-right, not-suc-le-zero, le-of-suc-le-suc}
+use native.Mathlib.Omega.{arith}
+use lib.Dec.{T, ltb, ltb→lt}
+use lib.ListN.{length, getD}
+use Rattle.shares.specs.Test.{cond-law}
+use Rattle.shares.specs.BelowLaws.{first-below}
+use Rattle.shares.specs.Tree.{height}
+use Rattle.shares.specs.TreeLaws.{treeOf-height}
+use Rattle.shares.specs.Constant.{numberTree}
+use Rattle.leaves.specs.Heights.{c, anyHeight, atMost, exactly}
+use Rattle.leaves.specs.HeightLaws.{c-enough, room-any, room-at, room-exact}
+use Rattle.leaves.specs.Choices.{Row, at, least}
+use Rattle.leaves.specs.Problem.{Problem, Solves, candidate}
+use Rattle.leaves.specs.ProblemLaws.{cut-solvable, candidate-solves, solution-glued}
+use Rattle.leaves.specs.Second.{stuck, avoiding, canAvoid, firstAvoided}
+use Rattle.leaves.specs.SecondLaws.{extension-room, stuck-solvable, stuck-first, stuck-counter, avoiding-first, avoiding-counter}
+use Rattle.systems.specs.Clauses.{Term, variable, constant, Constants, Assignment}
+use Rattle.systems.specs.Questions.{Kind, satisfiability, entailment, Question, Defined, Within, WellFormed, Bounds, tallestConstant, questionHeight, firstCount, secondCount}
+use Rattle.systems.specs.Solutions.{tallest, heightOf, SolvesFirst, Solution, Extends, ExtendsBy, SomeNot, Entails}
+use Rattle.systems.specs.Answers.{Answer, satisfied, unsatisfied, vacuous, entailed, unmet, missed, kindOf, Says, Answers, Yes, verdict, needed, shows, Shown}
+use Rattle.systems.specs.SystemLaws.{in-system}
+use Rattle.systems.specs.AtLeaves.{firstAt, secondAt}
+use Rattle.systems.specs.AtomLaws.{Reads}
+use Rattle.systems.specs.Decide.{canSolve, canBreak, lowestMissed, decideKind, decideAt, decide, fixed, shownWith, shownAt}
+use Rattle.systems.specs.Link.{rows-read, shares-read, shares-low, Read, read-any, read-most, first-iff, extension-iff, meets-iff, with-iff}
+use Rattle.systems.specs.Exact.{extends-positives, extends-with, to-leaves, from-leaves, says-right, decide-kind, answers-iff}
+use Rattle.systems.specs.HeightRule.{HeightRule}
+
+-- ---- the tallest constant bounds every constant
+
+constant-low : (k : ℕ) (l : List ℕ) (i : ℕ) → i < length l → height (numberTree k (getD l i 0)) ≤ tallestConstant k l
+unfolding tallestConstant
+constant-low k [] i u = absurd (not-suc-le-zero u)
+constant-low k (n ∷ l) zero u = le-max-left _ _
+constant-low k (n ∷ l) (suc i) u = le-trans (constant-low k l i (le-of-suc-le-suc u)) (le-max-right (height (numberTree k n)) _)
+
+tallest-low : (k : ℕ) (l : List ℕ) → tallestConstant k l ≤ k
+unfolding tallestConstant
+tallest-low k [] = omega arith
+tallest-low k (n ∷ l) = max-le (treeOf-height k _) (tallest-low k l)
+
+term-within : (n : ℕ) (cs : Constants) (t : Term) → Defined n cs t → Within (tallestConstant (cs .levels) (cs .numbers)) cs t
+term-within n cs (variable v) l = tt
+term-within n cs (constant i) l = constant-low (cs .levels) (cs .numbers) i l
+
+pub question-bounds : (q : Question) → WellFormed q → Bounds (questionHeight q) q
+question-bounds q F = record {
+  low = tallest-low (q .constants .levels) (q .constants .numbers);
+  first = in-system _ _ _ (λ t d _. term-within (q .free) (q .constants) t d) (q .first) (F .first) (F .first);
+  second = in-system _ _ _ (λ t d _. term-within (q .free + q .own) (q .constants) t d) (q .second) (F .second) (F .second);
+}
+
+-- ---- what a verdict says
+
+one-two : _≡_ {A = ℕ} 1 2 → ⊥
+one-two e = omega arith
+
+verdict-or : (a : Answer) → (verdict a ≡ 1) ⊎ (verdict a ≡ 2)
+verdict-or satisfied = inl refl
+verdict-or unsatisfied = inr refl
+verdict-or vacuous = inl refl
+verdict-or entailed = inl refl
+verdict-or unmet = inr refl
+verdict-or (missed j) = inr refl
+
+-- no, with what refutes: kind 0, there is no solution; kind 1, some solution of the first system does not extend
+abbrev No : (ℕ → Type 0) → Kind → Question → Type 0
+No A satisfiability q = ¬ Solution A q
+No A entailment q = SomeNot A q (Extends q)
+
+no-yes : (A : ℕ → Type 0) (k : Kind) (q : Question) → No A k q → ¬ Yes A k q
+no-yes A satisfiability q n y = n y
+no-yes A entailment q (S, n) y = n (y S)
+
+module _ (A : ℕ → Type 0) (q : Question) where
+  yes-means : (a : Answer) → Says A q a → verdict a ≡ 1 → Yes A (kindOf a) q
+  yes-means satisfied s e = s
+  yes-means unsatisfied s e = absurd (one-two (sym e))
+  yes-means vacuous s e = λ S. absurd (s S)
+  yes-means entailed s e = s .1
+  yes-means unmet s e = absurd (one-two (sym e))
+  yes-means (missed j) s e = absurd (one-two (sym e))
+
+  no-means : (a : Answer) → Says A q a → verdict a ≡ 2 → No A (kindOf a) q
+  no-means satisfied s e = absurd (one-two e)
+  no-means unsatisfied s e = s
+  no-means vacuous s e = absurd (one-two e)
+  no-means entailed s e = absurd (one-two e)
+  no-means unmet (S, n) e = (S, λ E. n (extends-positives q (S .values) E))
+  no-means (missed j) s e = let (S, n) = s .2 in (S, λ E. n (extends-with q (S .values) j (s .0) E))
+
+-- ---- the rule
+
+module _ (h : ℕ) (q : Question) (F : WellFormed q) (B : Bounds h q) where
+  -- at height h + c n, trees no taller than it are read at its leaves
+  read-room : (n : ℕ) → Read h (atMost (h + c n)) (exactly (h + c n))
+  read-room n = read-most (le-add-right h (c n))
+
+  raise : {A : ℕ → Type 0} → Solution A q → Solution anyHeight q
+  raise S = record { values = S .values; allowed = tt; solves = S .solves }
+
+  solution-rule : Solution anyHeight q ↔ Solution (atMost (h + c (firstCount q))) q
+  solution-rule = (
+    λ S.
+        let L = to-leaves h q F B anyHeight anyHeight (read-any h) S in
+        let t = cut-solvable (least (q .free)) h (firstAt h q) (L .height) (L .leaves) (L .solves) in
+        from-leaves h q F B _ _ (read-room (firstCount q)) (solution-glued (least (q .free)) h (firstAt h q) _ (room-exact h (firstCount q)) t),
+    raise,
+  )
+
+  refutation-rule : (¬ Entails anyHeight q) ↔ SomeNot (atMost (h + c (firstCount q + 1))) q (Extends q)
+  unfolding raise
+  refutation-rule = (λ n. go n (verdict-or a), λ (S, n) E. n (E (raise S)))
+    where
+      a : Answer
+      a = decideKind h q entailment
+
+      kind : kindOf a ≡ entailment
+      kind = decide-kind h q entailment
+
+      go : ¬ Entails anyHeight q → (verdict a ≡ 1) ⊎ (verdict a ≡ 2) → SomeNot (atMost (h + c (firstCount q + 1))) q (Extends q)
+      go n (inl e) =
+          absurd (n (subst (λ k. Yes anyHeight k q) kind
+          (yes-means anyHeight q a (says-right h q F B anyHeight anyHeight (read-any h) entailment (room-any h _)) e)))
+      go n (inr e) =
+          subst (λ k. No (atMost (h + c (firstCount q + 1))) k q) kind
+          (no-means _ q a (says-right h q F B _ _ (read-room (firstCount q + 1)) entailment (room-exact h _)) e)
+
+  -- any assignment that extends, extends so
+  pub extension-rule : (σ : Assignment) → Extends q σ → ExtendsBy (atMost (max (heightOf q σ) h + c (secondCount q))) q σ
+  extension-rule σ E =
+      let w = max (tallest (q .free) σ) h in
+      let l = le-max-right (tallest (q .free) σ) h in
+      let r = rows-read (q .free) w σ (le-max-left (tallest (q .free) σ) h) in
+      let v = w + c (secondCount q) in
+      extension-iff h q F B w l σ _ r (atMost v) (exactly v) (read-most (le-add-right w _)) .1
+      (extension-room (least (q .own)) h (secondAt h q) w _ l anyHeight (exactly v) (room-exact w (secondCount q))
+      (extension-iff h q F B w l σ _ r anyHeight anyHeight (read-any w) .0 E))
+
+  held-rule : (k : ℕ) → h + c (needed (q .kind) (firstCount q)) ≤ k → (a : Answer) → Answers (atMost k) q a ↔ Answers anyHeight q a
+  held-rule k l a =
+      Iff·trans
+      (answers-iff h q F B (atMost k) (exactly k) (read-most (le-trans (le-add-right h _) l)) (room-at l) a)
+      (Iff·symm (answers-iff h q F B anyHeight anyHeight (read-any h) (room-any h _) a))
+
+  -- ---- the solution that is shown
+
+  module _ (P : Problem (Row Bool (q .free))) (k : ℕ) (S : Solves h (firstAt h q) (h + k) (candidate (least (q .free)) h P k)) where
+    fixed-reads : Reads (q .free) (h + k) (fixed h q P k) (λ i. at false (candidate (least (q .free)) h P k i))
+    fixed-reads = shares-read (q .free) (h + k) _
+
+    fixed-solves : SolvesFirst q (fixed h q P k)
+    fixed-solves = first-iff h q F B (h + k) (le-add-right h k) _ _ fixed-reads .1 S
+
+    fixed-low : heightOf q (fixed h q P k) ≤ h + k
+    fixed-low = shares-low (q .free) (h + k) _
+
+  shown-satisfied : T (canSolve h q) → Shown h q satisfied (shownWith h q satisfied)
+  shown-satisfied t =
+      let S = candidate-solves (least (q .free)) h (firstAt h q) t (c (firstCount q)) (c-enough (firstCount q)) in
+      record { solves = fixed-solves (firstAt h q) (c (firstCount q)) S; low = fixed-low (firstAt h q) (c (firstCount q)) S; fails = tt }
+
+  -- room for one more than the disequations
+  room-more : suc (firstCount q) ≤ 2 ^ c (firstCount q + 1)
+  room-more = omega (arith, c-enough (firstCount q + 1))
+
+  shown-unmet : T (canSolve h q) → T (canBreak h q) → Shown h q unmet (shownWith h q unmet)
+  shown-unmet t u =
+      let k = c (firstCount q + 1) in
+      let P = stuck (least (q .own)) (secondAt h q) (firstAt h q) in
+      let S = candidate-solves (least (q .free)) h P (stuck-solvable (least (q .free)) (least (q .own)) h (firstAt h q) (secondAt h q) t u) k room-more in
+      let S₁ = stuck-first (least (q .own)) h (firstAt h q) (secondAt h q) (h + k) _ S in
+      record {
+        solves = fixed-solves P k S₁;
+        low = fixed-low P k S₁;
+        fails = λ m. stuck-counter (least (q .own)) h (firstAt h q) (secondAt h q) (h + k) _ S
+            (meets-iff h q F B (h + k) (le-add-right h k) _ _ (fixed-reads P k S₁) .0 m);
+      }
+
+  shown-missed : (j : ℕ) → j < secondCount q → T (canAvoid (least (q .free)) (least (q .own)) h (firstAt h q) (secondAt h q) j)
+      → Shown h q (missed j) (shownWith h q (missed j))
+  unfolding canAvoid
+  shown-missed j l t =
+      let k = c (firstCount q + 1) in
+      let P = avoiding (least (q .own)) (secondAt h q) (firstAt h q) j in
+      let S = candidate-solves (least (q .free)) h P t k (omega (arith, room-more)) in
+      let S₁ = avoiding-first (least (q .own)) h (firstAt h q) (secondAt h q) (h + k) _ j S in
+      record {
+        solves = fixed-solves P k S₁;
+        low = fixed-low P k S₁;
+        fails = λ m. avoiding-counter (least (q .own)) h (firstAt h q) (secondAt h q) (h + k) _ j S
+            (with-iff h q F B (h + k) (le-add-right h k) _ _ (fixed-reads P k S₁) j l .0 m);
+      }
+
+  shown-rule : T (shows (decideAt h q)) → Shown h q (decideAt h q) (shownAt h q)
+  unfolding decideKind firstAvoided
+  shown-rule = go (q .kind)
+    where
+      M : Answer → Type 0
+      M a = T (shows a) → Shown h q a (shownWith h q a)
+
+      go : (k : Kind) → M (decideKind h q k)
+      go satisfiability = cond-law M (canSolve h q) satisfied unsatisfied (λ t _. shown-satisfied t) (λ _ f. absurd f)
+      go entailment =
+          cond-law M (canSolve h q) _ vacuous
+          (λ t. cond-law M (canBreak h q) unmet _
+          (λ u _. shown-unmet t u)
+          (λ u. cond-law M (ltb (lowestMissed h q) (secondCount q)) (missed (lowestMissed h q)) entailed
+          (λ v _. let l = ltb→lt (lowestMissed h q) (secondCount q) v in shown-missed (lowestMissed h q) l (first-below (secondCount q) _ l))
+          (λ _ f. absurd f)))
+          (λ _ f. absurd f)
+
+  -- with any h that bounds the constants that clauses name
+  pub height-rule-at : HeightRule h q
+  height-rule-at = record {
+    solution = solution-rule;
+    refutation = refutation-rule;
+    extension = λ E S. extension-rule (S .values) (E S);
+    held = held-rule;
+    decision = answers-iff h q F B anyHeight anyHeight (read-any h) (room-any h _);
+    shown = shown-rule;
+  }
+
+-- ---- the theorems, over every well-formed question
+
+-- the rule of heights, with h the height of the tallest constant
+pub height-rule : (q : Question) → WellFormed q → HeightRule (questionHeight q) q
+height-rule q F = height-rule-at (questionHeight q) q F (question-bounds q F)
+
+-- the decision is the right answer, and the only one
+pub exact : (q : Question) → WellFormed q → (a : Answer) → Answers anyHeight q a ↔ (decide q ≡ a)
+exact q F = height-rule q F .decision
+
+-- h may be any bound of the constants that clauses name: the decision is the same
+pub decide-same : (q : Question) → WellFormed q → (h : ℕ) → Bounds h q → decideAt h q ≡ decide q
+decide-same q F h B = height-rule-at h q F B .decision (decide q) .0 (exact q F (decide q) .1 refl)
+
+-- yes exactly where the answer is yes, no exactly where it is not
+pub verdict-exact : (q : Question) → WellFormed q
+    → ((verdict (decide q) ≡ 1) ↔ Yes anyHeight (q .kind) q) × ((verdict (decide q) ≡ 2) ↔ (¬ Yes anyHeight (q .kind) q))
+verdict-exact q F = ((yes, λ y. first y (verdict-or (decide q))), (λ e. no-yes anyHeight (q .kind) q (no e), λ n. second n (verdict-or (decide q))))
+  where
+    a : Answers anyHeight q (decide q)
+    a = exact q F (decide q) .1 refl
+
+    yes : verdict (decide q) ≡ 1 → Yes anyHeight (q .kind) q
+    yes e = subst (λ k. Yes anyHeight k q) (a .0) (yes-means anyHeight q (decide q) (a .1) e)
+
+    no : verdict (decide q) ≡ 2 → No anyHeight (q .kind) q
+    no e = subst (λ k. No anyHeight k q) (a .0) (no-means anyHeight q (decide q) (a .1) e)
+
+    first : Yes anyHeight (q .kind) q → (verdict (decide q) ≡ 1) ⊎ (verdict (decide q) ≡ 2) → verdict (decide q) ≡ 1
+    first y (inl e) = e
+    first y (inr e) = absurd (no-yes anyHeight (q .kind) q (no e) y)
+
+    second : ¬ Yes anyHeight (q .kind) q → (verdict (decide q) ≡ 1) ⊎ (verdict (decide q) ≡ 2) → verdict (decide q) ≡ 2
+    second n (inl e) = absurd (n (yes e))
+    second n (inr e) = e

@@ -1,0 +1,16 @@
+pub mod Clauses
+pub mod Questions
+pub mod Solutions
+pub mod Answers
+pub mod AtLeaves
+pub mod Decide
+pub mod SystemLaws
+pub mod AtomLaws
+pub mod Link
+pub mod Exact
+pub mod HeightRule
+pub mod Heights
+pub mod Worked
+pub mod FormedTest
+pub mod WorkedRight
+pub mod WorkedShown

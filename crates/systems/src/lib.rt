@@ -1,0 +1,1 @@
+// Systems of share clauses over trees: definitions and theorems in specs/, no code.
