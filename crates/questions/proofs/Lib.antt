@@ -1,0 +1,2 @@
+pub mod HeldFacts
+pub mod Turns
