@@ -1,0 +1,163 @@
+-- Writing the text of a block: a leaf's sign, or both halves between brackets. Assumes nothing.
+use mathlib.Core.Path.{_≡_, refl, sym, ap, _∙_}
+use mathlib.Core.Bool.{Bool, true, false}
+use mathlib.Core.List.{List, [], _∷_, _++_}
+use mathlib.Core.Logic.{_↔_}
+use Prim.Native.Nat.{ℕ, zero, suc, _+_, _-_, _*_, _^_, _≤_, _<_}
+use native.Mathlib.Nat.{two-pow-succ, mul-one, mul-le-mul-left}
+use native.Mathlib.Numerals.{add-one}
+use native.Mathlib.Omega.{arith}
+use lib.Dec.{T}
+use lib.ListN.{length, drop, set, length-append, length-set}
+use lib.Pow.{pow-pos}
+use lib.Seq.{sets, length-sets, sets-eq}
+use Rattle.shares.specs.Test.{of-true}
+use Rattle.shares.specs.Tree.{Tree, leaf, pair}
+use Rattle.shares.specs.Text.{text}
+use Rattle.show.specs.Blocks.{Inside, blockTree, AllLeaves}
+use Rattle.show.specs.BlockLaws.{halves-inside, block-leaf-iff, block-pair}
+use Rattle.show.specs.Texts.{Put}
+
+-- ---- texts
+
+-- the sign of a leaf
+abbrev pub sign : Bool → ℕ
+sign false = 0x6F
+sign true = 0x2A
+
+leaf-text : (v : Bool) → text (leaf v) ≡ sign v ∷ []
+unfolding text
+leaf-text false = refl
+leaf-text true = refl
+
+leaf-length : (v : Bool) → length (text (leaf v)) ≡ 1
+leaf-length v = ap length (leaf-text v)
+
+text-some : (t : Tree) → 0 < length (text t)
+unfolding text
+text-some (leaf true) = omega arith
+text-some (leaf false) = omega arith
+text-some (pair l r) = omega arith
+
+pair-length : (l r : Tree) → length (text (pair l r)) ≡ 2 + length (text l) + length (text r)
+unfolding text
+pair-length l r = rw (length-append (text l) (text r ++ (0x29 ∷ [])), length-append (text r) (0x29 ∷ [])) (omega arith)
+
+-- ---- bytes put one after the other
+
+sets-append : (l : List ℕ) (i : ℕ) (xs ys : List ℕ) → sets l i (xs ++ ys) ≡ sets (sets l i xs) (i + length xs) ys
+sets-append l i [] ys = let e : i + 0 ≡ i = omega arith in rw e
+sets-append l i (x ∷ xs) ys = let e : suc i + length xs ≡ i + suc (length xs) = omega arith in sets-append (set l i x) (suc i) xs ys ∙ rw e
+
+put-length : {t before after : List ℕ} {at next : ℕ} → Put t before at next after → length after ≡ length before
+put-length {t} {before} {after} {at} w = ap length (w .bytes) ∙ length-sets before at t
+
+put-pair : (l r : Tree) (before mid after : List ℕ) (at m n : ℕ) → Put (text l) (set before at 0x28) (at + 1) m mid → Put (text r) mid m n after
+    → Put (text (pair l r)) before at (n + 1) (set after n 0x29)
+unfolding text
+put-pair l r before mid after at m n a b =
+    let close : List ℕ = 0x29 ∷ [] in
+    let opened = set before at 0x28 in
+    record {
+      place = omega (arith, pair-length l r, a .place, b .place);
+      bytes =
+          sym
+          (ap (λ (k : ℕ). sets opened k (text l ++ (text r ++ close))) (sym (add-one at))
+          ∙ sets-append opened (at + 1) (text l) (text r ++ close)
+          ∙ rw (← a .bytes, ← a .place) (sets-append mid m (text r) close ∙ rw (← b .bytes, ← b .place)));
+    }
+
+-- ---- the block, by the test of its leaves
+
+module _ (row : List ℕ) (h q : ℕ) (inside : Inside h q (length row)) where
+  tree : Tree
+  tree = blockTree row h q
+
+  left : Tree
+  left = blockTree row (h - 1) (2 * q)
+
+  right : Tree
+  right = blockTree row (h - 1) (2 * q + 1)
+
+  pub number-small : 2 * q + 1 < 2 ^ 40
+  number-small = let e : q * 1 ≤ q * 2 ^ h = mul-le-mul-left q (pow-pos h) in omega (arith, inside .fits, inside .few, mul-one q)
+
+  pub at-room : (at : ℕ) (buffer : List ℕ) → at + length (text (blockTree row h q)) ≤ length buffer → at < length buffer
+  at-room at buffer room = omega (arith, text-some (blockTree row h q))
+
+  module _ (v t : Bool) (test : T t ↔ AllLeaves row h q v) (passed : t ≡ true) where
+    is-leaf : tree ≡ leaf v
+    unfolding tree
+    is-leaf = block-leaf-iff row h q v .0 (test .0 (of-true passed))
+
+    pub leaf-counted : (1 ≡ length (text (blockTree row h q))) × (3 ≤ 3 * 2 ^ h)
+    unfolding tree
+    leaf-counted = (sym (ap (λ t. length (text t)) is-leaf ∙ leaf-length v), omega (arith, pow-pos h))
+
+    pub leaf-put : (at : ℕ) (buffer : List ℕ) → Put (text (blockTree row h q)) buffer at (at + 1) (set buffer at (sign v))
+    unfolding tree
+    leaf-put at buffer =
+        let whole : text (blockTree row h q) ≡ sign v ∷ [] = ap text is-leaf ∙ leaf-text v in
+        record { place = rw whole; bytes = rw whole }
+
+  module _ (t u : Bool) (none : T t ↔ AllLeaves row h q false) (all : T u ↔ AllLeaves row h q true) (not-none : t ≡ false) (not-all : u ≡ false) where
+    mixed : (v : Bool) → AllLeaves row h q v → ⊥
+    mixed false a = rw not-none at (none .1 a)
+    mixed true a = rw not-all at (all .1 a)
+
+    is-pair : (0 < h) × (tree ≡ pair left right)
+    unfolding tree left right
+    is-pair = block-pair row h q mixed
+
+    pub above : 0 < h
+    above = is-pair .0
+
+    halved : (k : ℕ) → 0 < k → 2 ^ k ≡ 2 ^ (k - 1) + 2 ^ (k - 1)
+    halved zero l = absurd (omega arith)
+    halved (suc k) l = let e : suc k - 1 ≡ k = omega arith in rw e (two-pow-succ k)
+
+    pub left-inside : Inside (h - 1) (2 * q) (length row)
+    left-inside = halves-inside h q (length row) above inside .0
+
+    pub right-inside : Inside (h - 1) (2 * q + 1) (length row)
+    right-inside = halves-inside h q (length row) above inside .1
+
+    halves-length : length (text tree) ≡ 2 + length (text left) + length (text right)
+    halves-length = ap (λ t. length (text t)) (is-pair .1) ∙ pair-length left right
+
+    pub pair-counted : (a b : ℕ) → (a ≡ length (text (blockTree row (h - 1) (2 * q)))) × (a + 2 ≤ 3 * 2 ^ (h - 1))
+        → (b ≡ length (text (blockTree row (h - 1) (2 * q + 1)))) × (b + 2 ≤ 3 * 2 ^ (h - 1))
+        → (2 + a + b ≡ length (text (blockTree row h q))) × (2 + a + b + 2 ≤ 3 * 2 ^ h)
+    unfolding tree left right
+    pair-counted a b ea eb = (omega (arith, halves-length), omega (arith, halved h above))
+
+    module _ (buffer : List ℕ) (at : ℕ) (room : at + length (text (blockTree row h q)) ≤ length buffer) where
+      pub left-room : at + 1 + length (text (blockTree row (h - 1) (2 * q))) ≤ length (set buffer at 0x28)
+      unfolding tree left right
+      left-room = rw (length-set buffer at 0x28) (omega (arith, halves-length))
+
+      module _ (m : ℕ) (mid : List ℕ) (a : Put (text (blockTree row (h - 1) (2 * q))) (set buffer at 0x28) (at + 1) m mid) where
+        mid-length : length mid ≡ length buffer
+        mid-length = put-length a ∙ length-set buffer at 0x28
+
+        pub right-room : m + length (text (blockTree row (h - 1) (2 * q + 1))) ≤ length mid
+        unfolding tree left right
+        right-room = omega (arith, mid-length, a .place, halves-length)
+
+        module _ (n : ℕ) (after : List ℕ) (b : Put (text (blockTree row (h - 1) (2 * q + 1))) mid m n after) where
+          pub last-room : (n < length after) × (n < length buffer)
+          unfolding tree left right
+          last-room = (omega (arith, put-length b, mid-length, a .place, b .place, halves-length), omega (arith, a .place, b .place, halves-length))
+
+          pub pair-put : Put (text (blockTree row h q)) buffer at (n + 1) (set after n 0x29)
+          unfolding tree left right
+          pair-put = rw (is-pair .1) (put-pair left right buffer mid after at m n a b)
+
+          pub pair-length-kept : length (set after n 0x29) ≡ length buffer
+          pair-length-kept = length-set after n 0x29 ∙ put-length b ∙ mid-length
+
+-- put at the start of a buffer: the text, and then what was past it
+pub put-first : (t buffer after : List ℕ) (n : ℕ) → length t ≤ length buffer → Put t buffer 0 n after → (n ≡ length t) × (after ≡ t ++ drop (length t) buffer)
+put-first t buffer after n room w =
+    let e : 0 + length t ≡ length t = omega arith in
+    (w .place ∙ e, w .bytes ∙ sets-eq t buffer 0 (omega arith) ∙ ap (λ (k : ℕ). t ++ drop k buffer) e)

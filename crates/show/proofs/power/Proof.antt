@@ -1,0 +1,14 @@
+-- `show::power` gives that power of two. Assumes nothing.
+use Rattle.show.proofs.Numbers.{power-is}
+use borrow.Author.Needs.{needs}
+use Rattle.show.proofs.power.Statement.{statement}
+use Rattle.show.proofs.power.Tie as tie
+
+shl-result : tie.Need-shl-result
+shl-result c = search needs
+
+returns : tie.Need-returns
+returns c = power-is (c .args .k) (c .pre)
+
+pub power-spec : {M : Type 1} → statement M
+power-spec = tie.close (tie.spec shl-result returns)

@@ -1,0 +1,334 @@
+// Showing: the rows of a shown solution, the row of one variable, and the text of a row.
+ghost use mathlib.Core.Path.{_≡_};
+ghost use mathlib.Core.Logic.{_↔_};
+ghost use mathlib.Core.Bool.{cond};
+ghost use Prim.Native.Nat.{ℕ, _+_, _*_, _-_, _/_, _^_, _<_, _≤_};
+ghost use lib.Dec.{T, eqb, leb};
+ghost use lib.ListN.{length, getD, replicate};
+ghost use Rattle.shares.specs.Constant.{bit};
+ghost use Rattle.shares.specs.Text.{text};
+ghost use Rattle.show.specs.Rows.{rowLevels, rowBytes, rowCount, answerBytes, rowLeaf, rowOf, rowPart, rowPlace};
+ghost use Rattle.show.specs.Blocks.{Inside, blockTree, AllLeaves, BlockSet, wholeByte};
+ghost use Rattle.show.specs.Plans.{WellFormed, planTree, Shows, shownRow, shownAnswer};
+ghost use Rattle.show.specs.Texts.{rowText, textAnswer, textAfter, Put};
+
+// A row is a tree unfolded to this height, in this many bytes.
+const ROW_LEVELS: usize = 10;
+
+const ROW_BYTES: usize = 128;
+
+// An answer has this many rows, in this many bytes.
+const ROW_COUNT: usize = 12;
+
+const ANSWER_BYTES: usize = 1536;
+
+// ---- the row of one variable
+
+// The row of a variable, as that very part of the answer buffer; the empty part if there is none.
+pub fn row(answer: &[u8], variable: usize) -> &[u8]
+    ensures { λ r. ⌜ now r ≡ rowPart (now (answer .entry)) variable ⌝ }
+{
+    if variable < ROW_COUNT {
+        if ANSWER_BYTES <= answer.len() {
+            return &answer[variable * ROW_BYTES..variable * ROW_BYTES + ROW_BYTES];
+        }
+        return &answer[0..0];
+    }
+    &answer[0..0]
+}
+
+// Where that part lies in an answer buffer of `bytes` bytes: its offset in the low 32 bits, its length in the high 32.
+pub fn row_place(bytes: usize, variable: usize) -> u64
+    ensures { λ r. ⌜ r ≡ rowPlace bytes variable ⌝ }
+{
+    if variable < ROW_COUNT {
+        if ANSWER_BYTES <= bytes {
+            let offset = (variable * ROW_BYTES) as u64;
+            return offset + 128 * 4294967296;
+        }
+        return 0;
+    }
+    0
+}
+
+// ---- blocks of leaves
+
+fn power(k: usize) -> usize
+    requires { ⌜ k ≤ 32 ⌝ }
+    ensures { λ r. ⌜ r ≡ 2 ^ k ⌝ }
+{
+    1 << k
+}
+
+// The bits of block `a` of a byte: as many ones as a block has leaves, moved to its place.
+fn mask(height: usize, a: usize) -> u8
+    requires { ⌜ (height ≤ 3) × (a < 2 ^ (3 - height)) ⌝ }
+    ensures { λ r. ⌜ ((i : ℕ) → i < 8 → bit r i ≡ eqb (i / 2 ^ height) a) ⌝ }
+{
+    let size = power(height);
+    let ones = power(size) - 1;
+    (ones * power(a * size)) as u8
+}
+
+// The byte whose eight leaves are all full, or all empty.
+fn whole(full: bool) -> u8
+    ensures { λ r. ⌜ r ≡ wholeByte full ⌝ }
+{
+    if full { 255 } else { 0 }
+}
+
+// A byte with the leaves of its block `a` set.
+fn with_block(byte: u8, height: usize, a: usize, full: bool) -> u8
+    requires { ⌜ (height ≤ 3) × (a < 2 ^ (3 - height)) ⌝ }
+    ensures { λ r. ⌜ ((i : ℕ) → i < 8 → bit r i ≡ cond (eqb (i / 2 ^ height) a) full (bit byte i)) ⌝ }
+{
+    byte ^ ((byte ^ whole(full)) & mask(height, a))
+}
+
+// Whether every leaf of block `a` of a byte is the one asked for.
+fn is_block(byte: u8, height: usize, a: usize, full: bool) -> bool
+    requires { ⌜ (height ≤ 3) × (a < 2 ^ (3 - height)) ⌝ }
+    ensures { λ r. ⌜ T r ↔ ((i : ℕ) → i < 8 → i / 2 ^ height ≡ a → bit byte i ≡ full) ⌝ }
+{
+    (byte ^ whole(full)) & mask(height, a) == 0
+}
+
+fn fill(part: &mut [u8], byte: u8)
+    ensures { λ _. ⌜ now (part .exit) ≡ replicate (length (now (part .entry))) byte ⌝ }
+{
+    let mut i: usize = 0;
+    while i < part.len() {
+        part[i] = byte;
+        i += 1;
+    }
+}
+
+fn is_filled(part: &[u8], byte: u8) -> bool
+    ensures { λ r. ⌜ T r ↔ ((i : ℕ) → i < length (now (part .entry)) → getD (now (part .entry)) i 0 ≡ byte) ⌝ }
+{
+    let mut i: usize = 0;
+    while i < part.len() {
+        if part[i] != byte {
+            return false;
+        }
+        i += 1;
+    }
+    true
+}
+
+// Sets the leaves of block q: whole bytes, or some bits of one byte.
+fn write_block(row: &mut [u8], height: usize, q: usize, full: bool)
+    requires { ⌜ Inside height q (length (now row)) ⌝ }
+    ensures { λ _. ⌜ BlockSet (now (row .entry)) (now (row .exit)) height q full ⌝ }
+{
+    if height <= 3 {
+        let blocks = power(3 - height);
+        let j = q / blocks;
+        row[j] = with_block(row[j], height, q % blocks, full);
+        return;
+    }
+    let size = power(height - 3);
+    fill(&mut row[q * size..q * size + size], whole(full));
+}
+
+// Whether every leaf of block q is the one asked for. It stops at the first byte that has another.
+fn is_constant(row: &[u8], height: usize, q: usize, full: bool) -> bool
+    requires { ⌜ Inside height q (length (now row)) ⌝ }
+    ensures { λ r. ⌜ T r ↔ AllLeaves (now (row .entry)) height q full ⌝ }
+{
+    if height <= 3 {
+        let blocks = power(3 - height);
+        return is_block(row[q / blocks], height, q % blocks, full);
+    }
+    let size = power(height - 3);
+    is_filled(&row[q * size..q * size + size], whole(full))
+}
+
+// ---- the rows of a shown solution
+
+// Which choice of values stands at each sub-leaf of a shown solution. The value of a variable is one binary digit of a choice.
+pub struct Plan {
+    // the height of the leaves
+    pub low: usize,
+    // the height given
+    pub high: usize,
+    // the choice at each leaf, of 2^low, wherever no other stands
+    pub plain: [u16; 64],
+    // how many sub-leaves hold another choice
+    pub count: usize,
+    // which sub-leaf, of 2^high
+    pub place: [u16; 32],
+    // the choice that stands there
+    pub choice: [u16; 32],
+}
+
+// Digit p of a choice.
+fn digit(choice: u16, p: usize) -> bool
+    requires { ⌜ p < 16 ⌝ }
+    ensures { λ r. ⌜ r ≡ bit choice p ⌝ }
+{
+    (choice >> p) % 2 == 1
+}
+
+// For each leaf, the byte whose leaves are all digit p of its choice.
+fn leaf_bytes(plain: &[u16; 64], p: usize) -> [u8; 64]
+    requires { ⌜ p < 16 ⌝ }
+    ensures { λ r. ⌜ ((k : ℕ) → k < 64 → getD r k 0 ≡ wholeByte (bit (getD (now (plain .entry)) k 0) p)) ⌝ }
+{
+    let mut bytes = [0u8; 64];
+    let mut k: usize = 0;
+    while k < 64 {
+        bytes[k] = whole(digit(plain[k], p));
+        k += 1;
+    }
+    bytes
+}
+
+// Fills a row with bytes, each repeated 2^shift times.
+fn spread(row: &mut [u8], bytes: &[u8; 64], shift: usize)
+    requires { ⌜ (shift ≤ 32) × (length (now row) ≤ 64 * 2 ^ shift) ⌝ }
+    ensures { λ _. ⌜ ((j : ℕ) → j < length (now (row .entry)) → getD (now (row .exit)) j 0 ≡ getD (now (bytes .entry)) (j / 2 ^ shift) 0) ⌝ }
+{
+    let mut j: usize = 0;
+    while j < row.len() {
+        row[j] = bytes[j >> shift];
+        j += 1;
+    }
+}
+
+// Fills a row with blocks of whole bytes, each with digit p of its choice.
+fn write_leaves(row: &mut [u8], plain: &[u16; 64], height: usize, p: usize)
+    requires { ⌜ (3 ≤ height) × (height ≤ 32) × (length (now row) ≤ 64 * 2 ^ (height - 3)) × (p < 16) ⌝ }
+    ensures { λ _. ⌜ ((i : ℕ) → i < 8 * length (now (row .entry)) → rowLeaf (now (row .exit)) i ≡ bit (getD (now (plain .entry)) (i / 2 ^ height) 0) p) ⌝ }
+{
+    let bytes = leaf_bytes(plain, p);
+    spread(row, &bytes, height - 3);
+}
+
+// Sets the sub-leaves that hold another choice, in order.
+fn write_places(row: &mut [u8], plan: Plan, p: usize)
+    requires { ⌜ WellFormed plan ⌝ }
+    requires { ⌜ (length (now row) ≡ rowBytes) × (p < 16) × Shows plan 0 p (now row) ⌝ }
+    ensures { λ _. ⌜ Shows plan (plan .count) p (now (row .exit)) ⌝ }
+{
+    let height = ROW_LEVELS - plan.high;
+    let mut n: usize = 0;
+    while n < plan.count {
+        let s = plan.place[n] as usize;
+        write_block(row, height, s, digit(plan.choice[n], p));
+        n += 1;
+    }
+}
+
+// Writes the row of the variable whose value is digit p.
+pub fn write_row(row: &mut [u8], plan: Plan, p: usize)
+    requires { ⌜ WellFormed plan ⌝ }
+    requires { ⌜ (length (now row) ≡ rowBytes) × (p < 16) ⌝ }
+    ensures { λ _. ⌜ now (row .exit) ≡ rowOf rowLevels (planTree plan p) ⌝ }
+{
+    let plain = plan.plain;
+    write_leaves(row, &plain, ROW_LEVELS - plan.low, p);
+    write_places(row, plan, p);
+}
+
+// Writes the row of variable v, of n free ones: zero where it is none of them.
+fn show_row(row: &mut [u8], n: usize, plan: Plan, v: usize)
+    requires { ⌜ WellFormed plan ⌝ }
+    requires { ⌜ (length (now row) ≡ rowBytes) × (n ≤ rowCount) ⌝ }
+    ensures { λ _. ⌜ now (row .exit) ≡ shownRow n plan v ⌝ }
+{
+    if v < n {
+        write_row(row, plan, n - 1 - v);
+        return;
+    }
+    fill(row, 0);
+}
+
+// Shows a plan of n free variables in the answer buffer.
+pub fn write_rows(answer: &mut [u8], n: usize, plan: Plan)
+    requires { ⌜ WellFormed plan ⌝ }
+    requires { ⌜ (answerBytes ≤ length (now answer)) × (n ≤ rowCount) ⌝ }
+    ensures { λ _. ⌜ now (answer .exit) ≡ shownAnswer n plan (now (answer .entry)) ⌝ }
+{
+    let mut v: usize = 0;
+    while v < ROW_COUNT {
+        show_row(
+            &mut answer[v * ROW_BYTES..v * ROW_BYTES + ROW_BYTES],
+            n,
+            plan,
+            v,
+        );
+        v += 1;
+    }
+}
+
+// ---- the text of a row
+
+// What writing a text gives: its length, or the number of the refusal.
+pub enum Written {
+    Length(usize),
+    Refused(u8),
+}
+
+// The length of the text of block q. At each height at which the block of a byte is a pair, the byte is looked at twice at most,
+// and so once more where the block is a leaf.
+fn text_length(row: &[u8], height: usize, q: usize) -> usize
+    requires { ⌜ Inside height q (length (now row)) ⌝ }
+    ensures { λ r. ⌜ (r ≡ length (text (blockTree (now (row .entry)) height q))) × (r + 2 ≤ 3 * 2 ^ height) ⌝ }
+{
+    if is_constant(row, height, q, false) {
+        return 1;
+    }
+    if is_constant(row, height, q, true) {
+        return 1;
+    }
+    let left = text_length(row, height - 1, 2 * q);
+    let right = text_length(row, height - 1, 2 * q + 1);
+    2 + left + right
+}
+
+// Writes the text of block q from a place of the buffer on, and gives the place after it.
+fn write_text(row: &[u8], height: usize, q: usize, buffer: &mut [u8], at: usize) -> usize
+    requires { ⌜ Inside height q (length (now row)) ⌝ }
+    requires { ⌜ at + length (text (blockTree (now row) height q)) ≤ length (now buffer) ⌝ }
+    ensures { λ r. ⌜ Put (text (blockTree (now (row .entry)) height q)) (now (buffer .entry)) at r (now (buffer .exit)) ⌝ }
+{
+    if is_constant(row, height, q, false) {
+        buffer[at] = b'o';
+        return at + 1;
+    }
+    if is_constant(row, height, q, true) {
+        buffer[at] = b'*';
+        return at + 1;
+    }
+    buffer[at] = b'(';
+    let middle = write_text(row, height - 1, 2 * q, buffer, at + 1);
+    let end = write_text(row, height - 1, 2 * q + 1, buffer, middle);
+    buffer[end] = b')';
+    end + 1
+}
+
+// Whether the text of a row fits so many bytes: no text is longer than 3,070.
+fn text_fits(row: &[u8], room: usize) -> bool
+    requires { ⌜ length (now row) ≡ rowBytes ⌝ }
+    ensures { λ r. ⌜ r ≡ leb (length (rowText (now (row .entry)))) room ⌝ }
+{
+    if 3070 <= room {
+        return true;
+    }
+    text_length(row, ROW_LEVELS, 0) <= room
+}
+
+// Writes the text of a row to the buffer.
+pub fn tree_text(row: &[u8], buffer: &mut [u8]) -> Written
+    ensures answer { λ r. ⌜ r ≡ textAnswer (now (row .entry)) (now (buffer .entry)) ⌝ }
+    ensures buffer { λ _. ⌜ now (buffer .exit) ≡ textAfter (now (row .entry)) (now (buffer .entry)) ⌝ }
+{
+    if row.len() == ROW_BYTES {
+        if text_fits(row, buffer.len()) {
+            return Written::Length(write_text(row, ROW_LEVELS, 0, buffer, 0));
+        }
+        return Written::Refused(13);
+    }
+    Written::Refused(14)
+}
