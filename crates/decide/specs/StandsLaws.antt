@@ -1,0 +1,165 @@
+-- A struct that stands for a question poses, in each search, the problem that the question does. Assumes nothing.
+use mathlib.Core.Path.{_≡_, refl, sym, ap, ap₂, _∙_, fun-ext}
+use mathlib.Core.Bool.{Bool, true, false, not, cond, _&&_}
+use Prim.Native.Nat.{ℕ, zero, suc, _+_, _-_, _*_, _^_, _≤_, _<_}
+use native.Mathlib.Nat.{le-of-suc-le-suc, mod-eq-of-lt}
+use native.Mathlib.Omega.{arith}
+use lib.Dec.{ltb}
+use lib.ListN.{length, getD}
+use borrow.Author.Tests.{ltb-true, ltb-false}
+use Rattle.shares.specs.Constant.{bit}
+use Rattle.leaves.specs.Choices.{Row, at, least, value, someChoice}
+use Rattle.leaves.specs.ChoiceLaws.{value-lt}
+use Rattle.leaves.specs.Problem.{Problem, solvable, candidate}
+use Rattle.leaves.specs.Second as leaf
+use Rattle.systems.specs.Clauses.{Atom}
+use Rattle.systems.specs.Questions.{Question}
+use Rattle.systems.specs.AtLeaves.{atomAt, allAt, bothAt, firstAt, secondAt}
+use Rattle.words.specs.Clause.{termValue}
+use Rattle.words.specs.Sets.{allPass, clauseFails, allPassBut, someOwn}
+use Rattle.words.specs.TermLaws.{position-free, value-variable, value-free, value-own}
+use Rattle.questions.specs.Format.{inSection, variablesFor}
+use Rattle.questions.specs.Held as held
+use Rattle.questions.specs.HeldLaws.{atoms-length}
+use Rattle.questions.specs.Callers.{atoms-at}
+use Rattle.questions.specs.declared.Question.{Question as Struct}
+use Rattle.questions.specs.declared.Section.{Section}
+use Rattle.questions.specs.declared.Section.the-variants.{FirstPositive, FirstDisequation, SecondPositive, SecondDisequation}
+use Rattle.decide.specs.Numbers.{numbered}
+use Rattle.decide.specs.NumberLaws.{some-number, solvable-same, candidate-same}
+use Rattle.decide.specs.Tests.{Stored, leafValues, firstMeets, firstDiffers, secondMeets, secondDiffers, testsOf}
+use Rattle.decide.specs.StoredLaws.{row-digit, atom-same, section-same}
+use Rattle.decide.specs.declared.Search.the-variants.{First, Stuck, Avoiding}
+
+-- what a struct holds, with n free and m own variables
+abbrev pub storedOf : Struct → ℕ → ℕ → Stored
+storedOf x n m = record { clauses = x .clauses; counts = x .counts; constants = x .constants; defined = x .defined; free = n; own = m }
+
+module _ (x : Struct) (q : Question) (St : held.Stands x q) (h : ℕ) where
+  abbrev S : Stored
+  S = storedOf x (q .free) (q .own)
+
+  few : q .free + q .own ≤ 12
+  few = omega (arith, St .free, St .own, St .variables)
+
+  -- the stored clauses of a section, with the question's own numbers of variables
+  stored : (σ : Section) (i : ℕ) → i < held.countOf (x .counts) σ
+      → held.StoredClause (variablesFor (q .free) (q .own) σ) (x .defined) (getD (x .clauses) (held.sectionStart σ + 4 * i) 0)
+      (getD (x .clauses) (held.sectionStart σ + 4 * i + 1) 0) (getD (x .clauses) (held.sectionStart σ + 4 * i + 2) 0) (getD (x .clauses) (held.sectionStart σ + 4 * i + 3) 0)
+  stored σ i l = rw (← (St .free), ← (St .own)) (St .clauses σ i l)
+
+  -- a section of the question, where variables have values X and choice z has them as digits
+  module _ (b m : ℕ) (few-m : q .free + m ≤ 12) (σ : Section) (X : ℕ → Bool) (z : ℕ)
+      (values : (t : ℕ) → t < variablesFor (q .free) (q .own) σ → X t ≡ termValue (q .free) m (leafValues S h b) z t) where
+    all-same : allAt h (q .constants) b X (inSection q σ)
+        ≡ allPass (x .clauses) (held.sectionStart σ) (held.countOf (x .counts) σ) (q .free) m (leafValues S h b) z
+    unfolding allPass
+    all-same =
+        ap₂ (λ k l. allAt h k b X l) (St .constants) (sym (St .sections σ))
+        ∙ section-same S h b (St .constantCounted) (q .free) m few-m (variablesFor (q .free) (q .own) σ) X z values (held.sectionStart σ) (held.countOf (x .counts) σ) (stored σ)
+
+    one-same : (j : ℕ) (d : Atom) → j < held.countOf (x .counts) σ
+        → not (atomAt h (q .constants) b X (getD (inSection q σ) j d))
+        ≡ clauseFails (x .clauses) (held.sectionStart σ + 4 * j) (q .free) m (leafValues S h b) z
+    unfolding clauseFails
+    one-same j d l =
+        ap not
+        (ap₂ (λ k a. atomAt h k b X a) (St .constants)
+        (ap (λ k. getD k j d) (sym (St .sections σ)) ∙ atoms-at (x .clauses) (held.sectionStart σ) (held.countOf (x .counts) σ) j d l)
+        ∙ atom-same S h b (St .constantCounted) (q .free) m few-m (variablesFor (q .free) (q .own) σ) X z values (held.sectionStart σ + 4 * j) (stored σ j l))
+
+  -- how many disequations the systems have
+  count-same : (σ : Section) → length (inSection q σ) ≡ held.countOf (x .counts) σ
+  count-same σ = ap length (sym (St .sections σ)) ∙ atoms-length (x .clauses) (held.sectionStart σ) (held.countOf (x .counts) σ)
+
+  module _ (b : ℕ) (v : Row Bool (q .free)) where
+    free-values : (t : ℕ) → t < q .free → at false v t ≡ termValue (q .free) 0 (leafValues S h b) (value v) t
+    free-values t l =
+        row-digit (q .free) v t l ∙ ap (bit (value v)) (sym (position-free (q .free) 0 t l))
+        ∙ sym (value-variable (q .free) 0 (leafValues S h b) (value v) t (omega arith))
+
+    first-pos : firstAt h q .pos b v ≡ firstMeets S (leafValues S h b) (value v)
+    first-pos = all-same b 0 (omega (arith, few)) FirstPositive (at false v) (value v) free-values
+
+    first-dis : (j : ℕ) → j < held.countOf (x .counts) FirstDisequation → firstAt h q .dis j b v ≡ firstDiffers S (leafValues S h b) j (value v)
+    first-dis j l = one-same b 0 (omega (arith, few)) FirstDisequation (at false v) (value v) free-values j _ l
+
+    module _ (u : Row Bool (q .own)) where
+      both-values : (t : ℕ) → t < q .free + q .own
+          → bothAt (q .free) (at false v) (at false u) t ≡ termValue (q .free) (q .own) (leafValues S h b) (value u * 2 ^ (q .free) + value v) t
+      unfolding bothAt
+      both-values t l = go (ltb t (q .free)) refl
+        where
+          go : (c : Bool) → ltb t (q .free) ≡ c
+              → cond c (at false v t) (at false u (t - q .free)) ≡ termValue (q .free) (q .own) (leafValues S h b) (value u * 2 ^ (q .free) + value v) t
+          go true e =
+              let k = ltb-true t (q .free) e in
+              row-digit (q .free) v t k ∙ sym (value-free (q .free) (q .own) (leafValues S h b) (value u) (value v) (value-lt (q .free) v) t k)
+          go false e =
+              let k : q .free ≤ t = ltb-false t (q .free) e in
+              row-digit (q .own) u (t - q .free) (omega arith)
+              ∙ sym (value-own (q .free) (q .own) (leafValues S h b) (value u) (value v) (value-lt (q .free) v) (t - q .free) (omega arith))
+              ∙ ap (termValue (q .free) (q .own) (leafValues S h b) (value u * 2 ^ (q .free) + value v)) (omega arith)
+
+      second-pos : secondAt h q .pos b v u
+          ≡ allPass (x .clauses) 384 (held.countOf (x .counts) SecondPositive) (q .free) (q .own) (leafValues S h b) (value u * 2 ^ (q .free) + value v)
+      second-pos = all-same b (q .own) few SecondPositive _ _ both-values
+
+      second-dis : (j : ℕ) → j < held.countOf (x .counts) SecondDisequation → secondAt h q .dis j b v u
+          ≡ clauseFails (x .clauses) (640 + 4 * j) (q .free) (q .own) (leafValues S h b) (value u * 2 ^ (q .free) + value v)
+      second-dis j l = one-same b (q .own) few SecondDisequation _ _ both-values j _ l
+
+    second-meets : leaf.meets (least (q .own)) (secondAt h q) b v ≡ secondMeets S (leafValues S h b) (value v)
+    unfolding leaf.meets someOwn
+    second-meets =
+        ap (someChoice (least (q .own))) (fun-ext second-pos) ∙ some-number (q .own) _
+        ∙ ap (λ y. secondAll y) (sym (mod-eq-of-lt (value-lt (q .free) v)))
+      where
+        secondAll : ℕ → Bool
+        secondAll y = someOwn (q .free) (q .own) (allPass (x .clauses) 384 (held.countOf (x .counts) SecondPositive) (q .free) (q .own) (leafValues S h b)) y
+
+    second-with : (j : ℕ) → j < held.countOf (x .counts) SecondDisequation
+        → leaf.meetsWith (least (q .own)) (secondAt h q) j b v ≡ secondDiffers S (leafValues S h b) j (value v)
+    unfolding leaf.meetsWith someOwn allPassBut
+    second-with j l =
+        ap (someChoice (least (q .own))) (fun-ext (λ u. ap₂ _&&_ (second-pos u) (second-dis u j l))) ∙ some-number (q .own) _
+        ∙ ap (λ y. secondBut y) (sym (mod-eq-of-lt (value-lt (q .free) v)))
+      where
+        secondBut : ℕ → Bool
+        secondBut y =
+            someOwn (q .free) (q .own) (allPassBut (x .clauses) 384 (held.countOf (x .counts) SecondPositive) (640 + 4 * j) (q .free) (q .own) (leafValues S h b)) y
+
+  -- ---- the problem of each search is the question's
+
+  -- the same answer of the test, and the same fixed solution
+  pub record Same (P : Problem (Row Bool (q .free))) (R : Problem ℕ) : Type 0 where
+    pub count : P .count ≡ R .count
+    pub solvable-is : solvable (least (q .free)) h P ≡ solvable (least (q .free)) h (numbered (q .free) R)
+    pub candidate-is : (k s : ℕ) → s < 2 ^ (h + k) → candidate (least (q .free)) h P k s ≡ candidate (least (q .free)) h (numbered (q .free) R) k s
+
+  same-of : (P : Problem (Row Bool (q .free))) (R : Problem ℕ) → P .count ≡ R .count
+      → ((b : ℕ) (v : Row Bool (q .free)) → P .pos b v ≡ R .pos b (value v))
+      → ((j : ℕ) → j < P .count → (b : ℕ) (v : Row Bool (q .free)) → P .dis j b v ≡ R .dis j b (value v)) → Same P R
+  same-of P R c p d = record {
+    count = c;
+    solvable-is = solvable-same (least (q .free)) h P (numbered (q .free) R) c (λ b l v. p b v) (λ j l b m v. d j l b v);
+    candidate-is = candidate-same (least (q .free)) h P (numbered (q .free) R) c (λ b l v. p b v) (λ j l b m v. d j l b v);
+  }
+
+  pub same-first : Same (firstAt h q) (testsOf S h First)
+  same-first = same-of _ _ (count-same FirstDisequation) first-pos (λ j l b v. first-dis b v j (rw (count-same FirstDisequation) at l))
+
+  pub same-stuck : Same (leaf.stuck (least (q .own)) (secondAt h q) (firstAt h q)) (testsOf S h Stuck)
+  same-stuck = same-of _ _ (ap suc (count-same FirstDisequation)) first-pos go
+    where
+      go : (j : ℕ) → j < suc (firstAt h q .count) → (b : ℕ) (v : Row Bool (q .free))
+          → leaf.stuck (least (q .own)) (secondAt h q) (firstAt h q) .dis j b v ≡ testsOf S h Stuck .dis j b (value v)
+      go zero l b v = ap not (second-meets b v)
+      go (suc j) l b v = first-dis b v j (rw (count-same FirstDisequation) at (le-of-suc-le-suc l))
+
+  pub same-avoiding : (j : ℕ) → j < held.countOf (x .counts) SecondDisequation
+      → Same (leaf.avoiding (least (q .own)) (secondAt h q) (firstAt h q) j) (testsOf S h (Avoiding j))
+  same-avoiding j l =
+      same-of _ _ (count-same FirstDisequation)
+      (λ b v. ap₂ (λ y z. y && not z) (first-pos b v) (second-with b v j l))
+      (λ i m b v. first-dis b v i (rw (count-same FirstDisequation) at m))

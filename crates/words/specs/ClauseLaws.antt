@@ -1,0 +1,59 @@
+-- Laws of clauses: the tests by Boolean operations, and the terms that a section reads. Assumes nothing.
+use mathlib.Core.Path.{_≡_, refl, ap, ap₂, _∙_}
+use mathlib.Core.Bool.{Bool, true, false, not, cond, xor, _&&_, _||_, Bool·beq}
+use mathlib.Core.List.{List}
+use Prim.Native.Nat.{ℕ, _+_, _*_, _<_}
+use native.Mathlib.Nat.{add-assoc}
+use native.Mathlib.Omega.{arith}
+use lib.ListN.{getD}
+use lib.Dec.{eqb}
+use Rattle.shares.specs.BelowLaws.{every-ext}
+use Rattle.shares.specs.Tree.{joins, joinLeaf}
+use Rattle.words.specs.Clause.{clauseTest, allClauses, Clauses}
+
+-- the test of a join, and of an equality, by operations on bits
+pub joins-bits : (a b c : Bool) → not ((a && b) || xor (a || b) c) ≡ joins a b c
+unfolding joins joinLeaf xor
+joins-bits false false false = refl
+joins-bits false false true = refl
+joins-bits false true false = refl
+joins-bits false true true = refl
+joins-bits true false false = refl
+joins-bits true false true = refl
+joins-bits true true c = refl
+
+pub equal-bits : (a b : Bool) → not (xor a b) ≡ Bool·beq a b
+unfolding xor
+equal-bits false false = refl
+equal-bits false true = refl
+equal-bits true false = refl
+equal-bits true true = refl
+
+-- one clause of a section
+pub clauses-at : {clauses : List ℕ} {start count : ℕ} → Clauses clauses start count → (k : ℕ) → k < count → Clauses clauses (start + 4 * k) 1
+clauses-at {clauses} {start} {count} c k h =
+    record {
+      room = omega (arith, c .room);
+      terms = λ j l.
+          rw (add-assoc start (4 * k) j) (c .terms (4 * k + j) (omega arith));
+    }
+
+-- a clause reads terms below 64 alone
+pub clause-ext : (x y : ℕ → Bool) {clauses : List ℕ} {at : ℕ} → Clauses clauses at 1 → ((t : ℕ) → t < 64 → x t ≡ y t)
+    → clauseTest clauses x at ≡ clauseTest clauses y at
+unfolding clauseTest
+clause-ext x y {clauses} {at} c h =
+    let a = h (getD clauses (at + 1) 0) (c .terms 1 (omega arith)) in
+    let b = h (getD clauses (at + 2) 0) (c .terms 2 (omega arith)) in
+    ap₂ (cond (eqb (getD clauses at 0) 0))
+    (ap (λ f. f (x (getD clauses (at + 2) 0)) (x (getD clauses (at + 3) 0))) (ap joins a)
+    ∙ ap (λ v. joins (y (getD clauses (at + 1) 0)) v (x (getD clauses (at + 3) 0))) b
+    ∙ ap (joins (y (getD clauses (at + 1) 0)) (y (getD clauses (at + 2) 0))) (h (getD clauses (at + 3) 0) (c .terms 3 (omega arith))))
+    (ap₂ Bool·beq a b)
+
+pub section-ext : (x y : ℕ → Bool) {clauses : List ℕ} {start count : ℕ} → Clauses clauses start count → ((t : ℕ) → t < 64 → x t ≡ y t)
+    → allClauses clauses x start count ≡ allClauses clauses y start count
+unfolding allClauses
+section-ext x y {clauses} {start} {count} c h =
+    every-ext count (λ k. clauseTest clauses x (start + 4 * k)) (λ k. clauseTest clauses y (start + 4 * k))
+    (λ k l. clause-ext x y (clauses-at c k l) h)

@@ -1,0 +1,29 @@
+-- The table of terms: a word for each term, with its values in the 64 choices of one word. Assumes nothing.
+use mathlib.Core.Path.{_≡_}
+use mathlib.Core.List.{List}
+use Prim.Native.Nat.{ℕ, _+_, _-_, _*_, _≤_, _<_}
+use lib.ListN.{getD}
+use Rattle.shares.specs.Constant.{bit}
+use Rattle.words.specs.Clause.{position, termValue}
+
+-- bit i of the word x is the value of term t in choice 64 * w + i
+abbrev pub Right : ℕ → ℕ → ℕ → ℕ → ℕ → ℕ → Type 0
+Right n m leaf w t x = (i : ℕ) → i < 64 → bit x i ≡ termValue n m leaf (64 * w + i) t
+
+-- every term's word is right at word w
+abbrev pub Terms : ℕ → ℕ → ℕ → ℕ → List ℕ → Type 0
+Terms n m leaf w terms = (t : ℕ) → t < 64 → Right n m leaf w t (getD terms t 0)
+
+-- bit i of the word x is the digit that variable t has in choice 64 * w + i
+abbrev pub Digits : ℕ → ℕ → ℕ → ℕ → ℕ → Type 0
+Digits n m w t x = (i : ℕ) → i < 64 → bit x i ≡ bit (64 * w + i) (position n m t)
+
+-- the variables with digit `from` or above are right at word w, and every other word is as it was
+pub record Changed (n m from w : ℕ) (old new : List ℕ) : Type 0 where
+  pub set : (t : ℕ) → t < n + m → from ≤ position n m t → Digits n m w t (getD new t 0)
+  pub kept : (t : ℕ) → (t < n + m → position n m t < from) → getD new t 0 ≡ getD old t 0
+
+-- the words from 32 are those of the constants, and every other word is as it was
+pub record Constants (leaf : ℕ) (old new : List ℕ) : Type 0 where
+  pub set : (t : ℕ) → 32 ≤ t → t < 64 → (i : ℕ) → i < 64 → bit (getD new t 0) i ≡ bit leaf (t - 32)
+  pub kept : (t : ℕ) → t < 32 → getD new t 0 ≡ getD old t 0

@@ -1,0 +1,547 @@
+// Clauses at one leaf for 64 choices of Boolean values at a time: bit i of word w is choice 64 * w + i.
+ghost use mathlib.Core.Path.{_≡_};
+ghost use mathlib.Core.Bool.{Bool·beq, _&&_, _||_, not};
+ghost use Prim.Native.Nat.{ℕ, _+_, _-_, _*_, _%_, _^_, _<_, _≤_};
+ghost use lib.Dec.{ltb};
+ghost use lib.ListN.{length, getD};
+ghost use Rattle.shares.specs.Below.{firstBelow};
+ghost use Rattle.shares.specs.Constant.{bit};
+ghost use Rattle.shares.specs.Tree.{joins};
+ghost use Rattle.words.specs.Clause.{clauseTest, allClauses, position, Clauses};
+ghost use Rattle.words.specs.Sets.{wordCount, inSet, Words, allPass, clauseFails, allPassBut, someOwn, Gathered, Merged};
+ghost use Rattle.words.specs.Table.{Terms, Changed, Constants};
+
+// Bit i of the result is the test of a join at the bits i of a, b and c.
+fn join_word(a: u64, b: u64, c: u64) -> u64
+    ensures { λ r. ⌜ ((i : ℕ) → i < 64 → bit r i ≡ joins (bit a i) (bit b i) (bit c i)) ⌝ }
+{
+    !((a & b) | ((a | b) ^ c))
+}
+
+// Bit i of the result says whether the bits i of a and b are equal.
+fn equal_word(a: u64, b: u64) -> u64
+    ensures { λ r. ⌜ ((i : ℕ) → i < 64 → bit r i ≡ Bool·beq (bit a i) (bit b i)) ⌝ }
+{
+    !(a ^ b)
+}
+
+fn wide(x: u8) -> usize
+    ensures { λ r. ⌜ r ≡ x ⌝ }
+{
+    x as usize
+}
+
+// The word of the term whose number is byte `at`.
+fn term_word(terms: &[u64; 64], clauses: &[u8; 768], at: usize) -> u64
+    requires { ⌜ (at < 768) × (getD (now clauses) at 0 < 64) ⌝ }
+    ensures { λ r. ⌜ r ≡ getD (now (terms .entry)) (getD (now (clauses .entry)) at 0) 0 ⌝ }
+{
+    let t = wide(clauses[at]);
+    terms[t]
+}
+
+// Bit i of the result is the test of the clause at byte `at`, where term t has bit i of terms[t] for its value.
+pub fn clause_word(terms: &[u64; 64], clauses: &[u8; 768], at: usize) -> u64
+    requires { ⌜ Clauses (now clauses) at 1 ⌝ }
+    ensures { λ r. ⌜ ((i : ℕ) → i < 64 → bit r i ≡ clauseTest (now (clauses .entry)) (λ t. bit (getD (now (terms .entry)) t 0) i) at) ⌝ }
+{
+    let a = term_word(terms, clauses, at + 1);
+    let b = term_word(terms, clauses, at + 2);
+    let c = term_word(terms, clauses, at + 3);
+    let joined = join_word(a, b, c);
+    let equal = equal_word(a, b);
+    if clauses[at] == 0 {
+        return joined;
+    }
+    equal
+}
+
+// Bit i of the result says whether all clauses of the section pass, where term t has bit i of terms[t] for its value.
+pub fn section_word(terms: &[u64; 64], clauses: &[u8; 768], start: usize, count: usize) -> u64
+    requires { ⌜ Clauses (now clauses) start count ⌝ }
+    ensures { λ r. ⌜ ((i : ℕ) → i < 64 → bit r i ≡ allClauses (now (clauses .entry)) (λ t. bit (getD (now (terms .entry)) t 0) i) start count) ⌝ }
+{
+    let mut r: u64 = 0xFFFF_FFFF_FFFF_FFFF;
+    let mut k: usize = 0;
+    while k < count {
+        if r == 0 {
+            return 0;
+        }
+        r = r & clause_word(terms, clauses, start + 4 * k);
+        k += 1;
+    }
+    r
+}
+
+// The values at leaf number `place` of the constants, constant i at bit i.
+pub fn leaf_values(constants: &[u64; 32], count: usize, place: usize) -> u64
+    requires { ⌜ (count ≤ 32) × (place < 64) ⌝ }
+    ensures { λ r. ⌜ ((i : ℕ) → bit r i ≡ (ltb i count && bit (getD (now (constants .entry)) i 0) place)) ⌝ }
+{
+    let mut r: u64 = 0;
+    let mut i: usize = 0;
+    while i < count {
+        r = r | (((constants[i] >> place) & 1) << i);
+        i += 1;
+    }
+    r
+}
+
+// Whether bit p of x is set.
+fn digit(x: u64, p: usize) -> bool
+    requires { ⌜ p < 64 ⌝ }
+    ensures { λ r. ⌜ r ≡ bit x p ⌝ }
+{
+    (x >> p) & 1 == 1
+}
+
+// All ones where b is set, else 0.
+fn spread(b: bool) -> u64
+    ensures { λ r. ⌜ ((i : ℕ) → i < 64 → bit r i ≡ b) ⌝ }
+{
+    if b { 0xFFFF_FFFF_FFFF_FFFF } else { 0 }
+}
+
+// Entry p has bit i set where digit p of i is set.
+const DIGITS: [u64; 6] = [
+    0xAAAA_AAAA_AAAA_AAAA,
+    0xCCCC_CCCC_CCCC_CCCC,
+    0xF0F0_F0F0_F0F0_F0F0,
+    0xFF00_FF00_FF00_FF00,
+    0xFFFF_0000_FFFF_0000,
+    0xFFFF_FFFF_0000_0000,
+];
+
+// Digit p of each of the 64 choices of word w.
+fn digit_word(p: usize, w: usize) -> u64
+    requires { ⌜ p < 12 ⌝ }
+    ensures { λ r. ⌜ ((i : ℕ) → i < 64 → bit r i ≡ bit (64 * w + i) p) ⌝ }
+{
+    if p < 6 {
+        return DIGITS[p];
+    }
+    spread(digit(w as u64, p - 6))
+}
+
+// The digit that a variable has, and the variable that has a digit.
+fn place_of(n: usize, m: usize, t: usize) -> usize
+    requires { ⌜ (n + m ≤ 12) × (t < n + m) ⌝ }
+    ensures { λ r. ⌜ r ≡ position n m t ⌝ }
+{
+    if t < n {
+        return n - 1 - t;
+    }
+    2 * n + m - 1 - t
+}
+
+// Puts the words of the constants into the table, from term 32.
+fn set_constants(leaf: u64, terms: &mut [u64])
+    requires { ⌜ length (now terms) ≡ 64 ⌝ }
+    ensures { λ r. ⌜ Constants leaf (now (terms .entry)) (now (terms .exit)) ⌝ }
+{
+    let mut t: usize = 32;
+    while t < 64 {
+        terms[t] = spread(digit(leaf, t - 32));
+        t += 1;
+    }
+}
+
+// Puts the words at w of the variables with digit `from` or above into the table.
+fn set_variables(n: usize, m: usize, from: usize, w: usize, terms: &mut [u64])
+    requires { ⌜ (n + m ≤ 12) × (length (now terms) ≡ 64) ⌝ }
+    ensures { λ r. ⌜ Changed n m from w (now (terms .entry)) (now (terms .exit)) ⌝ }
+{
+    let mut p = from;
+    while p < n + m {
+        let t = place_of(n, m, p);
+        terms[t] = digit_word(p, w);
+        p += 1;
+    }
+}
+
+// The table of terms at word 0.
+fn start_terms(n: usize, m: usize, leaf: u64) -> [u64; 64]
+    requires { ⌜ n + m ≤ 12 ⌝ }
+    ensures { λ r. ⌜ Terms n m leaf 0 r ⌝ }
+{
+    let mut terms = [0u64; 64];
+    set_constants(leaf, &mut terms);
+    set_variables(n, m, 0, 0, &mut terms);
+    terms
+}
+
+// Takes the table of terms from any word to word w: only the digits above the sixth change.
+fn move_terms(n: usize, m: usize, w: usize, terms: &mut [u64])
+    requires { ⌜ (n + m ≤ 12) × (length (now terms) ≡ 64) ⌝ }
+    ensures { λ r. ⌜ ((leaf v : ℕ) → Terms n m leaf v (now (terms .entry)) → Terms n m leaf w (now (terms .exit))) ⌝ }
+{
+    set_variables(n, m, 6, w, terms);
+}
+
+// Word w of a set.
+fn word_at(set: &[u64; 64], w: usize) -> u64
+    requires { ⌜ w < 64 ⌝ }
+    ensures { λ r. ⌜ r ≡ getD (now (set .entry)) w 0 ⌝ }
+{
+    set[w]
+}
+
+// The place of the lowest bit of x that is set, or 64.
+fn lowest(x: u64) -> usize
+    ensures { λ r. ⌜ r ≡ firstBelow 64 (bit x) ⌝ }
+{
+    u64::trailing_zeros(x) as usize
+}
+
+// The least choice in the set that the first `count` words are, or 64 * count.
+pub fn least(set: &[u64; 64], count: usize) -> usize
+    requires { ⌜ count ≤ 64 ⌝ }
+    ensures { λ r. ⌜ r ≡ firstBelow (64 * count) (inSet (now (set .entry))) ⌝ }
+{
+    let mut w: usize = 0;
+    while w < count {
+        let x = word_at(set, w);
+        if x != 0 {
+            return 64 * w + lowest(x);
+        }
+        w += 1;
+    }
+    64 * count
+}
+
+// The choices of word w of a set that are not in another.
+fn outside_word(set: &[u64; 64], other: &[u64; 64], w: usize) -> u64
+    requires { ⌜ w < 64 ⌝ }
+    ensures { λ r. ⌜ ((i : ℕ) → i < 64 → bit r i ≡ (inSet (now (set .entry)) (64 * w + i) && not (inSet (now (other .entry)) (64 * w + i)))) ⌝ }
+{
+    word_at(set, w) & !word_at(other, w)
+}
+
+// The least choice of a set that is not in another, or 64 * count.
+pub fn least_outside(set: &[u64; 64], other: &[u64; 64], count: usize) -> usize
+    requires { ⌜ count ≤ 64 ⌝ }
+    ensures { λ r. ⌜ r ≡ firstBelow (64 * count) (λ z. inSet (now (set .entry)) z && not (inSet (now (other .entry)) z)) ⌝ }
+{
+    let mut w: usize = 0;
+    while w < count {
+        let x = outside_word(set, other, w);
+        if x != 0 {
+            return 64 * w + lowest(x);
+        }
+        w += 1;
+    }
+    64 * count
+}
+
+// Takes the choices of another set out of a set of so many words.
+pub fn remove(set: &mut [u64], other: &[u64; 64], count: usize)
+    requires { ⌜ (count ≤ 64) × (length (now set) ≡ 64) ⌝ }
+    ensures { λ _. ⌜ ((z : ℕ) → z < 64 * count → inSet (now (set .exit)) z ≡ (inSet (now (set .entry)) z && not (inSet (now (other .entry)) z))) ⌝ }
+{
+    let mut w: usize = 0;
+    while w < count {
+        let x = word_at(other, w);
+        set[w] = set[w] & !x;
+        w += 1;
+    }
+}
+
+// The choices of word w of the set in which the clause at byte `at` fails.
+fn failing_word(set: &[u64; 64], w: usize, terms: &[u64; 64], clauses: &[u8; 768], at: usize) -> u64
+    requires { ⌜ w < 64 ⌝ }
+    requires { ⌜ Clauses (now clauses) at 1 ⌝ }
+    ensures { λ r. ⌜ ((i : ℕ) → i < 64 → bit r i ≡ (bit (getD (now (set .entry)) w 0) i && not (clauseTest (now (clauses .entry)) (λ t. bit (getD (now (terms .entry)) t 0) i) at))) ⌝ }
+{
+    word_at(set, w) & !clause_word(terms, clauses, at)
+}
+
+// The least choice in the set in which the clause at byte `at` fails, or 64 * count.
+pub fn least_failing(
+    set: &[u64; 64],
+    count: usize,
+    clauses: &[u8; 768],
+    at: usize,
+    n: usize,
+    leaf: u64,
+) -> usize
+    requires { ⌜ (count ≤ 64) × (n ≤ 12) ⌝ }
+    requires { ⌜ Clauses (now clauses) at 1 ⌝ }
+    ensures { λ r. ⌜ r ≡ firstBelow (64 * count) (λ z. inSet (now (set .entry)) z && clauseFails (now (clauses .entry)) at n 0 leaf z) ⌝ }
+{
+    let mut terms = start_terms(n, 0, leaf);
+    let mut w: usize = 0;
+    while w < count {
+        move_terms(n, 0, w, &mut terms);
+        let x = failing_word(set, w, &terms, clauses, at);
+        if x != 0 {
+            return 64 * w + lowest(x);
+        }
+        w += 1;
+    }
+    64 * count
+}
+
+// How many words hold 2^d choices.
+pub fn word_count(d: usize) -> usize
+    requires { ⌜ d ≤ 12 ⌝ }
+    ensures { λ r. ⌜ r ≡ wordCount d ⌝ }
+{
+    if d < 6 {
+        return 1;
+    }
+    1 << (d - 6)
+}
+
+// The word turned by k places: bit i of the result is bit i + k of x, counted round.
+fn turned(x: u64, k: usize) -> u64
+    requires { ⌜ (0 < k) × (k < 64) ⌝ }
+    ensures { λ r. ⌜ ((i : ℕ) → i < 64 → bit r i ≡ bit x ((i + k) % 64)) ⌝ }
+{
+    (x >> k) | (x << (64 - k))
+}
+
+// The word or-ed with itself under each digit from n: the places with the same low n digits become equal.
+fn merge_word(x: u64, n: usize) -> u64
+    ensures { λ r. ⌜ Merged n x r ⌝ }
+{
+    if 6 <= n {
+        return x;
+    }
+    let mut r = x;
+    let mut p = n;
+    while p < 6 {
+        r = r | turned(r, 1 << p);
+        p += 1;
+    }
+    r
+}
+
+// Clears `count` words from word `from`.
+fn clear(out: &mut [u64], from: usize, count: usize)
+    requires { ⌜ from + count ≤ length (now out) ⌝ }
+    ensures { λ r. ⌜ ((w : ℕ) → from ≤ w → w < from + count → getD (now (out .exit)) w 0 ≡ 0) ⌝ }
+    ensures { λ r. ⌜ ((w : ℕ) → (from ≤ w → from + count ≤ w) → getD (now (out .exit)) w 0 ≡ getD (now (out .entry)) w 0) ⌝ }
+{
+    let mut k: usize = 0;
+    while k < count {
+        out[from + k] = 0;
+        k += 1;
+    }
+}
+
+// Clears the first `words` words of each of `count` rows of 64 words.
+fn clear_rows(rows: &mut [u64], count: usize, words: usize)
+    requires { ⌜ (64 * count ≤ length (now rows)) × (words ≤ 64) ⌝ }
+    ensures { λ r. ⌜ ((j : ℕ) → j < count → (w : ℕ) → w < words → getD (now (rows .exit)) (64 * j + w) 0 ≡ 0) ⌝ }
+{
+    let mut j: usize = 0;
+    while j < count {
+        clear(rows, 64 * j, words);
+        j += 1;
+    }
+}
+
+// Or-s the word x into word `at`.
+fn add_word(out: &mut [u64], at: usize, x: u64)
+    requires { ⌜ at < length (now out) ⌝ }
+    ensures { λ r. ⌜ ((i : ℕ) → i < 64 → bit (getD (now (out .exit)) at 0) i ≡ (bit (getD (now (out .entry)) at 0) i || bit x i)) ⌝ }
+    ensures { λ r. ⌜ ((w : ℕ) → (w ≡ at → ⊥) → getD (now (out .exit)) w 0 ≡ getD (now (out .entry)) w 0) ⌝ }
+{
+    out[at] = out[at] | x;
+}
+
+// Or-s into word `at` of row j, for each clause j of a section, the choices of the word x in which that clause fails.
+fn add_rows(
+    rows: &mut [u64],
+    at: usize,
+    x: u64,
+    terms: &[u64; 64],
+    clauses: &[u8; 768],
+    start: usize,
+    count: usize,
+)
+    requires { ⌜ (64 * count ≤ length (now rows)) × (at < 64) ⌝ }
+    requires { ⌜ Clauses (now clauses) start count ⌝ }
+    ensures { λ r. ⌜ ((j : ℕ) → j < count → (i : ℕ) → i < 64 → bit (getD (now (rows .exit)) (64 * j + at) 0) i ≡ (bit (getD (now (rows .entry)) (64 * j + at) 0) i || (bit x i && not (clauseTest (now (clauses .entry)) (λ t. bit (getD (now (terms .entry)) t 0) i) (start + 4 * j))))) ⌝ }
+    ensures { λ r. ⌜ ((k : ℕ) → ((j : ℕ) → j < count → k ≡ 64 * j + at → ⊥) → getD (now (rows .exit)) k 0 ≡ getD (now (rows .entry)) k 0) ⌝ }
+{
+    if x == 0 {
+        return;
+    }
+    let mut j: usize = 0;
+    while j < count {
+        let y = x & !clause_word(terms, clauses, start + 4 * j);
+        add_word(rows, 64 * j + at, y);
+        j += 1;
+    }
+}
+
+// Merges word 0 of each row.
+fn merge_rows(rows: &mut [u64], count: usize, n: usize)
+    requires { ⌜ 64 * count ≤ length (now rows) ⌝ }
+    ensures { λ r. ⌜ ((j : ℕ) → j < count → Merged n (getD (now (rows .entry)) (64 * j) 0) (getD (now (rows .exit)) (64 * j) 0)) ⌝ }
+    ensures { λ r. ⌜ ((k : ℕ) → ((j : ℕ) → j < count → k ≡ 64 * j → ⊥) → getD (now (rows .exit)) k 0 ≡ getD (now (rows .entry)) k 0) ⌝ }
+{
+    let mut j: usize = 0;
+    while j < count {
+        rows[64 * j] = merge_word(rows[64 * j], n);
+        j += 1;
+    }
+}
+
+// Adds the choices of one word, whose terms are in the table, to word `at`: to `meets` those in which all clauses of a section
+// pass, and to row j of `with` those of them in which clause j of the section from byte `from` fails.
+fn add_choices(
+    terms: &[u64; 64],
+    clauses: &[u8; 768],
+    start: usize,
+    count: usize,
+    from: usize,
+    rows: usize,
+    at: usize,
+    meets: &mut [u64],
+    with: &mut [u64],
+)
+    requires { ⌜ (at < 64) × (length (now meets) ≡ 64) × (64 * rows ≤ length (now with)) ⌝ }
+    requires { ⌜ Clauses (now clauses) start count ⌝ }
+    requires { ⌜ Clauses (now clauses) from rows ⌝ }
+    ensures { λ r. ⌜ ((i : ℕ) → i < 64 → bit (getD (now (meets .exit)) at 0) i ≡ (bit (getD (now (meets .entry)) at 0) i || allClauses (now (clauses .entry)) (λ t. bit (getD (now (terms .entry)) t 0) i) start count)) ⌝ }
+    ensures { λ r. ⌜ ((w : ℕ) → (w ≡ at → ⊥) → getD (now (meets .exit)) w 0 ≡ getD (now (meets .entry)) w 0) ⌝ }
+    ensures { λ r. ⌜ ((j : ℕ) → j < rows → (i : ℕ) → i < 64 → bit (getD (now (with .exit)) (64 * j + at) 0) i ≡ (bit (getD (now (with .entry)) (64 * j + at) 0) i || (allClauses (now (clauses .entry)) (λ t. bit (getD (now (terms .entry)) t 0) i) start count && not (clauseTest (now (clauses .entry)) (λ t. bit (getD (now (terms .entry)) t 0) i) (from + 4 * j))))) ⌝ }
+    ensures { λ r. ⌜ ((k : ℕ) → ((j : ℕ) → j < rows → k ≡ 64 * j + at → ⊥) → getD (now (with .exit)) k 0 ≡ getD (now (with .entry)) k 0) ⌝ }
+{
+    let x = section_word(terms, clauses, start, count);
+    add_word(meets, at, x);
+    add_rows(with, at, x, terms, clauses, from, rows);
+}
+
+// Adds the choices of all words, each to the word of its free choice.
+fn gather(
+    clauses: &[u8; 768],
+    start: usize,
+    count: usize,
+    from: usize,
+    rows: usize,
+    n: usize,
+    m: usize,
+    leaf: u64,
+    meets: &mut [u64],
+    with: &mut [u64],
+)
+    requires { ⌜ (n + m ≤ 12) × (length (now meets) ≡ 64) × (64 * rows ≤ length (now with)) ⌝ }
+    requires { ⌜ Clauses (now clauses) start count ⌝ }
+    requires { ⌜ Clauses (now clauses) from rows ⌝ }
+    requires { ⌜ ((w : ℕ) → w < wordCount n → getD (now meets) w 0 ≡ 0) ⌝ }
+    requires { ⌜ ((j : ℕ) → j < rows → (w : ℕ) → w < wordCount n → getD (now with) (64 * j + w) 0 ≡ 0) ⌝ }
+    ensures { λ r. ⌜ Gathered n (allPass (now (clauses .entry)) start count n m leaf) (wordCount (n + m)) (λ w. getD (now (meets .exit)) w 0) ⌝ }
+    ensures { λ r. ⌜ ((j : ℕ) → j < rows → Gathered n (allPassBut (now (clauses .entry)) start count (from + 4 * j) n m leaf) (wordCount (n + m)) (λ w. getD (now (with .exit)) (64 * j + w) 0)) ⌝ }
+    ensures { λ r. ⌜ ((w : ℕ) → wordCount n ≤ w → getD (now (meets .exit)) w 0 ≡ getD (now (meets .entry)) w 0) ⌝ }
+{
+    let words = word_count(n);
+    let total = word_count(n + m);
+    let mut terms = start_terms(n, m, leaf);
+    let mut v: usize = 0;
+    while v < total {
+        move_terms(n, m, v, &mut terms);
+        add_choices(
+            &terms,
+            clauses,
+            start,
+            count,
+            from,
+            rows,
+            v & (words - 1),
+            meets,
+            with,
+        );
+        v += 1;
+    }
+}
+
+// The sets of fill_meets_with, into parts of any arrays.
+fn fill_sets(
+    clauses: &[u8; 768],
+    start: usize,
+    count: usize,
+    from: usize,
+    rows: usize,
+    n: usize,
+    m: usize,
+    leaf: u64,
+    meets: &mut [u64],
+    with: &mut [u64],
+)
+    requires { ⌜ (n + m ≤ 12) × (length (now meets) ≡ 64) × (64 * rows ≤ length (now with)) ⌝ }
+    requires { ⌜ Clauses (now clauses) start count ⌝ }
+    requires { ⌜ Clauses (now clauses) from rows ⌝ }
+    ensures { λ r. ⌜ Words (wordCount n) (λ w. getD (now (meets .exit)) w 0) (λ z. someOwn n m (allPass (now (clauses .entry)) start count n m leaf) (z % 2 ^ n)) ⌝ }
+    ensures { λ r. ⌜ ((w : ℕ) → wordCount n ≤ w → getD (now (meets .exit)) w 0 ≡ getD (now (meets .entry)) w 0) ⌝ }
+    ensures { λ r. ⌜ ((j : ℕ) → j < rows → Words (wordCount n) (λ w. getD (now (with .exit)) (64 * j + w) 0) (λ z. someOwn n m (allPassBut (now (clauses .entry)) start count (from + 4 * j) n m leaf) (z % 2 ^ n))) ⌝ }
+{
+    let words = word_count(n);
+    clear(meets, 0, words);
+    clear_rows(with, rows, words);
+    gather(clauses, start, count, from, rows, n, m, leaf, meets, with);
+    merge_rows(meets, 1, n);
+    merge_rows(with, rows, n);
+}
+
+// The set of the free choices beside which some own choice passes all clauses of a section and, for each j, the set of those
+// beside which some own choice passes them and fails clause j of the section from byte `from`, from word 64 * j of `with`.
+pub fn fill_meets_with(
+    clauses: &[u8; 768],
+    start: usize,
+    count: usize,
+    from: usize,
+    rows: usize,
+    n: usize,
+    m: usize,
+    leaf: u64,
+    meets: &mut [u64; 64],
+    with: &mut [u64; 2048],
+)
+    requires { ⌜ (n + m ≤ 12) × (rows ≤ 32) ⌝ }
+    requires { ⌜ Clauses (now clauses) start count ⌝ }
+    requires { ⌜ Clauses (now clauses) from rows ⌝ }
+    ensures { λ r. ⌜ Words (wordCount n) (λ w. getD (now (meets .exit)) w 0) (λ z. someOwn n m (allPass (now (clauses .entry)) start count n m leaf) (z % 2 ^ n)) ⌝ }
+    ensures { λ r. ⌜ ((w : ℕ) → wordCount n ≤ w → getD (now (meets .exit)) w 0 ≡ getD (now (meets .entry)) w 0) ⌝ }
+    ensures { λ r. ⌜ ((j : ℕ) → j < rows → Words (wordCount n) (λ w. getD (now (with .exit)) (64 * j + w) 0) (λ z. someOwn n m (allPassBut (now (clauses .entry)) start count (from + 4 * j) n m leaf) (z % 2 ^ n))) ⌝ }
+{
+    fill_sets(clauses, start, count, from, rows, n, m, leaf, meets, with);
+}
+
+// The set of the free choices beside which some own choice passes all clauses of a section.
+pub fn fill_meets(
+    clauses: &[u8; 768],
+    start: usize,
+    count: usize,
+    n: usize,
+    m: usize,
+    leaf: u64,
+    out: &mut [u64; 64],
+)
+    requires { ⌜ n + m ≤ 12 ⌝ }
+    requires { ⌜ Clauses (now clauses) start count ⌝ }
+    ensures { λ r. ⌜ Words (wordCount n) (λ w. getD (now (out .exit)) w 0) (λ z. someOwn n m (allPass (now (clauses .entry)) start count n m leaf) (z % 2 ^ n)) ⌝ }
+    ensures { λ r. ⌜ ((w : ℕ) → wordCount n ≤ w → getD (now (out .exit)) w 0 ≡ getD (now (out .entry)) w 0) ⌝ }
+{
+    let mut none = [0u64; 1];
+    fill_sets(clauses, start, count, 0, 0, n, m, leaf, out, &mut none);
+}
+
+// The set of the choices in which all clauses of a section pass, where there are no own variables.
+pub fn fill_set(
+    clauses: &[u8; 768],
+    start: usize,
+    count: usize,
+    n: usize,
+    leaf: u64,
+    out: &mut [u64; 64],
+)
+    requires { ⌜ n ≤ 12 ⌝ }
+    requires { ⌜ Clauses (now clauses) start count ⌝ }
+    ensures { λ r. ⌜ Words (wordCount n) (λ w. getD (now (out .exit)) w 0) (allPass (now (clauses .entry)) start count n 0 leaf) ⌝ }
+    ensures { λ r. ⌜ ((w : ℕ) → wordCount n ≤ w → getD (now (out .exit)) w 0 ≡ getD (now (out .entry)) w 0) ⌝ }
+{
+    fill_meets(clauses, start, count, n, 0, leaf, out);
+}
