@@ -1,0 +1,110 @@
+//! Prints one table: nanoseconds per question for the library and for route B, family by family. The
+//! library must be linked: set ZIMORGAL_LIB_DIR to the folder of libzimorgal.a.
+
+mod families;
+
+use brute::judge::ANSWER_BYTES;
+use brute::library::{self, ASK_WORK_BYTES};
+use brute::question::read;
+use brute::single::decide;
+use families::{all, Family};
+use std::hint::black_box;
+use std::time::{Duration, Instant};
+
+/// How long the rounds of one family and one solver go on.
+const LONG_ENOUGH: Duration = Duration::from_millis(150);
+/// Route B is left out where its first question took longer.
+const TOO_LONG: Duration = Duration::from_secs(1);
+const MOST_ROUNDS: usize = 2001;
+
+fn main() {
+    if !library::linked() {
+        eprintln!("the library is not linked: set ZIMORGAL_LIB_DIR to the folder of libzimorgal.a");
+        std::process::exit(2);
+    }
+    println!(
+        "{:<52} {:>9} {:>14} {:>14} {:>8}",
+        "family", "questions", "library ns", "route B ns", "ratio"
+    );
+    for family in all() {
+        print_line(&family);
+    }
+}
+
+fn print_line(family: &Family) {
+    let by_library = median_round(family, ask_library);
+    let by_route_b = route_b(family);
+    let shown = |value: Option<f64>, digits: usize| match value {
+        Some(value) => format!("{value:.digits$}"),
+        None => "-".to_string(),
+    };
+    println!(
+        "{:<52} {:>9} {:>14} {:>14} {:>8}",
+        family.name,
+        family.questions.len(),
+        shown(Some(by_library), 0),
+        shown(by_route_b, 0),
+        shown(by_route_b.map(|ns| ns / by_library), 1)
+    );
+}
+
+fn ask_library(bytes: &[u8]) {
+    let mut answer = [0; ANSWER_BYTES];
+    let mut work = [0; ASK_WORK_BYTES];
+    black_box(library::ask(black_box(bytes), &mut answer, &mut work));
+    black_box((answer, work));
+}
+
+/// Whether the answer is yes, and the reason.
+fn library_says(bytes: &[u8]) -> Option<(bool, u8)> {
+    let mut answer = [0; ANSWER_BYTES];
+    let mut work = [0; ASK_WORK_BYTES];
+    let fields = library::ask(bytes, &mut answer, &mut work).to_le_bytes();
+    (fields[0] > 0).then_some((fields[0] == 1, fields[5]))
+}
+
+fn route_b_says(bytes: &[u8]) -> Option<(bool, u8)> {
+    let outcome = decide(&read(bytes).ok()?);
+    Some((outcome.yes, outcome.reason))
+}
+
+fn ask_route_b(bytes: &[u8]) {
+    if let Ok(question) = read(black_box(bytes)) {
+        black_box(decide(&question));
+    }
+}
+
+/// Route B's time, unless it is too long; both solvers must give one verdict and reason first.
+fn route_b(family: &Family) -> Option<f64> {
+    let began = Instant::now();
+    for question in &family.questions {
+        assert_eq!(
+            library_says(question),
+            route_b_says(question),
+            "{}",
+            family.name
+        );
+        if began.elapsed() > TOO_LONG {
+            break;
+        }
+    }
+    let began = Instant::now();
+    ask_route_b(family.questions.first()?);
+    (began.elapsed() <= TOO_LONG).then(|| median_round(family, ask_route_b))
+}
+
+/// Asks all questions in rounds; gives the nanoseconds per question of the median round.
+fn median_round(family: &Family, ask: fn(&[u8])) -> f64 {
+    let mut rounds = Vec::new();
+    let began = Instant::now();
+    while rounds.is_empty() || (began.elapsed() < LONG_ENOUGH && rounds.len() < MOST_ROUNDS) {
+        let round = Instant::now();
+        for question in &family.questions {
+            ask(question);
+        }
+        rounds.push(round.elapsed());
+    }
+    rounds.sort();
+    let median = rounds[rounds.len() / 2];
+    median.as_nanos() as f64 / family.questions.len() as f64
+}

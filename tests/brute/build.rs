@@ -1,0 +1,20 @@
+//! Links libzimorgal.a when ZIMORGAL_LIB_DIR names the folder that holds it.
+
+use std::path::Path;
+
+fn main() {
+    println!("cargo:rustc-check-cfg=cfg(linked)");
+    println!("cargo:rerun-if-env-changed=ZIMORGAL_LIB_DIR");
+    println!("cargo:rerun-if-changed=build.rs");
+    let Ok(folder) = std::env::var("ZIMORGAL_LIB_DIR") else {
+        return;
+    };
+    let folder = std::fs::canonicalize(&folder)
+        .unwrap_or_else(|error| panic!("ZIMORGAL_LIB_DIR: {folder}: {error}"));
+    let archive = Path::new(&folder).join("libzimorgal.a");
+    assert!(archive.is_file(), "no {}", archive.display());
+    println!("cargo:rerun-if-changed={}", archive.display());
+    println!("cargo:rustc-link-search=native={}", folder.display());
+    println!("cargo:rustc-link-lib=static=zimorgal");
+    println!("cargo:rustc-cfg=linked");
+}

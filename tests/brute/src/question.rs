@@ -1,0 +1,295 @@
+//! Questions, and the reader of their byte format.
+
+use crate::tree::{bytes_of_leaves, splits, tree_of_row, Tree, CONSTANT_HEIGHT};
+
+pub const MOST_VARIABLES: usize = 12;
+pub const MOST_CONSTANTS: usize = 32;
+pub const MOST_POSITIVE: usize = 64;
+pub const MOST_DISEQUATIONS: usize = 31;
+
+#[derive(Clone, Copy, Debug, PartialEq, Eq)]
+pub enum Term {
+    Variable(usize),
+    Constant(usize),
+}
+
+#[derive(Clone, Copy, Debug, PartialEq, Eq)]
+pub enum Relation {
+    Join(Term, Term, Term),
+    Equal(Term, Term),
+}
+
+#[derive(Clone, Copy, Debug, PartialEq, Eq)]
+pub struct Clause {
+    pub relation: Relation,
+    pub negated: bool,
+}
+
+/// Free variables come first, then the own ones.
+#[derive(Clone, Debug, Default, PartialEq, Eq)]
+pub struct Question {
+    pub entailment: bool,
+    pub free: usize,
+    pub own: usize,
+    pub constants: Vec<Tree>,
+    pub first: Vec<Clause>,
+    pub second: Vec<Clause>,
+}
+
+#[derive(Clone, Copy, Debug, PartialEq, Eq)]
+pub struct Refusal {
+    pub number: u8,
+    pub place: usize,
+}
+
+impl Clause {
+    pub fn terms(&self) -> Vec<Term> {
+        match self.relation {
+            Relation::Join(a, b, c) => vec![a, b, c],
+            Relation::Equal(a, b) => vec![a, b],
+        }
+    }
+}
+
+/// A system's positive clauses and its disequations, each in order.
+pub struct Split {
+    pub positive: Vec<Clause>,
+    pub disequations: Vec<Clause>,
+}
+
+pub fn split(clauses: &[Clause]) -> Split {
+    Split {
+        positive: positive(clauses),
+        disequations: disequations(clauses),
+    }
+}
+
+pub fn positive(clauses: &[Clause]) -> Vec<Clause> {
+    clauses.iter().copied().filter(|c| !c.negated).collect()
+}
+
+pub fn disequations(clauses: &[Clause]) -> Vec<Clause> {
+    clauses.iter().copied().filter(|c| c.negated).collect()
+}
+
+impl Question {
+    /// The height h: that of the tallest constant.
+    pub fn height(&self) -> u32 {
+        self.constants.iter().map(Tree::height).max().unwrap_or(0)
+    }
+
+    pub fn variables(&self) -> usize {
+        self.free + self.own
+    }
+
+    /// The height of a shown solution of kind 0.
+    pub fn height_if_satisfiable(&self) -> u32 {
+        self.height() + splits(disequations(&self.first).len())
+    }
+
+    /// The height of a shown solution that does not extend.
+    pub fn height_if_not_entailed(&self) -> u32 {
+        self.height() + splits(disequations(&self.first).len() + 1)
+    }
+}
+
+fn refuse<T>(number: u8, place: usize) -> Result<T, Refusal> {
+    Err(Refusal { number, place })
+}
+
+/// How many operand bytes a command has; none if the command is unknown.
+fn operand_count(command: u8) -> Option<usize> {
+    match command {
+        0x00 => Some(0),
+        0x01 => Some(3),
+        0x03 => Some(4),
+        0x10 | 0x11 | 0x20 | 0x21 => Some(3),
+        0x12 | 0x13 | 0x22 | 0x23 => Some(2),
+        _ => None,
+    }
+}
+
+/// The question that these bytes are, or the first fault.
+pub fn read(bytes: &[u8]) -> Result<Question, Refusal> {
+    let mut question = read_head(bytes)?;
+    let mut at = 4;
+    loop {
+        let Some(&command) = bytes.get(at) else {
+            return refuse(2, bytes.len());
+        };
+        let Some(count) = operand_count(command) else {
+            return refuse(3, at);
+        };
+        let Some(operands) = bytes.get(at + 1..at + 1 + count) else {
+            return refuse(2, at);
+        };
+        if command == 0x00 {
+            return read_end(bytes, at + 1, question);
+        }
+        read_command(&mut question, command, operands)
+            .map_err(|number| Refusal { number, place: at })?;
+        at += 1 + count;
+    }
+}
+
+fn read_head(bytes: &[u8]) -> Result<Question, Refusal> {
+    if bytes.first() != Some(&0x01) {
+        return refuse(1, 0);
+    }
+    let Some(&[kind, free, own]) = bytes.get(1..4).and_then(|o| o.first_chunk::<3>()) else {
+        return refuse(2, 0);
+    };
+    let free = usize::from(free);
+    let own = usize::from(own);
+    if kind > 1 || free + own > MOST_VARIABLES || (kind == 0 && own > 0) {
+        return refuse(5, 0);
+    }
+    Ok(Question {
+        entailment: kind == 1,
+        free,
+        own,
+        ..Question::default()
+    })
+}
+
+fn read_end(bytes: &[u8], after: usize, question: Question) -> Result<Question, Refusal> {
+    if after < bytes.len() {
+        return refuse(10, after);
+    }
+    Ok(question)
+}
+
+fn read_command(question: &mut Question, command: u8, operands: &[u8]) -> Result<(), u8> {
+    match command {
+        0x01 => Err(4),
+        0x03 => read_constant(question, operands),
+        _ => read_clause(question, command, operands),
+    }
+}
+
+fn read_constant(question: &mut Question, leaves: &[u8]) -> Result<(), u8> {
+    if !question.first.is_empty() || !question.second.is_empty() {
+        return Err(4);
+    }
+    if question.constants.len() == MOST_CONSTANTS {
+        return Err(6);
+    }
+    question.constants.push(tree_of_row(leaves));
+    Ok(())
+}
+
+fn read_clause(question: &mut Question, command: u8, operands: &[u8]) -> Result<(), u8> {
+    let second = command >= 0x20;
+    let negated = command % 2 == 1;
+    if second && !question.entailment {
+        return Err(9);
+    }
+    let system = if second {
+        &question.second
+    } else {
+        &question.first
+    };
+    let standing = system.iter().filter(|c| c.negated == negated).count();
+    let most = if negated {
+        MOST_DISEQUATIONS
+    } else {
+        MOST_POSITIVE
+    };
+    if standing == most {
+        return Err(7);
+    }
+    let mut terms = Vec::new();
+    for &operand in operands {
+        terms.push(read_term(question, second, operand).ok_or(8)?);
+    }
+    let relation = match terms[..] {
+        [a, b, c] => Relation::Join(a, b, c),
+        [a, b] => Relation::Equal(a, b),
+        _ => unreachable!("a clause has two or three terms"),
+    };
+    let clause = Clause { relation, negated };
+    if second {
+        question.second.push(clause);
+    } else {
+        question.first.push(clause);
+    }
+    Ok(())
+}
+
+fn read_term(question: &Question, second: bool, operand: u8) -> Option<Term> {
+    let operand = usize::from(operand);
+    let named = if second {
+        question.variables()
+    } else {
+        question.free
+    };
+    if operand < named {
+        return Some(Term::Variable(operand));
+    }
+    let constant = operand.checked_sub(0x20)?;
+    (constant < question.constants.len()).then_some(Term::Constant(constant))
+}
+
+pub fn term_byte(term: Term) -> u8 {
+    match term {
+        Term::Variable(v) => v as u8,
+        Term::Constant(c) => 0x20 + c as u8,
+    }
+}
+
+pub fn clause_bytes(clause: &Clause, second: bool) -> Vec<u8> {
+    let system = if second { 0x20 } else { 0x10 };
+    let relation = match clause.relation {
+        Relation::Join(..) => 0,
+        Relation::Equal(..) => 2,
+    };
+    let mut bytes = vec![system + relation + u8::from(clause.negated)];
+    bytes.extend(clause.terms().into_iter().map(term_byte));
+    bytes
+}
+
+/// The head and the constants.
+pub fn opening(question: &Question) -> Vec<u8> {
+    let mut bytes = vec![
+        0x01,
+        u8::from(question.entailment),
+        question.free as u8,
+        question.own as u8,
+    ];
+    for constant in &question.constants {
+        bytes.push(0x03);
+        bytes.extend(bytes_of_leaves(&constant.leaves(CONSTANT_HEIGHT)));
+    }
+    bytes
+}
+
+/// The question in bytes. `second_next` says, where both systems have clauses left, whether the
+/// second's comes next.
+pub fn write(question: &Question, mut second_next: impl FnMut() -> bool) -> Vec<u8> {
+    let mut bytes = opening(question);
+    let mut first = question.first.iter().peekable();
+    let mut second = question.second.iter().peekable();
+    while first.peek().is_some() || second.peek().is_some() {
+        let take_second = first.peek().is_none() || (second.peek().is_some() && second_next());
+        let next = if take_second {
+            second.next()
+        } else {
+            first.next()
+        };
+        if let Some(clause) = next {
+            bytes.extend(clause_bytes(clause, take_second));
+        }
+    }
+    bytes.push(0x00);
+    bytes
+}
+
+/// The first system's clauses, then the second's.
+pub fn write_in_order(question: &Question) -> Vec<u8> {
+    write(question, || false)
+}
+
+pub fn hex(bytes: &[u8]) -> String {
+    let pairs: Vec<String> = bytes.iter().map(|b| format!("{b:02X}")).collect();
+    pairs.join(" ")
+}
