@@ -1,6 +1,6 @@
 -- One entry more at a leaf, and all of them. Assumes nothing.
 use mathlib.Core.Path.{_≡_, refl, sym, ap, ap₂, _∙_}
-use mathlib.Core.Bool.{Bool, true, false, cond, _&&_}
+use mathlib.Core.Bool.{Bool, true, false, cond, _&&_, and-false}
 use mathlib.Core.List.{List}
 use Prim.Native.Nat.{ℕ, _+_, _*_, _^_, _≤_, _<_}
 use native.Mathlib.Nat.{add-zero}
@@ -25,10 +25,6 @@ use Rattle.decide.specs.Plan.{nowhere, homeOf, rankOf, specialChoice, pl
 use Rattle.decide.specs.PlanLaws.{found-some, none-found, found-here, not-here, place-there, place-nowhere, choice-there, choice-nowhere, rank-here}
 use Rattle.decide.specs.Tests.{takes, Placed}
 use Rattle.decide.specs.Entries.{AtLeaf, Fits, Entries, After}
-
-and-false : (b : Bool) → (b && false) ≡ false
-and-false true = refl
-and-false false = refl
 
 -- ---- a search by words finds what a search of the numbers below 2 ^ n finds
 

@@ -1,6 +1,6 @@
 -- One entry of a plan at one leaf: the three cases. Assumes nothing.
-use mathlib.Core.Path.{_≡_, refl, sym}
-use mathlib.Core.Bool.{Bool, true, false, _&&_}
+use mathlib.Core.Path.{_≡_, sym}
+use mathlib.Core.Bool.{true, false, and-false}
 use mathlib.Core.List.{List}
 use Prim.Native.Nat.{ℕ, _+_, _≤_, _<_}
 use native.Mathlib.Nat.{add-zero}
@@ -21,10 +21,6 @@ takes-now place e limit x p l = rw (eq-eqb (getD place e 0) nowhere p, lt-ltb x 
 takes-none : (place : List ℕ) (e limit x : ℕ) → limit ≤ x → takes place e limit x ≡ false
 unfolding takes
 takes-none place e limit x l = rw (le-ltb x limit l) (and-false (eqb (getD place e 0) nowhere))
-  where
-    and-false : (b : Bool) → (b && false) ≡ false
-    and-false true = refl
-    and-false false = refl
 
 module _ (place choice : List ℕ) (e next limit x : ℕ) where
   kept : takes place e limit x ≡ false → Placed place choice e next limit x next place choice
