@@ -18,8 +18,8 @@ use Rattle.questions.specs.declared.Step.{Step}
 use Rattle.questions.specs.declared.Step.the-variants.{Take, Refused}
 use Rattle.questions.specs.declared.Question.{Question as Struct}
 use Rattle.questions.specs.declared.Reading.{Reading}
-use Rattle.questions.specs.Format.{Result, refused, accepted, readAt, fault, judged, taken, ended, go, stop, onward, turn, following, run, headFits, kindOf, mostOf, inSection, opened, headOf, read}
-use Rattle.questions.specs.Held.{kindNumber, sectionStart, atomsOf, countOf, keptConstants, constantCount, keptClauses, clauseCounts, judgedOf, refusalOf, isEnd, wrongOf, Stands, refusedAs, acceptedAs, Answers}
+use Rattle.questions.specs.Format.{Result, refused, accepted, readAt, fault, judged, taken, ended, go, stop, onward, turn, following, run, headFits, kindFrom, mostOf, inSection, opened, headOf, read}
+use Rattle.questions.specs.Held.{kindNumber, sectionStart, atomsOf, countOf, keptConstants, constantCount, keptClauses, clauseCounts, judgedOf, refusalOf, isEnd, wrongOf, Stands, refusedAs, acceptedAs, HandsBack}
 use Rattle.questions.specs.FormatLaws.{judged-take, size-some, Whole, read-whole, branch, Sound, Stay, Kept, turn-kept, head-fits, opened-sound, HeadRight, head-right}
 use Rattle.questions.specs.HeldLaws.{Bytes, ProperStep, read-proper, judged-same, kept, stands-taken}
 
@@ -38,7 +38,7 @@ pub record Going (s : List ℕ) (x : Struct) (q₀ : Question) (at : ℕ) : Type
   pub enough : length s < at + turns
   pub same : run turns s at q ≡ run (length s) s 4 q₀
 
-kind-number : (kind : ℕ) → kind ≤ 1 → kind ≡ kindNumber (kindOf kind)
+kind-number : (kind : ℕ) → kind ≤ 1 → kind ≡ kindNumber (kindFrom kind)
 kind-number kind h =
     branch (λ k. kind ≡ kindNumber k) (eqb kind 0) satisfiability entailment (λ e. eqb-true kind 0 e)
     (λ e. let f = eqb-false kind 0 e in omega arith)
@@ -118,7 +118,7 @@ module _ (s : List ℕ) (x : Struct) (q₀ : Question) (at : ℕ) (g : Going s x
       by zero h z = absurd (omega (arith, g .within))
       by (suc k) h z = sym z ∙ ap (following (λ q′ at′. run k s at′ q′)) (turn-is ∙ f)
 
-  pub refused-turn : (n m : ℕ) (out : Reading) → r ≡ Refused n → m ≡ refusalOf r → out ≡ refusedAs m at → Answers (run (length s) s 4 q₀) out
+  pub refused-turn : (n m : ℕ) (out : Reading) → r ≡ Refused n → m ≡ refusalOf r → out ≡ refusedAs m at → HandsBack (run (length s) s 4 q₀) out
   refused-turn n m out t h o =
       rw (stops (refused n at) (ap (onward s at (g .q)) t), o, h, t) (refl, refl, refl)
 
@@ -135,13 +135,13 @@ module _ (s : List ℕ) (x : Struct) (q₀ : Question) (at : ℕ) (g : Going s x
     end-is : isEnd c ≡ true → onward s at (g .q) r ≡ stop (ended s next (g .q))
     end-is h = ap (onward s at (g .q)) (t ∙ ap (λ k. Take k next) (is-end c h))
 
-    pub accepted-turn : (out : Reading) → isEnd c ≡ true → next ≡ length s → out ≡ acceptedAs x → Answers (run (length s) s 4 q₀) out
+    pub accepted-turn : (out : Reading) → isEnd c ≡ true → next ≡ length s → out ≡ acceptedAs x → HandsBack (run (length s) s 4 q₀) out
     unfolding ended
     accepted-turn out h l o =
         let a : ended s next (g .q) ≡ accepted (g .q) = simp (eq-eqb next (length s) l) in
         rw (stops (accepted (g .q)) (end-is h ∙ ap stop a), o) (refl, refl, g .stands)
 
-    pub after-end : (out : Reading) → isEnd c ≡ true → (next ≡ length s → ⊥) → out ≡ refusedAs 10 next → Answers (run (length s) s 4 q₀) out
+    pub after-end : (out : Reading) → isEnd c ≡ true → (next ≡ length s → ⊥) → out ≡ refusedAs 10 next → HandsBack (run (length s) s 4 q₀) out
     unfolding ended
     after-end out h l o =
         let a : ended s next (g .q) ≡ refused 10 next = simp (ne-eqb next (length s) l) in
@@ -176,7 +176,7 @@ going-kept s x q₀ next c constants defined clauses counts e f g h k = rw (e, f
 -- ---- the whole
 
 module _ (s : List ℕ) (h : Head) (e : h ≡ headOf s) where
-  pub refused-head : (n m : ℕ) (out : Reading) → h ≡ Wrong n → m ≡ wrongOf h → out ≡ refusedAs m 0 → Answers (read s) out
+  pub refused-head : (n m : ℕ) (out : Reading) → h ≡ Wrong n → m ≡ wrongOf h → out ≡ refusedAs m 0 → HandsBack (read s) out
   unfolding read
   refused-head n m out t k o = rw (← e, t, o, k, t) (refl, refl, refl)
 
@@ -184,6 +184,6 @@ module _ (s : List ℕ) (h : Head) (e : h ≡ headOf s) where
     pub head-taken : (4 ≤ length s) × (headFits kind free own ≡ true)
     head-taken = subst (HeadRight s) (sym e ∙ t) (head-right s)
 
-    pub read-on : (out : Reading) → Answers (run (length s) s 4 (opened kind free own)) out → Answers (read s) out
+    pub read-on : (out : Reading) → HandsBack (run (length s) s 4 (opened kind free own)) out → HandsBack (read s) out
     unfolding read
     read-on out a = rw (← e, t) a

@@ -17,7 +17,7 @@ use Rattle.questions.specs.declared.Section.the-variants.{FirstPositive,
 use Rattle.questions.specs.declared.Question.{Question as Struct}
 use Rattle.questions.specs.declared.Reading.{Reading}
 use Rattle.questions.specs.Format.{Result, refused, accepted, termOf, names, thirdNamed, read}
-use Rattle.questions.specs.Held.{kindNumber, testOf, atomAt, atomsOf, StoredClause, Stands, nothingHeld, Answers}
+use Rattle.questions.specs.Held.{kindNumber, testOf, storedAtom, atomsOf, StoredClause, Stands, nothingHeld, HandsBack}
 use Rattle.questions.specs.FormatLaws.{longest, Limited, accepted-formed, accepted-limited, refusal-number, refusal-place}
 use Rattle.questions.specs.HeldLaws.{atoms-length, named-small}
 
@@ -38,18 +38,18 @@ pub record TurnedAway (s : List ℕ) (r : Reading) : Type 0 where
   pub place : r .place ≤ longest
   pub nothing : r .question ≡ nothingHeld
 
-module _ (s : List ℕ) (r : Reading) (a : Answers (read s) r) where
+module _ (s : List ℕ) (r : Reading) (a : HandsBack (read s) r) where
   pub answer-taken : r .refusal ≡ 0 → Taken s (r .question)
   answer-taken e = pick (read s) refl a
     where
-      pick : (o : Result) → read s ≡ o → Answers o r → Taken s (r .question)
+      pick : (o : Result) → read s ≡ o → HandsBack o r → Taken s (r .question)
       pick (accepted q) h b = record { question = q; read = h; stands = b .2; formed = accepted-formed s q h; limited = accepted-limited s q h }
       pick (refused n p) h b = absurd (omega (arith, refusal-number s n p h .0, b .0))
 
   pub answer-refused : (r .refusal ≡ 0 → ⊥) → TurnedAway s r
   answer-refused e = pick (read s) refl a
     where
-      pick : (o : Result) → read s ≡ o → Answers o r → TurnedAway s r
+      pick : (o : Result) → read s ≡ o → HandsBack o r → TurnedAway s r
       pick (accepted q) h b = absurd (e (b .0))
       pick (refused n p) h b = record {
         read = rw (b .0, b .1) h;
@@ -97,15 +97,15 @@ module _ (x : Struct) (q : Question) (d : Stands x q) where
 -- ---- clauses and terms in bytes
 
 -- clause number i of n that start at an offset
-pub atoms-at : (l : List ℕ) (start n i : ℕ) (a : Atom) → i < n → getD (atomsOf l start n) i a ≡ atomAt l (start + 4 * i)
+pub atoms-at : (l : List ℕ) (start n i : ℕ) (a : Atom) → i < n → getD (atomsOf l start n) i a ≡ storedAtom l (start + 4 * i)
 unfolding atomsOf
 atoms-at l start zero i a h = absurd (not-suc-le-zero h)
 atoms-at l start (suc n) i a h = pick (eq-or-lt-of-le (le-of-suc-le-suc h)) (atoms-at l start n i a)
   where
-    pick : (i ≡ n) ⊎ (i < n) → (i < n → getD (atomsOf l start n) i a ≡ atomAt l (start + 4 * i))
-        → getD (atomsOf l start n ++ (atomAt l (start + 4 * n) ∷ [])) i a ≡ atomAt l (start + 4 * i)
-    pick (inl e) ih = getD-at (atomsOf l start n) (atomAt l (start + 4 * n)) [] a i (atoms-length l start n ∙ sym e) ∙ ap (λ j. atomAt l (start + 4 * j)) (sym e)
-    pick (inr k) ih = List·getD-append (atomsOf l start n) (atomAt l (start + 4 * n) ∷ []) a i (rw atoms-length k) ∙ ih k
+    pick : (i ≡ n) ⊎ (i < n) → (i < n → getD (atomsOf l start n) i a ≡ storedAtom l (start + 4 * i))
+        → getD (atomsOf l start n ++ (storedAtom l (start + 4 * n) ∷ [])) i a ≡ storedAtom l (start + 4 * i)
+    pick (inl e) ih = getD-at (atomsOf l start n) (storedAtom l (start + 4 * n)) [] a i (atoms-length l start n ∙ sym e) ∙ ap (λ j. storedAtom l (start + 4 * j)) (sym e)
+    pick (inr k) ih = List·getD-append (atomsOf l start n) (storedAtom l (start + 4 * n) ∷ []) a i (rw atoms-length k) ∙ ih k
 
 -- a term's byte below 20 is a variable, one from 20 on a constant; each is there if the byte names something
 pub term-variable : (t : ℕ) → t < 0x20 → termOf t ≡ variable t

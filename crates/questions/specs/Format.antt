@@ -255,13 +255,13 @@ unfoldable pub headFits : ℕ → ℕ → ℕ → Bool
 headFits kind n m = cond (ltb 1 kind) false (cond (ltb mostVariables (n + m)) false (cond (eqb kind 0) (eqb m 0) true))
 
 -- the kind's number
-abbrev pub kindOf : ℕ → Kind
-kindOf kind = cond (eqb kind 0) satisfiability entailment
+abbrev pub kindFrom : ℕ → Kind
+kindFrom kind = cond (eqb kind 0) satisfiability entailment
 
 -- nothing but the head read
 unfoldable pub opened : ℕ → ℕ → ℕ → Question
 opened kind n m = record {
-  kind = kindOf kind;
+  kind = kindFrom kind;
   free = n;
   own = m;
   constants = record { levels = constantLevels; numbers = [] };

@@ -50,13 +50,13 @@ sectionStart SecondPositive = 384
 sectionStart SecondDisequation = 640
 
 -- the clause whose four bytes start at an offset
-unfoldable pub atomAt : List ℕ → ℕ → Atom
-atomAt l i = atomOf (testOf (getD l i 0)) (getD l (i + 1) 0) (getD l (i + 2) 0) (getD l (i + 3) 0)
+unfoldable pub storedAtom : List ℕ → ℕ → Atom
+storedAtom l i = atomOf (testOf (getD l i 0)) (getD l (i + 1) 0) (getD l (i + 2) 0) (getD l (i + 3) 0)
 
 -- the n clauses that start at an offset, in order
 unfoldable pub atomsOf : List ℕ → ℕ → ℕ → List Atom
 atomsOf l start zero = []
-atomsOf l start (suc n) = atomsOf l start n ++ (atomAt l (start + 4 * n) ∷ [])
+atomsOf l start (suc n) = atomsOf l start n ++ (storedAtom l (start + 4 * n) ∷ [])
 
 -- four bytes written at an offset
 abbrev pub stored : List ℕ → ℕ → ℕ → ℕ → ℕ → ℕ → List ℕ
@@ -182,6 +182,6 @@ abbrev pub acceptedAs : Struct → Reading
 acceptedAs x = record { refusal = 0; place = 0; question = x }
 
 -- what the code hands back for what the definition gives
-abbrev pub Answers : Result → Reading → Type 0
-Answers (refused n place) r = (r .refusal ≡ n) × (r .place ≡ place) × (r .question ≡ nothingHeld)
-Answers (accepted q) r = (r .refusal ≡ 0) × (r .place ≡ 0) × Stands (r .question) q
+abbrev pub HandsBack : Result → Reading → Type 0
+HandsBack (refused n place) r = (r .refusal ≡ n) × (r .place ≡ place) × (r .question ≡ nothingHeld)
+HandsBack (accepted q) r = (r .refusal ≡ 0) × (r .place ≡ 0) × Stands (r .question) q

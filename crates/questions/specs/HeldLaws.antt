@@ -28,7 +28,7 @@ use Rattle.questions.specs.declared.Step.{Step}
 use Rattle.questions.specs.declared.Step.the-variants.{Take, Refused}
 use Rattle.questions.specs.declared.Question.{Question as Struct}
 use Rattle.questions.specs.Format.{Result, refused, accepted, mostConstants, constantBytes, entryOf, operands, commandOf, wholeAt, readAt, mostOf, inSection, names, variablesFor, allNamed, atomOf, isForeign, constantFault, fault, judged, withClause, withConstant, taken, ended, onward, turn, opened, headOf, afterHead, read}
-use Rattle.questions.specs.Held.{kindNumber, sectionNumber, testNumber, testOf, sectionStart, atomAt, atomsOf, stored, countOf, nextSlot, keptConstants, constantCount, keptClauses, clauseCounts, Slot, Counted, clauseTotal, foreignTo, faultOf, judgedOf, StoredClause, Stands}
+use Rattle.questions.specs.Held.{kindNumber, sectionNumber, testNumber, testOf, sectionStart, storedAtom, atomsOf, stored, countOf, nextSlot, keptConstants, constantCount, keptClauses, clauseCounts, Slot, Counted, clauseTotal, foreignTo, faultOf, judgedOf, StoredClause, Stands}
 use Rattle.questions.specs.SectionLaws.{both-counts, added, Apart, Alike, same, other, alike, constant-sections, clause-keeps, section-below, slot-fits}
 use Rattle.questions.specs.FormatLaws.{branch, Stay, run-law, ClauseFits, clause-fits, ConstantFits, constant-fits}
 
@@ -131,8 +131,8 @@ test-number : (t : Test) → testOf (testNumber t) ≡ t
 test-number Join = refl
 test-number Equality = refl
 
-stored-atom : (l : List ℕ) (i : ℕ) (t : Test) (a b c : ℕ) → i + 4 ≤ length l → atomAt (stored l i (testNumber t) a b c) i ≡ atomOf t a b c
-unfolding atomAt
+stored-atom : (l : List ℕ) (i : ℕ) (t : Test) (a b c : ℕ) → i + 4 ≤ length l → storedAtom (stored l i (testNumber t) a b c) i ≡ atomOf t a b c
+unfolding storedAtom
 stored-atom l i t a b c h =
     let n = testNumber t in
     rw (byte-0 l i n a b c h, byte-1 l i n a b c h, byte-2 l i n a b c h, byte-3 l i n a b c h, test-number t)
@@ -143,8 +143,8 @@ stored-atom l i t a b c h =
 abbrev Agrees : List ℕ → List ℕ → ℕ → ℕ → Type 0
 Agrees l l′ from to = (j : ℕ) → from ≤ j → j < to → getD l′ j 0 ≡ getD l j 0
 
-atom-agrees : (l l′ : List ℕ) (i : ℕ) → Agrees l l′ i (i + 4) → atomAt l′ i ≡ atomAt l i
-unfolding atomAt
+atom-agrees : (l l′ : List ℕ) (i : ℕ) → Agrees l l′ i (i + 4) → storedAtom l′ i ≡ storedAtom l i
+unfolding storedAtom
 atom-agrees l l′ i h =
     rw (h i (omega arith) (omega arith), h (i + 1) (omega arith) (omega arith), h (i + 2) (omega arith) (omega arith), h (i + 3) (omega arith) (omega arith))
 
@@ -307,7 +307,7 @@ module _ (x : Struct) (q : Question) (d : Stands x q) where
         side (inl h) = inl (omega (arith, d .counted τ))
         side (inr h) = inr (omega (arith, clause-room))
 
-    the-atom : atomAt clauses′ (nextSlot (x .counts) σ) ≡ atomOf t a b c
+    the-atom : storedAtom clauses′ (nextSlot (x .counts) σ) ≡ atomOf t a b c
     unfolding clauses′
     the-atom = stored-atom (x .clauses) (nextSlot (x .counts) σ) t a b c (omega (arith, clause-slot, d .sizes .1))
 
@@ -316,7 +316,7 @@ module _ (x : Struct) (q : Question) (d : Stands x q) where
     sections′ τ = pick (alike σ τ) before-it the-atom count-same elsewhere count-other
       where
         pick : {σ τ : Section} → Alike σ τ → Agrees (x .clauses) clauses′ (sectionStart σ) (nextSlot (x .counts) σ)
-            → atomAt clauses′ (nextSlot (x .counts) σ) ≡ atomOf t a b c → countOf counts′ σ ≡ countOf (x .counts) σ + 1
+            → storedAtom clauses′ (nextSlot (x .counts) σ) ≡ atomOf t a b c → countOf counts′ σ ≡ countOf (x .counts) σ + 1
             → ((υ : Section) → Apart σ υ → Agrees (x .clauses) clauses′ (sectionStart υ) (nextSlot (x .counts) υ))
             → ((υ : Section) → Apart σ υ → countOf counts′ υ ≡ countOf (x .counts) υ)
             → atomsOf clauses′ (sectionStart τ) (countOf counts′ τ) ≡ inSection (withClause q σ (atomOf t a b c)) τ

@@ -5,7 +5,7 @@ ghost use mathlib.Core.Bool.{true};
 ghost use lib.ListN.{length, getD, take, drop};
 ghost use Rattle.shares.specs.Constant.{number};
 ghost use Rattle.questions.specs.Format.{entryOf, termCount, operands, thirdAt, commandOf, readAt, isSecond, mostOf, names, variablesFor, allNamed, clauseFault, constantFault, headFits, opened, run, headOf, read};
-ghost use Rattle.questions.specs.Held.{sectionNumber, testNumber, sectionStart, countOf, keptConstants, constantCount, keptClauses, clauseCounts, Slot, stored, Counted, clauseTotal, foreignTo, faultOf, judgedOf, refusalOf, isEnd, wrongOf, nothingHeld, refusedAs, acceptedAs, Answers};
+ghost use Rattle.questions.specs.Held.{sectionNumber, testNumber, sectionStart, countOf, keptConstants, constantCount, keptClauses, clauseCounts, Slot, stored, Counted, clauseTotal, foreignTo, faultOf, judgedOf, refusalOf, isEnd, wrongOf, nothingHeld, refusedAs, acceptedAs, HandsBack};
 
 // The positive clauses and the disequations of each system.
 pub enum Section {
@@ -542,7 +542,7 @@ fn is_end(command: Command) -> bool
 fn read_commands(bytes: &[u8], kind: u8, free: usize, own: usize) -> Reading
     requires { ⌜ 4 ≤ length (now bytes) ⌝ }
     requires { ⌜ headFits kind free own ≡ true ⌝ }
-    ensures { λ r. ⌜ Answers (run (length (now (bytes .entry))) (now (bytes .entry)) 4 (opened kind free own)) r ⌝ }
+    ensures { λ r. ⌜ HandsBack (run (length (now (bytes .entry))) (now (bytes .entry)) 4 (opened kind free own)) r ⌝ }
 {
     let mut constants = [0u64; 32];
     let mut defined: usize = 0;
@@ -633,7 +633,7 @@ fn wrong_of(h: Head) -> u8
 
 // The reading of a byte string of any length.
 pub fn read(bytes: &[u8]) -> Reading
-    ensures { λ r. ⌜ Answers (read (now (bytes .entry))) r ⌝ }
+    ensures { λ r. ⌜ HandsBack (read (now (bytes .entry))) r ⌝ }
 {
     let h = read_head(bytes);
     let Head::Fits { kind, free, own } = h else {

@@ -18,14 +18,14 @@ use Rattle.shares.specs.Blocks.{blockOf, block-lt, block-block}
 use Rattle.show.specs.Rows.{rowLevels, rowBytes, rowCount, answerBytes, rowLeaf, rowTree, rowOf, rowPart}
 use Rattle.show.specs.RowLaws.{row-is, row-length, rowTree-rowOf, rows-whole, rows-at}
 use Rattle.show.specs.Blocks.{Inside, BlockSet}
-use Rattle.show.specs.Plans.{WellFormed, choiceAfter, choiceAt, planTree, Shows, shownRow, shownAnswer}
+use Rattle.show.specs.Plans.{Showable, choiceAfter, choiceAt, planTree, Shows, shownRow, shownAnswer}
 use Rattle.show.specs.declared.Plan.{Plan}
 
 bit-cond : (t : Bool) (a b p : ℕ) → bit (cond t a b) p ≡ cond t (bit a p) (bit b p)
 bit-cond true a b p = refl
 bit-cond false a b p = refl
 
-module _ (plan : Plan) (ok : WellFormed plan) where
+module _ (plan : Plan) (ok : Showable plan) where
   -- a place is a block of the row
   pub place-inside : (n : ℕ) → n < plan .count → Inside (rowLevels - plan .high) (getD (plan .place) n 0) rowBytes
   place-inside n l =
@@ -93,7 +93,7 @@ unfolding planTree
 planTree-leaf plan p s = leafAt-treeOf (plan .high) (λ s. bit (choiceAt plan s) p) s
 
 -- the row of a free variable is that of its tree
-pub shown-tree : (n : ℕ) (plan : Plan) → WellFormed plan → (v : ℕ) → v < n → rowTree rowLevels (shownRow n plan v) ≡ planTree plan (n - 1 - v)
+pub shown-tree : (n : ℕ) (plan : Plan) → Showable plan → (v : ℕ) → v < n → rowTree rowLevels (shownRow n plan v) ≡ planTree plan (n - 1 - v)
 unfolding shownRow
 shown-tree n plan ok v l =
     rw (lt-ltb v n l)

@@ -12,7 +12,7 @@ use Rattle.show.specs.Rows.{rowLevels, rowBytes, rowCount, answerBytes, 
 use Rattle.show.specs.declared.Plan.{Plan}
 
 -- a plan that can be shown: the leaves are no taller than the height given, and every place is a sub-leaf
-pub record WellFormed (plan : Plan) : Type 0 where
+pub record Showable (plan : Plan) : Type 0 where
   pub below : plan .low ≤ plan .high
   pub within : plan .high ≤ rowLevels
   pub blocks : plan .low ≤ 6

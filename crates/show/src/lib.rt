@@ -9,7 +9,7 @@ ghost use Rattle.shares.specs.Constant.{bit};
 ghost use Rattle.shares.specs.Text.{text};
 ghost use Rattle.show.specs.Rows.{rowLevels, rowBytes, rowCount, answerBytes, rowLeaf, rowOf, rowPart, rowPlace};
 ghost use Rattle.show.specs.Blocks.{Inside, blockTree, AllLeaves, BlockSet, wholeByte};
-ghost use Rattle.show.specs.Plans.{WellFormed, planTree, Shows, shownRow, shownAnswer};
+ghost use Rattle.show.specs.Plans.{Showable, planTree, Shows, shownRow, shownAnswer};
 ghost use Rattle.show.specs.Texts.{rowText, textAnswer, textAfter, Put};
 
 // A row is a tree unfolded to this height, in this many bytes.
@@ -93,7 +93,8 @@ fn is_block(byte: u8, height: usize, a: usize, full: bool) -> bool
     (byte ^ whole(full)) & mask(height, a) == 0
 }
 
-fn fill(part: &mut [u8], byte: u8)
+// Sets every byte of a part.
+pub fn fill(part: &mut [u8], byte: u8)
     ensures { λ _. ⌜ now (part .exit) ≡ replicate (length (now (part .entry))) byte ⌝ }
 {
     let mut i: usize = 0;
@@ -207,7 +208,7 @@ fn write_leaves(row: &mut [u8], plain: &[u16; 64], height: usize, p: usize)
 
 // Sets the sub-leaves that hold another choice, in order.
 fn write_places(row: &mut [u8], plan: Plan, p: usize)
-    requires { ⌜ WellFormed plan ⌝ }
+    requires { ⌜ Showable plan ⌝ }
     requires { ⌜ (length (now row) ≡ rowBytes) × (p < 16) × Shows plan 0 p (now row) ⌝ }
     ensures { λ _. ⌜ Shows plan (plan .count) p (now (row .exit)) ⌝ }
 {
@@ -222,7 +223,7 @@ fn write_places(row: &mut [u8], plan: Plan, p: usize)
 
 // Writes the row of the variable whose value is digit p.
 pub fn write_row(row: &mut [u8], plan: Plan, p: usize)
-    requires { ⌜ WellFormed plan ⌝ }
+    requires { ⌜ Showable plan ⌝ }
     requires { ⌜ (length (now row) ≡ rowBytes) × (p < 16) ⌝ }
     ensures { λ _. ⌜ now (row .exit) ≡ rowOf rowLevels (planTree plan p) ⌝ }
 {
@@ -233,7 +234,7 @@ pub fn write_row(row: &mut [u8], plan: Plan, p: usize)
 
 // Writes the row of variable v, of n free ones: zero where it is none of them.
 fn show_row(row: &mut [u8], n: usize, plan: Plan, v: usize)
-    requires { ⌜ WellFormed plan ⌝ }
+    requires { ⌜ Showable plan ⌝ }
     requires { ⌜ (length (now row) ≡ rowBytes) × (n ≤ rowCount) ⌝ }
     ensures { λ _. ⌜ now (row .exit) ≡ shownRow n plan v ⌝ }
 {
@@ -246,7 +247,7 @@ fn show_row(row: &mut [u8], n: usize, plan: Plan, v: usize)
 
 // Shows a plan of n free variables in the answer buffer.
 pub fn write_rows(answer: &mut [u8], n: usize, plan: Plan)
-    requires { ⌜ WellFormed plan ⌝ }
+    requires { ⌜ Showable plan ⌝ }
     requires { ⌜ (answerBytes ≤ length (now answer)) × (n ≤ rowCount) ⌝ }
     ensures { λ _. ⌜ now (answer .exit) ≡ shownAnswer n plan (now (answer .entry)) ⌝ }
 {

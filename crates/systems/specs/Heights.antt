@@ -40,7 +40,7 @@ constant-low k [] i u = absurd (not-suc-le-zero u)
 constant-low k (n ∷ l) zero u = le-max-left _ _
 constant-low k (n ∷ l) (suc i) u = le-trans (constant-low k l i (le-of-suc-le-suc u)) (le-max-right (height (numberTree k n)) _)
 
-tallest-low : (k : ℕ) (l : List ℕ) → tallestConstant k l ≤ k
+pub tallest-low : (k : ℕ) (l : List ℕ) → tallestConstant k l ≤ k
 unfolding tallestConstant
 tallest-low k [] = omega arith
 tallest-low k (n ∷ l) = max-le (treeOf-height k _) (tallest-low k l)

@@ -24,6 +24,6 @@ pub record Changed (n m from w : ℕ) (old new : List ℕ) : Type 0 where
   pub kept : (t : ℕ) → (t < n + m → position n m t < from) → getD new t 0 ≡ getD old t 0
 
 -- the words from 32 are those of the constants, and every other word is as it was
-pub record Constants (leaf : ℕ) (old new : List ℕ) : Type 0 where
+pub record ConstantWords (leaf : ℕ) (old new : List ℕ) : Type 0 where
   pub set : (t : ℕ) → 32 ≤ t → t < 64 → (i : ℕ) → i < 64 → bit (getD new t 0) i ≡ bit leaf (t - 32)
   pub kept : (t : ℕ) → t < 32 → getD new t 0 ≡ getD old t 0

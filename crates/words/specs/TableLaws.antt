@@ -11,7 +11,7 @@ use Rattle.shares.specs.BitLaws.{bit-zero}
 use Rattle.words.specs.Clause.{clauseTest, allClauses, position, termValue, Clauses}
 use Rattle.words.specs.ClauseLaws.{clause-ext, section-ext}
 use Rattle.words.specs.Sets.{allPass, clauseFails, allPassBut}
-use Rattle.words.specs.Table.{Terms, Changed, Constants}
+use Rattle.words.specs.Table.{Terms, Changed, ConstantWords}
 use Rattle.words.specs.TermLaws.{value-variable, value-constant, value-none, value-fixed}
 use Rattle.shares.specs.BitParts.{bit-low}
 
@@ -23,7 +23,7 @@ low-digit w v i p h l = here w ∙ sym (here v)
     here u = let e : 64 * u + i ≡ u * 2 ^ 6 + i = omega arith in ap (λ z. bit z p) e ∙ bit-low 6 u i h p l
 
 pub terms-started : (n m leaf : ℕ) (zero first last : List ℕ) → n + m ≤ 12 → ((t : ℕ) → t < 32 → getD zero t 0 ≡ 0)
-    → Constants leaf zero first → Changed n m 0 0 first last → Terms n m leaf 0 last
+    → ConstantWords leaf zero first → Changed n m 0 0 first last → Terms n m leaf 0 last
 terms-started n m leaf zero first last h none c v t l i k = go (decLt t (n + m)) (decLt t 32)
   where
     go : Dec (t < n + m) → Dec (t < 32) → bit (getD last t 0) i ≡ termValue n m leaf (64 * 0 + i) t

@@ -9,7 +9,7 @@ ghost use Rattle.shares.specs.Constant.{bit};
 ghost use Rattle.shares.specs.Tree.{joins};
 ghost use Rattle.words.specs.Clause.{clauseTest, allClauses, position, Clauses};
 ghost use Rattle.words.specs.Sets.{wordCount, inSet, Words, allPass, clauseFails, allPassBut, someOwn, Gathered, Merged};
-ghost use Rattle.words.specs.Table.{Terms, Changed, Constants};
+ghost use Rattle.words.specs.Table.{Terms, Changed, ConstantWords};
 
 // Bit i of the result is the test of a join at the bits i of a, b and c.
 fn join_word(a: u64, b: u64, c: u64) -> u64
@@ -88,7 +88,7 @@ pub fn leaf_values(constants: &[u64; 32], count: usize, place: usize) -> u64
 }
 
 // Whether bit p of x is set.
-fn digit(x: u64, p: usize) -> bool
+pub fn digit(x: u64, p: usize) -> bool
     requires { ⌜ p < 64 ⌝ }
     ensures { λ r. ⌜ r ≡ bit x p ⌝ }
 {
@@ -137,7 +137,7 @@ fn place_of(n: usize, m: usize, t: usize) -> usize
 // Puts the words of the constants into the table, from term 32.
 fn set_constants(leaf: u64, terms: &mut [u64])
     requires { ⌜ length (now terms) ≡ 64 ⌝ }
-    ensures { λ r. ⌜ Constants leaf (now (terms .entry)) (now (terms .exit)) ⌝ }
+    ensures { λ r. ⌜ ConstantWords leaf (now (terms .entry)) (now (terms .exit)) ⌝ }
 {
     let mut t: usize = 32;
     while t < 64 {
@@ -187,7 +187,7 @@ fn word_at(set: &[u64; 64], w: usize) -> u64
 }
 
 // The place of the lowest bit of x that is set, or 64.
-fn lowest(x: u64) -> usize
+pub fn lowest(x: u64) -> usize
     ensures { λ r. ⌜ r ≡ firstBelow 64 (bit x) ⌝ }
 {
     u64::trailing_zeros(x) as usize
@@ -458,8 +458,9 @@ fn gather(
     }
 }
 
-// The sets of fill_meets_with, into parts of any arrays.
-fn fill_sets(
+// The set of the free choices beside which some own choice passes all clauses of a section and, for each j, the set of those
+// beside which some own choice passes them and fails clause j of the section from byte `from`, from word 64 * j of `with`.
+pub fn fill_sets(
     clauses: &[u8; 768],
     start: usize,
     count: usize,
@@ -484,30 +485,6 @@ fn fill_sets(
     gather(clauses, start, count, from, rows, n, m, leaf, meets, with);
     merge_rows(meets, 1, n);
     merge_rows(with, rows, n);
-}
-
-// The set of the free choices beside which some own choice passes all clauses of a section and, for each j, the set of those
-// beside which some own choice passes them and fails clause j of the section from byte `from`, from word 64 * j of `with`.
-pub fn fill_meets_with(
-    clauses: &[u8; 768],
-    start: usize,
-    count: usize,
-    from: usize,
-    rows: usize,
-    n: usize,
-    m: usize,
-    leaf: u64,
-    meets: &mut [u64; 64],
-    with: &mut [u64; 2048],
-)
-    requires { ⌜ (n + m ≤ 12) × (rows ≤ 32) ⌝ }
-    requires { ⌜ Clauses (now clauses) start count ⌝ }
-    requires { ⌜ Clauses (now clauses) from rows ⌝ }
-    ensures { λ r. ⌜ Words (wordCount n) (λ w. getD (now (meets .exit)) w 0) (λ z. someOwn n m (allPass (now (clauses .entry)) start count n m leaf) (z % 2 ^ n)) ⌝ }
-    ensures { λ r. ⌜ ((w : ℕ) → wordCount n ≤ w → getD (now (meets .exit)) w 0 ≡ getD (now (meets .entry)) w 0) ⌝ }
-    ensures { λ r. ⌜ ((j : ℕ) → j < rows → Words (wordCount n) (λ w. getD (now (with .exit)) (64 * j + w) 0) (λ z. someOwn n m (allPassBut (now (clauses .entry)) start count (from + 4 * j) n m leaf) (z % 2 ^ n))) ⌝ }
-{
-    fill_sets(clauses, start, count, from, rows, n, m, leaf, meets, with);
 }
 
 // The set of the free choices beside which some own choice passes all clauses of a section.
