@@ -1,0 +1,61 @@
+-- `plans::all_placed` meets its contract. The loop's invariant: the first j entries have a place. Assumes nothing.
+use mathlib.Core.Path.{sym}
+use Prim.Native.Nat.{_-_, _≤_}
+use native.Mathlib.Nat.{le-antisymm}
+use native.Mathlib.Omega.{arith}
+use lib.Dec.{T}
+use borrow.Author.Needs.{needs}
+use Rattle.plans.specs.FillLaws.{placed-none, placed-more, placed-not}
+use Rattle.plans.specs.Plan.{isPlaced}
+use Rattle.shares.specs.Test.{is-true}
+use Rattle.shares.specs.Below.{everyBelow}
+use Rattle.plans.proofs.all_placed.Statement.{statement}
+use Rattle.plans.proofs.all_placed.Tie as tie
+
+abbrev Inv-loop : tie.InvT-loop
+Inv-loop place entries j₀ j = (j ≤ entries) × T (everyBelow j (isPlaced place))
+
+abbrev μ-loop : tie.MeasureT-loop
+μ-loop place entries j₀ j = entries - j
+
+loop-holds : tie.Need-loop-holds Inv-loop μ-loop
+loop-holds c = (omega arith, placed-none (c .args .place .now))
+
+mul-if1 : tie.Need-mul-if1 Inv-loop μ-loop
+mul-if1 c = search needs
+
+element-copy-out-if1 : tie.Need-element-copy-out-if1 Inv-loop μ-loop
+element-copy-out-if1 c = search needs
+
+returns : tie.Need-returns Inv-loop μ-loop
+returns c = placed-not (c .before .before .before .before .args .place .now) _ _ (c .before .before .loop-test .taken) (c .if1 .taken)
+
+add-j : tie.Need-add-j Inv-loop μ-loop
+add-j c = search needs
+
+loop-less : tie.Need-loop-less Inv-loop μ-loop
+loop-less c = search needs
+
+loop-again : tie.Need-loop-again Inv-loop μ-loop
+loop-again c = (omega (arith, c .before .before .loop-test .taken), placed-more (c .before .before .before .before .args .place .now) _ (c .before .before .before .loop .inv .1) (c .if1 .left))
+
+returns-2 : tie.Need-returns-2 Inv-loop μ-loop
+returns-2 c =
+    let l = c .before .loop in
+    let e = le-antisymm (l .inv .0) (c .loop-test .left) in
+    sym (is-true _ (rw (← e) (l .inv .1)))
+
+pub all-placed-spec : {M : Type 1} → statement M
+all-placed-spec =
+    tie.close
+    (tie.spec
+    Inv-loop
+    μ-loop
+    loop-holds
+    mul-if1
+    element-copy-out-if1
+    returns
+    add-j
+    loop-less
+    loop-again
+    returns-2)

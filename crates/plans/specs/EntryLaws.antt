@@ -1,0 +1,201 @@
+-- One entry more at a leaf, and all of them. Assumes nothing.
+use mathlib.Core.Path.{_≡_, refl, sym, ap, ap₂, _∙_}
+use mathlib.Core.Bool.{Bool, true, false, cond, _&&_, and-false}
+use mathlib.Core.List.{List}
+use Prim.Native.Nat.{ℕ, _+_, _*_, _^_, _≤_, _<_}
+use native.Mathlib.Nat.{add-zero}
+use native.Mathlib.Decide.{decLt}
+use native.Mathlib.Numerals.{add-one}
+use native.Mathlib.Omega.{arith}
+use lib.Dec.{T, T-not, ltb, eqb}
+use lib.ListN.{length, getD, set, length-set}
+use lib.Seq.{getD-set-same, getD-set-other}
+use borrow.Author.Tests.{lt-ltb, le-ltb, eq-eqb, ne-eqb}
+use Rattle.shares.specs.Below.{someBelow, firstBelow, countBelow, one}
+use Rattle.shares.specs.BelowLaws.{first-ext, some-found, first-passes}
+use Rattle.shares.specs.Blocks.{leaf-lt}
+use Rattle.leaves.specs.Choices.{least}
+use Rattle.leaves.specs.Problem.{Problem}
+use Rattle.leaves.specs.ProblemLaws.{place-lt}
+use Rattle.words.specs.Clause.{Clauses}
+use Rattle.words.specs.Sets.{wordCount, Periodic}
+use Rattle.words.specs.GatherLaws.{periodic-some, periodic-first}
+use Rattle.plans.specs.Numbers.{numbered}
+use Rattle.plans.specs.Plan.{nowhere, homeOf, rankOf, specialChoice, placeAfter, choiceAfter}
+use Rattle.plans.specs.PlanLaws.{found-some, none-found, found-here, not-here, place-there, place-nowhere, choice-there, choice-nowhere, rank-here}
+use Rattle.plans.specs.Tests.{takes, Placed}
+use Rattle.plans.specs.Entries.{AtLeaf, Fits, Entries, After}
+
+-- ---- a search by words finds what a search of the numbers below 2 ^ n finds
+
+module _ (n : ℕ) (p : ℕ → Bool) (per : Periodic n p) where
+  pub words-found : firstBelow (64 * wordCount n) p < 64 * wordCount n → (firstBelow (2 ^ n) p < 2 ^ n) × (firstBelow (64 * wordCount n) p ≡ firstBelow (2 ^ n) p)
+  words-found l =
+      let t : T (someBelow (2 ^ n) p) = rw (periodic-some n p per) at (found-some (64 * wordCount n) p l) in
+      let (i, u, v) = some-found (2 ^ n) p t in
+      (first-passes (2 ^ n) p i u v .0, periodic-first n p t)
+
+  pub words-none : 64 * wordCount n ≤ firstBelow (64 * wordCount n) p → 2 ^ n ≤ firstBelow (2 ^ n) p
+  words-none l = go (decLt (firstBelow (2 ^ n) p) (2 ^ n))
+    where
+      go : Dec (firstBelow (2 ^ n) p < 2 ^ n) → 2 ^ n ≤ firstBelow (2 ^ n) p
+      go (no m) = omega arith
+      go (yes m) =
+          absurd (T-not (someBelow (64 * wordCount n) p) (none-found (64 * wordCount n) p l)
+          (rw (periodic-some n p per) (found-some (2 ^ n) p m)))
+
+module _ (n h : ℕ) (R : Problem ℕ) (k : ℕ) (F : Fits h k R) (b : ℕ) (bl : b < 2 ^ h) (allowed : ℕ → Bool) (special : ℕ → ℕ → Bool)
+    (L : AtLeaf n b R allowed special) where
+  -- the choice that the code finds for entry e
+  abbrev found : ℕ → ℕ
+  found e = firstBelow (64 * wordCount n) (λ z. allowed z && special e z)
+
+  test : ℕ → ℕ → Bool
+  test e z = R .pos b z && R .dis e b z
+
+  found-is : (e : ℕ) → e < R .count → found e ≡ firstBelow (64 * wordCount n) (test e)
+  unfolding test
+  found-is e l = first-ext (64 * wordCount n) _ _ (λ z m. ap₂ _&&_ (L .pos z m) (L .dis e l z m))
+
+  test-periodic : (e : ℕ) → e < R .count → Periodic n (test e)
+  unfolding test
+  test-periodic e l z = ap₂ _&&_ (L .pos-periodic z) (L .dis-periodic e l z)
+
+  -- what entry e is after this leaf, where it takes a place, and where it does not
+  pub record Step (e : ℕ) (taken : Bool) : Type 0 where
+    pub home-here : one (eqb (homeOf n h R e) b) ≡ one taken
+    pub place-new : placeAfter n h R k (b + 1) e ≡ cond taken (b * 2 ^ k + countBelow e (λ i. eqb (homeOf n h R i) b)) (placeAfter n h R k b e)
+    pub choice-new : choiceAfter n h R (b + 1) e ≡ cond taken (found e) (choiceAfter n h R b e)
+
+  -- a place is below the mark of having none
+  place-low : (e : ℕ) → e < R .count → homeOf n h R e < b → placeAfter n h R k b e ≡ nowhere → ⊥
+  place-low e l m q =
+      let u : homeOf n h R e * 2 ^ k + rankOf n h R e < 2 ^ (h + k) = leaf-lt h k (omega arith) (place-lt (least n) h (numbered n R) k e (F .few) l) in
+      omega (arith, sym (place-there n h R k e b m) ∙ q, F .low)
+
+  pub step : (e : ℕ) → e < R .count → (place : ℕ) → place ≡ placeAfter n h R k b e → Step e (eqb place nowhere && ltb (found e) (64 * wordCount n))
+  unfolding test
+  step e l place pl = go (decLt (homeOf n h R e) b)
+    where
+      stays : eqb (homeOf n h R e) b ≡ false → placeAfter n h R k (b + 1) e ≡ placeAfter n h R k b e → choiceAfter n h R (b + 1) e ≡ choiceAfter n h R b e
+          → (eqb place nowhere && ltb (found e) (64 * wordCount n)) ≡ false → Step e (eqb place nowhere && ltb (found e) (64 * wordCount n))
+      stays x y z w = record { home-here = rw (w, x); place-new = rw w y; choice-new = rw w z }
+
+      later : (g : b ≤ homeOf n h R e) → Dec (found e < 64 * wordCount n) → Step e (eqb place nowhere && ltb (found e) (64 * wordCount n))
+      later g (yes m) =
+          let f = words-found n (test e) (test-periodic e l) (rw (found-is e l) at m) in
+          let same : found e ≡ specialChoice n h R e b = found-is e l ∙ f .1 in
+          let home : homeOf n h R e ≡ b = found-here n h R e b bl g (f .0) in
+          let t : (eqb place nowhere && ltb (found e) (64 * wordCount n)) ≡ true =
+          rw (eq-eqb place nowhere (pl ∙ place-nowhere n h R k e b g), lt-ltb (found e) (64 * wordCount n) m) in
+          record {
+            home-here = rw (t, eq-eqb (homeOf n h R e) b home);
+            place-new = rw t (place-there n h R k e (b + 1) (omega arith) ∙ ap₂ (λ x y. x * 2 ^ k + y) home (rank-here n h R e b home));
+            choice-new = rw t (choice-there n h R e (b + 1) (omega arith) ∙ ap (specialChoice n h R e) home ∙ sym same);
+          }
+      later g (no m) =
+          let none : 64 * wordCount n ≤ found e = omega arith in
+          let f = words-none n (test e) (test-periodic e l) (rw (found-is e l) at none) in
+          let after : b < homeOf n h R e = not-here n h R e b bl g f in
+          stays (ne-eqb (homeOf n h R e) b (λ q. omega arith))
+          (place-nowhere n h R k e (b + 1) (omega arith) ∙ sym (place-nowhere n h R k e b g))
+          (choice-nowhere n h R e (b + 1) (omega arith) ∙ sym (choice-nowhere n h R e b g))
+          (rw (le-ltb (found e) (64 * wordCount n) (omega arith)) (and-false (eqb place nowhere)))
+
+      go : Dec (homeOf n h R e < b) → Step e (eqb place nowhere && ltb (found e) (64 * wordCount n))
+      go (yes m) =
+          stays (ne-eqb (homeOf n h R e) b (λ q. omega arith))
+          (place-there n h R k e (b + 1) (omega arith) ∙ sym (place-there n h R k e b m))
+          (choice-there n h R e (b + 1) (omega arith) ∙ sym (choice-there n h R e b m))
+          (rw (ne-eqb place nowhere (λ q. place-low e l m (sym pl ∙ q))))
+      go (no m) = later (omega arith) (decLt (found e) (64 * wordCount n))
+
+  -- before the first entry
+  pub entries-none : (place choice : List ℕ) → ((j : ℕ) → j < R .count → getD place j 0 ≡ placeAfter n h R k b j)
+      → ((j : ℕ) → j < R .count → getD choice j 0 ≡ choiceAfter n h R b j) → Entries n h R k b 0 (b * 2 ^ k) place choice
+  unfolding countBelow
+  entries-none place choice p c = record {
+    next-is = sym (add-zero (b * 2 ^ k));
+    places-done = λ j l. absurd (omega arith);
+    choices-done = λ j l. absurd (omega arith);
+    places-left = λ j _ l. p j l;
+    choices-left = λ j _ l. c j l;
+  }
+
+  -- one entry more
+  pub entries-more : (e next r : ℕ) (place choice place′ choice′ : List ℕ) → e < R .count → e < length place → e < length choice
+      → Entries n h R k b e next place choice → Placed place choice e next (64 * wordCount n) (found e) r place′ choice′
+      → Entries n h R k b (e + 1) r place′ choice′
+  unfolding countBelow takes
+  entries-more e next r place choice place′ choice′ l lp lc E P = record {
+    next-is = next-new;
+    places-done = done (placeAfter n h R k (b + 1)) place′
+        (λ j m. other place place′ next t (P .places) j (λ q. omega arith) ∙ E .places-done j m) place-e;
+    choices-done = done (choiceAfter n h R (b + 1)) choice′
+        (λ j m. other choice choice′ (found e) t (P .choices) j (λ q. omega arith) ∙ E .choices-done j m) choice-e;
+    places-left = λ j m u. other place place′ next t (P .places) j (λ q. omega arith) ∙ E .places-left j (omega arith) u;
+    choices-left = λ j m u. other choice choice′ (found e) t (P .choices) j (λ q. omega arith) ∙ E .choices-left j (omega arith) u;
+  }
+    where
+      St : Step e (takes place e (64 * wordCount n) (found e))
+      St = step e l (getD place e 0) (E .places-left e (omega arith) l)
+
+      next-new : r ≡ b * 2 ^ k + countBelow (e + 1) (λ i. eqb (homeOf n h R i) b)
+      next-new =
+          P .next′ ∙ ap₂ _+_ (E .next-is) (sym (St .home-here))
+          ∙ omega arith
+          ∙ ap (λ c. b * 2 ^ k + countBelow c (λ i. eqb (homeOf n h R i) b)) (sym (add-one e))
+
+      -- an entry other than e is as it was
+      other : (old new : List ℕ) (v : ℕ) (t : Bool) → new ≡ cond t (set old e v) old → (j : ℕ) → (j ≡ e → ⊥) → getD new j 0 ≡ getD old j 0
+      other old new v true q j n = ap (λ x. getD x j 0) q ∙ getD-set-other old e j v 0 n
+      other old new v false q j n = ap (λ x. getD x j 0) q
+
+      -- and e is what was stored, if anything was
+      same : (old new : List ℕ) (v : ℕ) (t : Bool) → e < length old → new ≡ cond t (set old e v) old → getD new e 0 ≡ cond t v (getD old e 0)
+      same old new v true m q = ap (λ x. getD x e 0) q ∙ getD-set-same old e v 0 m
+      same old new v false m q = ap (λ x. getD x e 0) q
+
+      t : Bool
+      t = takes place e (64 * wordCount n) (found e)
+
+      place-e : getD place′ e 0 ≡ placeAfter n h R k (b + 1) e
+      place-e =
+          same place place′ next t lp (P .places)
+          ∙ ap₂ (cond t) (E .next-is) (E .places-left e (omega arith) l) ∙ sym (St .place-new)
+
+      choice-e : getD choice′ e 0 ≡ choiceAfter n h R (b + 1) e
+      choice-e = same choice choice′ (found e) t lc (P .choices) ∙ ap (cond t (found e)) (E .choices-left e (omega arith) l) ∙ sym (St .choice-new)
+
+      done : (A : ℕ → ℕ) (new : List ℕ) → ((j : ℕ) → j < e → getD new j 0 ≡ A j) → getD new e 0 ≡ A e → (j : ℕ) → j < e + 1 → getD new j 0 ≡ A j
+      done A new f g j m = pick (decLt j e)
+        where
+          pick : Dec (j < e) → getD new j 0 ≡ A j
+          pick (yes u) = f j u
+          pick (no u) = let q : j ≡ e = omega arith in ap (λ i. getD new i 0) q ∙ g ∙ ap A (sym q)
+
+-- after the last entry
+pub entries-all : (n h : ℕ) (R : Problem ℕ) (k b e next : ℕ) (place choice : List ℕ) → R .count ≤ e → Entries n h R k b e next place choice
+    → After n h R k (b + 1) place choice
+entries-all n h R k b e next place choice l E = record { places = λ j m. E .places-done j (omega arith); choices = λ j m. E .choices-done j (omega arith) }
+
+-- the next place moves on by one at most
+pub placed-next : {place choice : List ℕ} {e next limit x r : ℕ} {place′ choice′ : List ℕ} → Placed place choice e next limit x r place′ choice′ → r ≤ next + 1
+placed-next {place} {choice} {e} {next} {limit} {x} P = rw (P .next′) (go (takes place e limit x))
+  where
+    go : (t : Bool) → next + one t ≤ next + 1
+    go true = omega arith
+    go false = omega arith
+
+-- and the tables keep their lengths
+pub placed-lengths : {place choice : List ℕ} {e next limit x r : ℕ} {place′ choice′ : List ℕ} → Placed place choice e next limit x r place′ choice′
+    → (length place′ ≡ length place) × (length choice′ ≡ length choice)
+placed-lengths {place} {choice} {e} {next} {limit} {x} P = (ap length (P .places) ∙ go (takes place e limit x) place next, ap length (P .choices) ∙ go (takes place e limit x) choice x)
+  where
+    go : (t : Bool) (l : List ℕ) (v : ℕ) → length (cond t (set l e v) l) ≡ length l
+    go true l v = length-set l e v
+    go false l v = refl
+
+-- fewer clauses of a section
+pub clauses-fewer : {clauses : List ℕ} {start count k : ℕ} → Clauses clauses start count → k ≤ count → Clauses clauses start k
+clauses-fewer C l = record { room = omega (arith, C .room); terms = λ i m. C .terms i (omega arith) }

@@ -1,0 +1,13 @@
+pub mod Numbers
+pub mod NumberLaws
+pub mod Plan
+pub mod PlanLaws
+pub mod Tests
+pub mod Entries
+pub mod EntryLaws
+pub mod PlacedLaws
+pub mod StoredLaws
+pub mod LeafLaws
+pub mod FillLaws
+pub mod ShownLaws
+pub mod SolveLaws

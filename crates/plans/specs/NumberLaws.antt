@@ -1,0 +1,84 @@
+-- Choices as numbers: what is picked is the least number that passes, and two problems with the same tests have the same fixed solution.
+-- Assumes nothing.
+use mathlib.Core.Path.{_≡_, refl, ap, ap₂, _∙_, fun-ext}
+use mathlib.Core.Bool.{Bool, true, false, cond, _&&_}
+use Prim.Native.Nat.{ℕ, _+_, _/_, _%_, _^_, _<_}
+use native.Mathlib.Nat.{le-trans, le-of-lt}
+use lib.Dec.{T, ltb, eqb, ltb→lt}
+use lib.Pow.{shr-lt}
+use Rattle.shares.specs.Below.{everyBelow, someBelow, firstBelow}
+use Rattle.shares.specs.BelowLaws.{every-ext, some-ext, first-ext, count-ext, some-intro, some-found, first-passes}
+use Rattle.leaves.specs.Choices.{Picker, someChoice, least, value, digits}
+use Rattle.leaves.specs.ChoiceLaws.{value-digits, pick-first, some-row}
+use Rattle.leaves.specs.Problem.{Problem, plainAt, specialAt, solvable, home, place, guest, choiceAt, candidate}
+
+-- ---- a row that is picked, as a number
+
+module _ (n : ℕ) (p : ℕ → Bool) where
+  pub some-number : someChoice (least n) (λ v. p (value v)) ≡ someBelow (2 ^ n) p
+  some-number = some-row n (λ v. p (value v)) ∙ some-ext (2 ^ n) _ p (λ i l. ap p (value-digits n i l))
+
+  pub pick-number : T (someBelow (2 ^ n) p) → value (least n .pick (λ v. p (value v))) ≡ firstBelow (2 ^ n) p
+  pick-number t =
+      let same : firstBelow (2 ^ n) (λ k. p (value (digits n k))) ≡ firstBelow (2 ^ n) p = first-ext (2 ^ n) _ p (λ i l. ap p (value-digits n i l)) in
+      let (i, l, u) = some-found (2 ^ n) p t in
+      ap value (pick-first n (λ v. p (value v)) (some-intro (2 ^ n) _ i l (rw (value-digits n i l) u)))
+      ∙ ap (λ k. value (digits n k)) same
+      ∙ value-digits n (firstBelow (2 ^ n) p) (first-passes (2 ^ n) p i l u .0)
+
+-- ---- two problems with the same tests, below the bounds that count
+
+module _ {X : Type 0} (C : Picker X) (h : ℕ) (P Q : Problem X) (count : P .count ≡ Q .count)
+    (pos : (b : ℕ) → b < 2 ^ h → (x : X) → P .pos b x ≡ Q .pos b x)
+    (dis : (j : ℕ) → j < P .count → (b : ℕ) → b < 2 ^ h → (x : X) → P .dis j b x ≡ Q .dis j b x) where
+  plain-same : (b : ℕ) → b < 2 ^ h → plainAt C P b ≡ plainAt C Q b
+  unfolding plainAt
+  plain-same b l = ap (someChoice C) (fun-ext (pos b l))
+
+  special-same : (j : ℕ) → j < P .count → (b : ℕ) → b < 2 ^ h → specialAt C P j b ≡ specialAt C Q j b
+  unfolding specialAt
+  special-same j m b l = ap (someChoice C) (fun-ext (λ x. ap₂ _&&_ (pos b l x) (dis j m b l x)))
+
+  pub solvable-same : solvable C h P ≡ solvable C h Q
+  unfolding solvable
+  solvable-same =
+      ap₂ _&&_
+      (every-ext (2 ^ h) _ _ plain-same)
+      (every-ext (P .count) _ _ (λ j m. some-ext (2 ^ h) _ _ (special-same j m)) ∙ ap (λ k. everyBelow k (λ j. someBelow (2 ^ h) (specialAt C Q j))) count)
+
+  home-same : (j : ℕ) → j < P .count → home C h P j ≡ home C h Q j
+  unfolding home
+  home-same j m = first-ext (2 ^ h) _ _ (special-same j m)
+
+  place-same : (j : ℕ) → j < P .count → place C h P j ≡ place C h Q j
+  unfolding place
+  place-same j m = count-ext j _ _ (λ i l. ap₂ eqb (home-same i (le-trans l (le-of-lt m))) (home-same j m))
+
+  guest-same : (b r : ℕ) → guest C h P b r ≡ guest C h Q b r
+  unfolding guest
+  guest-same b r =
+      first-ext (P .count) _ _ (λ j m. ap₂ (λ x y. eqb x b && eqb y r) (home-same j m) (place-same j m))
+      ∙ ap (λ k. firstBelow k (λ j. eqb (home C h Q j) b && eqb (place C h Q j) r)) count
+
+  choice-same : (b r : ℕ) → b < 2 ^ h → choiceAt C h P b r ≡ choiceAt C h Q b r
+  unfolding choiceAt
+  choice-same b r l = go (ltb (guest C h P b r) (P .count)) refl
+    where
+      guests : guest C h P b r ≡ guest C h Q b r
+      guests = guest-same b r
+
+      tests : ltb (guest C h P b r) (P .count) ≡ ltb (guest C h Q b r) (Q .count)
+      tests = ap₂ ltb guests count
+
+      go : (v : Bool) → ltb (guest C h P b r) (P .count) ≡ v
+          → cond (ltb (guest C h P b r) (P .count)) (C .pick (λ x. P .pos b x && P .dis (guest C h P b r) b x)) (C .pick (P .pos b))
+          ≡ cond (ltb (guest C h Q b r) (Q .count)) (C .pick (λ x. Q .pos b x && Q .dis (guest C h Q b r) b x)) (C .pick (Q .pos b))
+      go true e =
+          let m = ltb→lt (guest C h P b r) (P .count) (rw e tt) in
+          rw (← tests, e)
+          (ap (C .pick) (fun-ext (λ x. ap₂ _&&_ (pos b l x) (dis (guest C h P b r) m b l x ∙ ap (λ j. Q .dis j b x) guests))))
+      go false e = rw (← tests, e) (ap (C .pick) (fun-ext (pos b l)))
+
+  pub candidate-same : (k s : ℕ) → s < 2 ^ (h + k) → candidate C h P k s ≡ candidate C h Q k s
+  unfolding candidate
+  candidate-same k s l = choice-same (s / 2 ^ k) (s % 2 ^ k) (shr-lt h k l)

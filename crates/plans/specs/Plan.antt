@@ -1,0 +1,42 @@
+-- The entries of a plan while it is made, leaf by leaf: where each disequation stands, and with which choice. Assumes nothing.
+use mathlib.Core.Bool.{Bool, not, cond, _&&_}
+use mathlib.Core.List.{List}
+use Prim.Native.Nat.{ℕ, _+_, _*_, _^_}
+use lib.Dec.{ltb, eqb}
+use lib.ListN.{getD}
+use Rattle.shares.specs.Below.{firstBelow}
+use Rattle.leaves.specs.Choices.{least}
+use Rattle.leaves.specs.Problem.{Problem, home, place}
+use Rattle.plans.specs.Numbers.{numbered}
+
+-- the place of an entry that has none yet: past every sub-leaf
+abbrev pub nowhere : ℕ
+nowhere = 2048
+
+-- entry j of a table of places has one
+abbrev pub isPlaced : List ℕ → ℕ → Bool
+isPlaced place j = not (eqb (getD place j 0) nowhere)
+
+module _ (n h : ℕ) (R : Problem ℕ) where
+  -- the leaf where disequation j stands, and its sub-leaf there
+  abbrev pub homeOf : ℕ → ℕ
+  homeOf j = home (least n) h (numbered n R) j
+
+  abbrev pub rankOf : ℕ → ℕ
+  rankOf j = place (least n) h (numbered n R) j
+
+  -- the least choice for the positive clauses at leaf b
+  abbrev pub plainChoice : ℕ → ℕ
+  plainChoice b = firstBelow (2 ^ n) (R .pos b)
+
+  -- the least for disequation j beside them
+  abbrev pub specialChoice : ℕ → ℕ → ℕ
+  specialChoice j b = firstBelow (2 ^ n) (λ x. R .pos b x && R .dis j b x)
+
+  -- the sub-leaf of disequation j after the first `done` leaves, each split k times
+  unfoldable pub placeAfter : ℕ → ℕ → ℕ → ℕ
+  placeAfter k done j = cond (ltb (homeOf j) done) (homeOf j * 2 ^ k + rankOf j) nowhere
+
+  -- its choice then
+  unfoldable pub choiceAfter : ℕ → ℕ → ℕ
+  choiceAfter done j = cond (ltb (homeOf j) done) (specialChoice j (homeOf j)) 0

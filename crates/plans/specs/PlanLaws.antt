@@ -1,0 +1,112 @@
+-- Laws of a plan while it is made: one entry at one leaf, and what the plan has at the end. Assumes nothing.
+use mathlib.Core.Path.{_≡_, ap}
+use mathlib.Core.Bool.{Bool, not, _&&_}
+use mathlib.Core.Logic.{_⊎_, inl, inr}
+use Prim.Native.Nat.{ℕ, _+_, _*_, _^_, _≤_, _<_}
+use native.Mathlib.Nat.{eq-or-lt-of-le, le-antisymm}
+use native.Mathlib.Omega.{arith}
+use lib.Dec.{T, T-not, not-T, eqb}
+use borrow.Author.Tests.{lt-ltb, le-ltb}
+use Rattle.shares.specs.Test.{and-intro, and-left, and-right}
+use Rattle.shares.specs.Below.{everyBelow, someBelow, firstBelow, countBelow}
+use Rattle.shares.specs.BelowLaws.{some-intro, some-found, first-min, first-below, first-passes, every-at, every-intro}
+use Rattle.leaves.specs.Choices.{least}
+use Rattle.leaves.specs.Problem.{Problem, plainAt, specialAt, solvable, home, place}
+use Rattle.plans.specs.Numbers.{numbered}
+use Rattle.plans.specs.NumberLaws.{some-number}
+use Rattle.plans.specs.Plan.{nowhere, homeOf, rankOf, plainChoice, specialChoice, placeAfter, choiceAfter}
+
+-- a search below a bound finds something exactly if something passes
+pub found-some : (m : ℕ) (p : ℕ → Bool) → firstBelow m p < m → T (someBelow m p)
+found-some m p l = some-intro m p (firstBelow m p) l (first-below m p l)
+
+pub none-found : (m : ℕ) (p : ℕ → Bool) → m ≤ firstBelow m p → T (not (someBelow m p))
+none-found m p l = not-T (someBelow m p) (λ t. let (i, u, v) = some-found m p t in omega (arith, first-passes m p i u v .0))
+
+module _ (n h : ℕ) (R : Problem ℕ) where
+  -- the tests at a leaf as searches of numbers
+  pub plain-is : (b : ℕ) → plainAt (least n) (numbered n R) b ≡ someBelow (2 ^ n) (R .pos b)
+  unfolding plainAt
+  plain-is b = some-number n (R .pos b)
+
+  pub special-is : (j b : ℕ) → specialAt (least n) (numbered n R) j b ≡ someBelow (2 ^ n) (λ x. R .pos b x && R .dis j b x)
+  unfolding specialAt
+  special-is j b = some-number n (λ x. R .pos b x && R .dis j b x)
+
+  -- ---- one entry at one leaf
+
+  -- it was nowhere before leaf b and finds a choice: it stands here
+  pub found-here : (j b : ℕ) → b < 2 ^ h → b ≤ homeOf n h R j → specialChoice n h R j b < 2 ^ n
+      → homeOf n h R j ≡ b
+  unfolding home
+  found-here j b l m f =
+      le-antisymm
+      (first-min (2 ^ h) (specialAt (least n) (numbered n R) j) b (rw (special-is j b) (found-some (2 ^ n) (λ x. R .pos b x && R .dis j b x) f)))
+      m
+
+  -- it finds none: it stands later, or nowhere
+  pub not-here : (j b : ℕ) → b < 2 ^ h → b ≤ homeOf n h R j → 2 ^ n ≤ specialChoice n h R j b
+      → b < homeOf n h R j
+  unfolding home
+  not-here j b l m f = go (eq-or-lt-of-le m)
+    where
+      p : ℕ → Bool
+      p = specialAt (least n) (numbered n R) j
+
+      go : (b ≡ firstBelow (2 ^ h) p) ⊎ (b < firstBelow (2 ^ h) p) → b < firstBelow (2 ^ h) p
+      go (inr k) = k
+      go (inl e) =
+          let t : T (p b) = rw (← e) at (first-below (2 ^ h) p (rw (← e) l)) in
+          absurd (T-not (someBelow (2 ^ n) (λ x. R .pos b x && R .dis j b x)) (none-found (2 ^ n) (λ x. R .pos b x && R .dis j b x) f) (rw (special-is j b) at t))
+
+  -- ---- entries
+
+  module _ (k : ℕ) where
+    pub place-there : (j done : ℕ) → homeOf n h R j < done
+        → placeAfter n h R k done j ≡ homeOf n h R j * 2 ^ k + rankOf n h R j
+    unfolding placeAfter
+    place-there j done l = rw (lt-ltb (homeOf n h R j) done l)
+
+    pub place-nowhere : (j done : ℕ) → done ≤ homeOf n h R j → placeAfter n h R k done j ≡ nowhere
+    unfolding placeAfter
+    place-nowhere j done l = rw (le-ltb (homeOf n h R j) done l)
+
+  pub choice-there : (j done : ℕ) → homeOf n h R j < done
+      → choiceAfter n h R done j ≡ specialChoice n h R j (homeOf n h R j)
+  unfolding choiceAfter
+  choice-there j done l = rw (lt-ltb (homeOf n h R j) done l)
+
+  pub choice-nowhere : (j done : ℕ) → done ≤ homeOf n h R j → choiceAfter n h R done j ≡ 0
+  unfolding choiceAfter
+  choice-nowhere j done l = rw (le-ltb (homeOf n h R j) done l)
+
+  -- the rank of one that stands at leaf b: how many before it do
+  pub rank-here : (j b : ℕ) → homeOf n h R j ≡ b → rankOf n h R j ≡ countBelow j (λ i. eqb (homeOf n h R i) b)
+  unfolding place
+  rank-here j b e = ap (λ c. countBelow j (λ i. eqb (homeOf n h R i) c)) e
+
+  -- ---- at the end
+
+  -- all leaves have a choice, and all disequations a place: the problem is solvable
+  pub solvable-of : ((b : ℕ) → b < 2 ^ h → plainChoice n h R b < 2 ^ n) → ((j : ℕ) → j < R .count → homeOf n h R j < 2 ^ h)
+      → T (solvable (least n) h (numbered n R))
+  unfolding solvable home
+  solvable-of f g =
+      and-intro (everyBelow (2 ^ h) (plainAt (least n) (numbered n R))) _
+      (every-intro (2 ^ h) _ (λ b l. rw (plain-is b) (found-some (2 ^ n) (R .pos b) (f b l))))
+      (every-intro (R .count) _ (λ j l. found-some (2 ^ h) (specialAt (least n) (numbered n R) j) (g j l)))
+
+  -- one leaf has none, or one disequation: it is not
+  pub unsolvable-plain : (b : ℕ) → b < 2 ^ h → 2 ^ n ≤ plainChoice n h R b → T (not (solvable (least n) h (numbered n R)))
+  unfolding solvable
+  unsolvable-plain b l f =
+      not-T (solvable (least n) h (numbered n R)) (λ t.
+      T-not (someBelow (2 ^ n) (R .pos b)) (none-found (2 ^ n) (R .pos b) f)
+      (rw (plain-is b) at (every-at (2 ^ h) (plainAt (least n) (numbered n R)) (and-left (everyBelow (2 ^ h) (plainAt (least n) (numbered n R))) _ t) b l)))
+
+  pub unsolvable-special : (j : ℕ) → j < R .count → 2 ^ h ≤ homeOf n h R j → T (not (solvable (least n) h (numbered n R)))
+  unfolding solvable home
+  unsolvable-special j l f =
+      not-T (solvable (least n) h (numbered n R)) (λ t.
+      T-not (someBelow (2 ^ h) (specialAt (least n) (numbered n R) j)) (none-found (2 ^ h) (specialAt (least n) (numbered n R) j) f)
+      (every-at (R .count) (λ j. someBelow (2 ^ h) (specialAt (least n) (numbered n R) j)) (and-right (everyBelow (2 ^ h) (plainAt (least n) (numbered n R))) _ t) j l))

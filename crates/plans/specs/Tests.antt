@@ -1,0 +1,107 @@
+-- The tests that a stored question poses at its leaves, and one entry of a plan at one leaf. Assumes nothing.
+use mathlib.Core.Path.{_≡_}
+use mathlib.Core.Bool.{Bool, not, cond, _&&_}
+use mathlib.Core.List.{List}
+use Prim.Native.Nat.{ℕ, _+_, _-_, _*_, _%_, _^_, _<_, _≤_}
+use lib.Dec.{ltb, eqb}
+use lib.ListN.{getD, set}
+use Rattle.shares.specs.Below.{one}
+use Rattle.shares.specs.Blocks.{firstOf}
+use Rattle.shares.specs.Constant.{constantLevels, bit, numberOf}
+use Rattle.leaves.specs.Problem.{Problem}
+use Rattle.words.specs.Clause.{Clauses}
+use Rattle.words.specs.Sets.{allPass, clauseFails, allPassBut, someOwn}
+use Rattle.plans.specs.Plan.{nowhere}
+use Rattle.plans.specs.declared.Search.{Search}
+use Rattle.plans.specs.declared.Search.the-variants.{First, Stuck, Avoiding}
+
+-- what is read of a question: its clauses and constants as they are stored, how many there are, and how many variables
+pub record Stored : Type 0 where
+  pub clauses : List ℕ
+  pub counts : List ℕ
+  pub constants : List ℕ
+  pub defined : ℕ
+  pub free : ℕ
+  pub own : ℕ
+
+-- the same from its parts
+abbrev pub stored : List ℕ → List ℕ → List ℕ → ℕ → ℕ → ℕ → Stored
+stored clauses counts constants defined free own = record { clauses = clauses; counts = counts; constants = constants; defined = defined; free = free; own = own }
+
+-- its clauses can be read
+pub record Readable (clauses counts : List ℕ) (n m : ℕ) : Type 0 where
+  pub variables : n + m ≤ 12
+  pub first-positive : Clauses clauses 0 (getD counts 0 0)
+  pub first-disequation : Clauses clauses 256 (getD counts 1 0)
+  pub second-positive : Clauses clauses 384 (getD counts 2 0)
+  pub second-disequation : Clauses clauses 640 (getD counts 3 0)
+  pub few : (getD counts 1 0 ≤ 31) × (getD counts 3 0 ≤ 31)
+
+-- the values of the constants at leaf b of 2 ^ h, constant i at bit i
+unfoldable pub leafValues : Stored → ℕ → ℕ → ℕ
+leafValues S h b = numberOf 64 (λ i. ltb i (S .defined) && bit (getD (S .constants) i 0) (firstOf h constantLevels b))
+
+-- choice x of the free variables meets the first system's positive clauses at a leaf with these values
+abbrev pub firstMeets : Stored → ℕ → ℕ → Bool
+firstMeets S leaf x = allPass (S .clauses) 0 (getD (S .counts) 0 0) (S .free) 0 leaf x
+
+-- and its disequation j
+abbrev pub firstDiffers : Stored → ℕ → ℕ → ℕ → Bool
+firstDiffers S leaf j x = clauseFails (S .clauses) (256 + 4 * j) (S .free) 0 leaf x
+
+-- beside x some own choice meets the second system's positive clauses
+abbrev pub secondMeets : Stored → ℕ → ℕ → Bool
+secondMeets S leaf x = someOwn (S .free) (S .own) (allPass (S .clauses) 384 (getD (S .counts) 2 0) (S .free) (S .own) leaf) (x % 2 ^ S .free)
+
+-- and its disequation j
+abbrev pub secondDiffers : Stored → ℕ → ℕ → ℕ → Bool
+secondDiffers S leaf j x =
+    someOwn (S .free) (S .own) (allPassBut (S .clauses) 384 (getD (S .counts) 2 0) (640 + 4 * j) (S .free) (S .own) leaf) (x % 2 ^ S .free)
+
+-- disequation e of a search holds in choice z: the first `extra` ones say that z is not in the set `other`, the rest are the stored ones
+unfoldable pub specialIn : List ℕ → ℕ → ℕ → (ℕ → Bool) → ℕ → ℕ → ℕ → Bool
+specialIn clauses n leaf other extra e z = cond (ltb e extra) (not (other z)) (clauseFails clauses (256 + 4 * (e - extra)) n 0 leaf z)
+
+-- how many disequations a search has before the stored ones
+abbrev pub extraOf : Search → ℕ
+extraOf First = 0
+extraOf Stuck = 1
+extraOf (Avoiding j) = 0
+
+-- how many sub-leaves a leaf has room for, where the first system has d disequations: `needed` of the kind of question that it serves
+abbrev pub roomOf : Search → ℕ → ℕ
+roomOf First d = d
+roomOf Stuck d = d + 1
+roomOf (Avoiding j) d = d + 1
+
+-- the choices that a search allows at a leaf with these values
+abbrev pub allowedIn : Stored → Search → ℕ → ℕ → Bool
+allowedIn S First leaf x = firstMeets S leaf x
+allowedIn S Stuck leaf x = firstMeets S leaf x
+allowedIn S (Avoiding j) leaf x = firstMeets S leaf x && not (secondDiffers S leaf j x)
+
+-- a search names a disequation that is there
+abbrev pub Named : List ℕ → Search → Type 0
+Named counts First = Unit {0}
+Named counts Stuck = Unit {0}
+Named counts (Avoiding j) = j < getD counts 3 0
+
+-- what a search asks of choices at the 2 ^ h leaves
+abbrev pub testsOf : Stored → ℕ → Search → Problem ℕ
+testsOf S h search = record {
+  pos = λ b. allowedIn S search (leafValues S h b);
+  count = extraOf search + getD (S .counts) 1 0;
+  dis = λ e b. specialIn (S .clauses) (S .free) (leafValues S h b) (secondMeets S (leafValues S h b)) (extraOf search) e;
+}
+
+-- ---- one entry of a plan at one leaf
+
+-- an entry takes the next place, if it has none and a choice below the limit was found
+unfoldable pub takes : List ℕ → ℕ → ℕ → ℕ → Bool
+takes place e limit x = eqb (getD place e 0) nowhere && ltb x limit
+
+-- what one entry does at one leaf
+pub record Placed (place choice : List ℕ) (e next limit x r : ℕ) (place′ choice′ : List ℕ) : Type 0 where
+  pub next′ : r ≡ next + one (takes place e limit x)
+  pub places : place′ ≡ cond (takes place e limit x) (set place e next) place
+  pub choices : choice′ ≡ cond (takes place e limit x) (set choice e x) choice

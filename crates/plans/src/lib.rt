@@ -1,0 +1,448 @@
+// Searching for a solution leaf by leaf, 64 choices of values at a time, and the plan of the one that is found.
+use show::Plan;
+ghost use mathlib.Core.Path.{_≡_};
+ghost use mathlib.Core.Bool.{_&&_, not};
+ghost use mathlib.Core.List.{List};
+ghost use Prim.Native.Nat.{ℕ, _+_, _*_, _-_, _^_, _<_, _≤_};
+ghost use lib.ListN.{length, getD};
+ghost use Rattle.shares.specs.Below.{everyBelow, firstBelow};
+ghost use Rattle.leaves.specs.Heights.{c};
+ghost use Rattle.words.specs.Clause.{Clauses};
+ghost use Rattle.words.specs.Sets.{wordCount, inSet};
+ghost use Rattle.plans.specs.Tests.{stored, Readable, leafValues, secondDiffers, specialIn, extraOf, roomOf, Named, testsOf, Placed};
+ghost use Rattle.plans.specs.Entries.{LeafSets, ForLeaf, After, Visited, Turn, Filled, SolvedAs};
+ghost use Rattle.plans.specs.Plan.{isPlaced};
+
+// What is searched for.
+pub enum Search {
+    // a solution of the first system
+    First,
+    // one with a leaf where no own choice meets the second system's positive clauses
+    Stuck,
+    // one with no leaf where an own choice meets them and this disequation of the second
+    Avoiding(usize),
+}
+
+// The place of an entry that has none yet: past every sub-leaf.
+const NOWHERE: u16 = 2048;
+
+// The least choice of the set in which disequation e holds, or 64 * count.
+fn least_special(
+    clauses: &[u8; 768],
+    free: usize,
+    leaf: u64,
+    extra: usize,
+    set: &[u64; 64],
+    other: &[u64; 64],
+    count: usize,
+    e: usize,
+) -> usize
+    requires { ⌜ (count ≤ 64) × (free ≤ 12) × (e < 32) ⌝ }
+    requires { ⌜ Clauses (now clauses) 256 (e + 1 - extra) ⌝ }
+    ensures { λ r. ⌜ r ≡ firstBelow (64 * count) (λ z. inSet (now (set .entry)) z && specialIn (now (clauses .entry)) free leaf (inSet (now (other .entry))) extra e z) ⌝ }
+{
+    if e < extra {
+        return words::least_outside(set, other, count);
+    }
+    words::least_failing(set, count, clauses, 256 + 4 * (e - extra), free, leaf)
+}
+
+// Gives disequation e a place and a choice, if it has none yet and the leaf has a choice for it. The result is the next free place.
+fn place_one(
+    clauses: &[u8; 768],
+    free: usize,
+    leaf: u64,
+    extra: usize,
+    set: &[u64; 64],
+    other: &[u64; 64],
+    count: usize,
+    e: usize,
+    next: usize,
+    place: &mut [u16],
+    choice: &mut [u16],
+) -> usize
+    requires { ⌜ (count ≤ 64) × (free ≤ 12) × (e < 32) × (next < 2048) × (length (now place) ≡ 32) × (length (now choice) ≡ 32) ⌝ }
+    requires { ⌜ Clauses (now clauses) 256 (e + 1 - extra) ⌝ }
+    ensures { λ r. ⌜ Placed (now (place .entry)) (now (choice .entry)) e next (64 * count) (firstBelow (64 * count) (λ z. inSet (now (set .entry)) z && specialIn (now (clauses .entry)) free leaf (inSet (now (other .entry))) extra e z)) r (now (place .exit)) (now (choice .exit)) ⌝ }
+{
+    if place[e] != NOWHERE {
+        return next;
+    }
+    let x = least_special(clauses, free, leaf, extra, set, other, count, e);
+    if x < 64 * count {
+        place[e] = next as u16;
+        choice[e] = x as u16;
+        return next + 1;
+    }
+    next
+}
+
+// Goes through the entries at one leaf, whose first sub-leaf is `first`.
+fn place_all(
+    clauses: &[u8; 768],
+    free: usize,
+    leaf: u64,
+    extra: usize,
+    set: &[u64; 64],
+    other: &[u64; 64],
+    count: usize,
+    entries: usize,
+    first: usize,
+    place: &mut [u16],
+    choice: &mut [u16],
+)
+    requires { ⌜ (count ≤ 64) × (free ≤ 12) × (entries ≤ 32) × (first ≤ 1024) × (length (now place) ≡ 32) × (length (now choice) ≡ 32) ⌝ }
+    requires { ⌜ Clauses (now clauses) 256 (entries - extra) ⌝ }
+    ensures { λ _. ⌜ ForLeaf free count entries first (inSet (now (set .entry))) (specialIn (now (clauses .entry)) free leaf (inSet (now (other .entry))) extra) (λ h k b R. After free h R k b (now (place .entry)) (now (choice .entry)) → After free h R k (b + 1) (now (place .exit)) (now (choice .exit))) ⌝ }
+{
+    let mut next = first;
+    let mut e: usize = 0;
+    while e < entries {
+        next = place_one(
+            clauses,
+            free,
+            leaf,
+            extra,
+            set,
+            other,
+            count,
+            e,
+            next,
+            place,
+            choice,
+        );
+        e += 1;
+    }
+}
+
+// ---- one leaf
+
+// How many clauses a section holds.
+fn count_of(counts: &[usize; 4], i: usize) -> usize
+    requires { ⌜ i < 4 ⌝ }
+    ensures { λ r. ⌜ r ≡ getD (now (counts .entry)) i 0 ⌝ }
+{
+    counts[i]
+}
+
+// How many disequations a search has before the stored ones.
+fn extra_of(search: Search) -> usize
+    ensures { λ r. ⌜ r ≡ extraOf search ⌝ }
+{
+    match search {
+        Search::First => 0,
+        Search::Stuck => 1,
+        Search::Avoiding(_) => 0,
+    }
+}
+
+// Takes out of a set the choices beside which the second system's positive clauses and its disequation j can be met.
+fn avoid(
+    clauses: &[u8; 768],
+    counts: &[usize; 4],
+    free: usize,
+    own: usize,
+    j: usize,
+    leaf: u64,
+    set: &mut [u64],
+)
+    requires { ⌜ Readable (now clauses) (now counts) free own ⌝ }
+    requires { ⌜ (j < getD (now counts) 3 0) × (length (now set) ≡ 64) ⌝ }
+    ensures { λ _. ⌜ ((constants : List ℕ) (defined z : ℕ) → z < 64 * wordCount free → inSet (now (set .exit)) z ≡ (inSet (now (set .entry)) z && not (secondDiffers (stored (now (clauses .entry)) (now (counts .entry)) constants defined free own) leaf j z))) ⌝ }
+{
+    let mut meets = [0u64; 64];
+    let mut with = [0u64; 64];
+    let count = count_of(counts, 2);
+    words::fill_sets(
+        clauses,
+        384,
+        count,
+        640 + 4 * j,
+        1,
+        free,
+        own,
+        leaf,
+        &mut meets,
+        &mut with,
+    );
+    words::remove(set, &with, words::word_count(free));
+}
+
+// The sets of one leaf: the choices that the search allows there and, where it has an extra disequation, those beside which the second
+// system's positive clauses can be met.
+fn fill_leaf(
+    clauses: &[u8; 768],
+    counts: &[usize; 4],
+    free: usize,
+    own: usize,
+    search: Search,
+    leaf: u64,
+    set: &mut [u64; 64],
+    other: &mut [u64; 64],
+)
+    requires { ⌜ Readable (now clauses) (now counts) free own ⌝ }
+    requires { ⌜ Named (now counts) search ⌝ }
+    ensures { λ _. ⌜ ((constants : List ℕ) (defined : ℕ) → LeafSets (stored (now (clauses .entry)) (now (counts .entry)) constants defined free own) search leaf (inSet (now (set .exit))) (inSet (now (other .exit)))) ⌝ }
+{
+    let count = count_of(counts, 0);
+    words::fill_set(clauses, 0, count, free, leaf, set);
+    match search {
+        Search::First => {}
+        Search::Stuck => {
+            let positives = count_of(counts, 2);
+            words::fill_meets(clauses, 384, positives, free, own, leaf, other);
+        }
+        Search::Avoiding(j) => {
+            avoid(clauses, counts, free, own, j, leaf, set);
+        }
+    }
+}
+
+// Goes through one leaf, whose first sub-leaf is `first`: its entries find their places, and the result is its least choice, or 64 for
+// each word of choices.
+fn visit_leaf(
+    clauses: &[u8; 768],
+    counts: &[usize; 4],
+    free: usize,
+    own: usize,
+    search: Search,
+    leaf: u64,
+    first: usize,
+    place: &mut [u16],
+    choice: &mut [u16],
+) -> usize
+    requires { ⌜ Readable (now clauses) (now counts) free own ⌝ }
+    requires { ⌜ Named (now counts) search × (first ≤ 1024) × (length (now place) ≡ 32) × (length (now choice) ≡ 32) ⌝ }
+    ensures { λ r. ⌜ ((constants : List ℕ) (defined : ℕ) → Visited (stored (now (clauses .entry)) (now (counts .entry)) constants defined free own) search leaf first (now (place .entry)) (now (choice .entry)) r (now (place .exit)) (now (choice .exit))) ⌝ }
+{
+    let mut set = [0u64; 64];
+    let mut other = [0u64; 64];
+    fill_leaf(
+        clauses,
+        counts,
+        free,
+        own,
+        search,
+        leaf,
+        &mut set,
+        &mut other,
+    );
+    let extra = extra_of(search);
+    let entries = extra + count_of(counts, 1);
+    let count = words::word_count(free);
+    place_all(
+        clauses,
+        free,
+        leaf,
+        extra,
+        &set,
+        &other,
+        count,
+        entries,
+        first,
+        place,
+        choice,
+    );
+    words::least(&set, count)
+}
+
+// ---- all leaves
+
+fn power(k: usize) -> usize
+    requires { ⌜ k ≤ 10 ⌝ }
+    ensures { λ r. ⌜ r ≡ 2 ^ k ⌝ }
+{
+    1 << k
+}
+
+// How often leaves are split so that each has room for n sub-leaves.
+fn splits(n: usize) -> usize
+    requires { ⌜ n ≤ 32 ⌝ }
+    ensures { λ r. ⌜ r ≡ c n ⌝ }
+{
+    let mut k: usize = 0;
+    while power(k) < n {
+        k += 1;
+    }
+    k
+}
+
+// How many sub-leaves a leaf has room for, where the first system has d disequations.
+fn room_of(search: Search, d: usize) -> usize
+    requires { ⌜ d ≤ 31 ⌝ }
+    ensures { λ r. ⌜ r ≡ roomOf search d ⌝ }
+{
+    match search {
+        Search::First => d,
+        Search::Stuck => d + 1,
+        Search::Avoiding(_) => d + 1,
+    }
+}
+
+// The values of the constants at leaf b of 2^h.
+pub fn values_at(constants: &[u64; 32], defined: usize, h: usize, b: usize) -> u64
+    requires { ⌜ (defined ≤ 32) × (h ≤ 5) × (b < 2 ^ h) ⌝ }
+    ensures { λ r. ⌜ ((clauses counts : List ℕ) (free own : ℕ) → r ≡ leafValues (stored clauses counts (now (constants .entry)) defined free own) h b) ⌝ }
+{
+    words::leaf_values(constants, defined, b * (1 << (5 - h)))
+}
+
+// Plans leaf b: its least choice, and the places of the entries that stand there. The result is whether it has a choice.
+fn plan_leaf(
+    clauses: &[u8; 768],
+    counts: &[usize; 4],
+    constants: &[u64; 32],
+    defined: usize,
+    free: usize,
+    own: usize,
+    h: usize,
+    search: Search,
+    k: usize,
+    b: usize,
+    plain: &mut [u16],
+    place: &mut [u16],
+    choice: &mut [u16],
+) -> bool
+    requires { ⌜ Readable (now clauses) (now counts) free own ⌝ }
+    requires { ⌜ Named (now counts) search × (defined ≤ 32) × (h ≤ 5) × (k ≤ 5) × (extraOf search + getD (now counts) 1 0 ≤ 2 ^ k) × (b < 2 ^ h) ⌝ }
+    requires { ⌜ (length (now plain) ≡ 64) × (length (now place) ≡ 32) × (length (now choice) ≡ 32) ⌝ }
+    ensures { λ r. ⌜ Turn free h (testsOf (stored (now (clauses .entry)) (now (counts .entry)) (now (constants .entry)) defined free own) h search) k b r (now (plain .entry)) (now (place .entry)) (now (choice .entry)) (now (plain .exit)) (now (place .exit)) (now (choice .exit)) ⌝ }
+{
+    let leaf = values_at(constants, defined, h, b);
+    let first = b * power(k);
+    let x = visit_leaf(
+        clauses,
+        counts,
+        free,
+        own,
+        search,
+        leaf,
+        first,
+        place,
+        choice,
+    );
+    if x < 64 * words::word_count(free) {
+        plain[b] = x as u16;
+        return true;
+    }
+    false
+}
+
+// Plans the leaves in order, as long as each has a choice.
+fn fill_plan(
+    clauses: &[u8; 768],
+    counts: &[usize; 4],
+    constants: &[u64; 32],
+    defined: usize,
+    free: usize,
+    own: usize,
+    h: usize,
+    search: Search,
+    k: usize,
+    plain: &mut [u16],
+    place: &mut [u16],
+    choice: &mut [u16],
+) -> bool
+    requires { ⌜ Readable (now clauses) (now counts) free own ⌝ }
+    requires { ⌜ Named (now counts) search × (defined ≤ 32) × (h ≤ 5) × (k ≤ 5) × (extraOf search + getD (now counts) 1 0 ≤ 2 ^ k) ⌝ }
+    requires { ⌜ (length (now plain) ≡ 64) × (length (now place) ≡ 32) × (length (now choice) ≡ 32) ⌝ }
+    requires { ⌜ After free h (testsOf (stored (now clauses) (now counts) (now constants) defined free own) h search) k 0 (now place) (now choice) ⌝ }
+    ensures { λ r. ⌜ Filled free h (testsOf (stored (now (clauses .entry)) (now (counts .entry)) (now (constants .entry)) defined free own) h search) k r (now (plain .exit)) (now (place .exit)) (now (choice .exit)) ⌝ }
+{
+    let leaves = power(h);
+    let mut b: usize = 0;
+    while b < leaves {
+        let there = plan_leaf(
+            clauses,
+            counts,
+            constants,
+            defined,
+            free,
+            own,
+            h,
+            search,
+            k,
+            b,
+            plain,
+            place,
+            choice,
+        );
+        if there {
+            b += 1;
+        } else {
+            return false;
+        }
+    }
+    true
+}
+
+// Whether each of the first `entries` entries has a place.
+fn all_placed(place: &[u16; 32], entries: usize) -> bool
+    requires { ⌜ entries ≤ 32 ⌝ }
+    ensures { λ r. ⌜ r ≡ everyBelow entries (isPlaced (now (place .entry))) ⌝ }
+{
+    let mut j: usize = 0;
+    while j < entries {
+        if place[j] == NOWHERE {
+            return false;
+        }
+        j += 1;
+    }
+    true
+}
+
+// Whether a search finds a solution, and the plan of the one it finds.
+pub struct Solved {
+    pub found: bool,
+    pub plan: Plan,
+}
+
+// Searches for a solution at the 2^h leaves.
+pub fn solve(
+    clauses: &[u8; 768],
+    counts: &[usize; 4],
+    constants: &[u64; 32],
+    defined: usize,
+    free: usize,
+    own: usize,
+    h: usize,
+    search: Search,
+) -> Solved
+    requires { ⌜ Readable (now clauses) (now counts) free own ⌝ }
+    requires { ⌜ Named (now counts) search × (defined ≤ 32) × (h ≤ 5) ⌝ }
+    ensures { λ r. ⌜ SolvedAs (stored (now (clauses .entry)) (now (counts .entry)) (now (constants .entry)) defined free own) h search r ⌝ }
+{
+    let mut plain = [0u16; 64];
+    let mut place = [NOWHERE; 32];
+    let mut choice = [0u16; 32];
+    let d = count_of(counts, 1);
+    let count = extra_of(search) + d;
+    let k = splits(room_of(search, d));
+    let filled = fill_plan(
+        clauses,
+        counts,
+        constants,
+        defined,
+        free,
+        own,
+        h,
+        search,
+        k,
+        &mut plain,
+        &mut place,
+        &mut choice,
+    );
+    let placed = all_placed(&place, count);
+    let plan = Plan {
+        low: h,
+        high: h + k,
+        plain,
+        count,
+        place,
+        choice,
+    };
+    Solved {
+        found: filled && placed,
+        plan,
+    }
+}
