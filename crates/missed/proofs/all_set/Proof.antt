@@ -1,0 +1,18 @@
+-- `missed::all_set` meets its contract. Assumes nothing.
+use mathlib.Core.Path.{ap, _∙_}
+use lib.Dec.{leb}
+use Rattle.missed.specs.MissedLaws.{bits-all}
+use borrow.Author.Needs.{needs}
+use Rattle.missed.proofs.all_set.Statement.{statement}
+use Rattle.missed.proofs.all_set.Tie as tie
+
+lowest-requires : tie.Need-lowest-requires
+lowest-requires c κs = search needs
+
+returns : tie.Need-returns
+returns c =
+    let a = c .before .args in
+    ap (leb (a .count)) (c .lowest .ensures) ∙ bits-all (a .x) (a .count) (c .before .fits .x .fits) (c .before .pre)
+
+pub all-set-spec : {M : Type 1} → statement M
+all-set-spec = tie.close (tie.spec lowest-requires returns)

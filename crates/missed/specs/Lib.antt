@@ -1,0 +1,3 @@
+pub mod Missed
+pub mod MissedLaws
+pub mod MissedSetLaws

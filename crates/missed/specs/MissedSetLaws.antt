@@ -1,0 +1,161 @@
+-- The sets of choices at one leaf, as words, give the tests of the disequations that can be avoided. Assumes nothing.
+use mathlib.Core.Path.{_≡_, sym, ap, ap₂, _∙_}
+use mathlib.Core.Bool.{Bool, true, false, not, _&&_, and-assoc, and-comm}
+use mathlib.Core.List.{List}
+use Prim.Native.Nat.{ℕ, _+_, _-_, _*_, _/_, _%_, _^_, _<_, _≤_}
+use native.Mathlib.Nat.{add-zero, zero-add, mod-lt}
+use native.Mathlib.Omega.{arith}
+use lib.ListN.{getD}
+use borrow.Author.Tests.{le-ltb}
+use Rattle.shares.specs.Test.{is-true}
+use Rattle.shares.specs.Below.{everyBelow, someBelow, firstBelow}
+use Rattle.shares.specs.BelowLaws.{every-ext, some-ext, some-none, first-ext}
+use Rattle.shares.specs.Constant.{bit}
+use Rattle.leaves.specs.Choices.{least}
+use Rattle.leaves.specs.Problem.{Problem, specialAt, solvable}
+use Rattle.words.specs.Sets.{wordCount, inSet, Words, allPassBut, someOwn, Periodic}
+use Rattle.words.specs.RemoveLaws.{Without}
+use Rattle.words.specs.SearchLaws.{in-word, lowest-lt, found-in-word}
+use Rattle.words.specs.GatherLaws.{own-none, periodic-some}
+use Rattle.words.specs.TermLaws.{pass-mod, but-mod}
+use Rattle.plans.specs.Numbers.{numbered}
+use Rattle.plans.specs.PlanLaws.{found-some, plain-is, special-is}
+use Rattle.plans.specs.Tests.{Stored, leafValues, firstMeets, firstDiffers, secondDiffers, allowedIn, specialIn, testsOf}
+use Rattle.plans.specs.LeafLaws.{differs-periodic}
+use Rattle.missed.specs.Missed.{avoidable, lowestAvoidable, avoids, avoidsWith, overall, RowSets, outside, someOutside, Passed, KnownOf, isMissed}
+use Rattle.missed.specs.MissedLaws.{passed-as, known-more, known-all, known-dead}
+use Rattle.plans.specs.declared.Search.the-variants.{Avoiding}
+
+-- ---- choices from some word of a list
+
+row-word : (set : List ℕ) (from w i : ℕ) → i < 64 → inSet set (64 * from + (64 * w + i)) ≡ bit (getD set (from + w) 0) i
+row-word set from w i h = ap (inSet set) (omega arith) ∙ in-word set (from + w) i h
+
+row-set : (set : List ℕ) (from count : ℕ) (p : ℕ → Bool) → Words count (λ w. getD set (from + w) 0) p
+    → (z : ℕ) → z < 64 * count → inSet set (64 * from + z) ≡ p z
+row-set set from count p h z l =
+    let e : 64 * (z / 64) + z % 64 ≡ z = omega arith in
+    ap (λ y. inSet set (64 * from + y)) (sym e) ∙ row-word set from (z / 64) (z % 64) (mod-lt z (omega arith))
+    ∙ h (z / 64) (omega arith) (z % 64) (mod-lt z (omega arith)) ∙ ap p e
+
+-- ---- the search for a choice that is not in another list
+
+module _ (rows : List ℕ) (from : ℕ) (others : List ℕ) (at : ℕ) where
+  pub outside-word : (w x : ℕ) → Without (getD rows (from + w) 0) (getD others (at + w) 0) x → (i : ℕ) → i < 64 → bit x i ≡ outside rows from others at (64 * w + i)
+  outside-word w x h i l = h i l ∙ sym (ap₂ (λ a b. a && not b) (row-word rows from w i l) (row-word others at w i l))
+
+  -- a word that is not 0 has one
+  pub outside-found : (w count x : ℕ) → w < count → x < 2 ^ 64 → (x ≡ 0 → ⊥) → ((z : ℕ) → z < 64 * w → outside rows from others at z ≡ false)
+      → ((i : ℕ) → i < 64 → bit x i ≡ outside rows from others at (64 * w + i)) → someOutside rows from others at count ≡ true
+  unfolding someOutside
+  outside-found w count x l small n before word =
+      is-true (someBelow (64 * count) (outside rows from others at))
+      (found-some (64 * count) (outside rows from others at) (omega (arith, found-in-word (outside rows from others at) w count x l small n before word, lowest-lt x small n)))
+
+  pub outside-none : (count : ℕ) → ((z : ℕ) → z < 64 * count → outside rows from others at z ≡ false) → someOutside rows from others at count ≡ false
+  unfolding someOutside
+  outside-none count h = some-none (64 * count) (outside rows from others at) h
+
+  -- of lists that are sets
+  outside-sets : (n : ℕ) (p q : ℕ → Bool) → Periodic n p → Periodic n q → Words (wordCount n) (λ w. getD rows (from + w) 0) p
+      → Words (wordCount n) (λ w. getD others (at + w) 0) q → someOutside rows from others at (wordCount n) ≡ someBelow (2 ^ n) (λ z. p z && not (q z))
+  unfolding someOutside
+  outside-sets n p q pp pq wp wq =
+      some-ext (64 * wordCount n) _ _ (λ z l. ap₂ (λ a b. a && not b) (row-set rows from (wordCount n) p wp z l) (row-set others at (wordCount n) q wq z l))
+      ∙ periodic-some n (λ z. p z && not (q z)) (λ z. ap₂ (λ a b. a && not b) (pp z) (pq z))
+
+-- ---- the tests at a leaf
+
+-- without own variables
+free-periodic : (n : ℕ) (p : ℕ → Bool) → Periodic (n + 0) p → Periodic n p
+free-periodic n p h z = h z ∙ ap (λ k. p (z % 2 ^ k)) (add-zero n)
+
+swap-last : (a b c : Bool) → ((a && b) && c) ≡ ((a && c) && b)
+swap-last a b c = and-assoc a b c ∙ ap (_&&_ a) (and-comm b c) ∙ sym (and-assoc a c b)
+
+module _ (S : Stored) (leaf : ℕ) (second-rows : List ℕ) (j : ℕ)
+    (second-set : Words (wordCount (S .free)) (λ w. getD second-rows (64 * j + w) 0) (secondDiffers S leaf j)) where
+  avoids-is : (allowed : List ℕ)
+      → Words (wordCount (S .free)) (λ w. getD allowed w 0) (λ z. someOwn (S .free) 0 (firstMeets S leaf) (z % 2 ^ S .free))
+      → someOutside allowed 0 second-rows (64 * j) (wordCount (S .free)) ≡ avoids S leaf j
+  unfolding avoids
+  avoids-is allowed first-set =
+      outside-sets allowed 0 second-rows (64 * j) (S .free) (firstMeets S leaf) (secondDiffers S leaf j) (free-periodic (S .free) (firstMeets S leaf) per) (differs-periodic S leaf j)
+      (λ w l i k. ap (λ v. bit (getD allowed v 0) i) (zero-add w) ∙ first-set w l i k ∙ own-none (S .free) (firstMeets S leaf) per (64 * w + i))
+      second-set
+    where
+      per : Periodic (S .free + 0) (firstMeets S leaf)
+      per z = pass-mod (S .free) 0 leaf z (S .clauses) 0 (getD (S .counts) 0 0)
+
+  avoids-with-is : (first-rows : List ℕ) (i : ℕ)
+      → Words (wordCount (S .free)) (λ w. getD first-rows (64 * i + w) 0)
+      (λ z. someOwn (S .free) 0 (allPassBut (S .clauses) 0 (getD (S .counts) 0 0) (256 + 4 * i) (S .free) 0 leaf) (z % 2 ^ S .free))
+      → someOutside first-rows (64 * i) second-rows (64 * j) (wordCount (S .free)) ≡ avoidsWith S leaf j i
+  unfolding avoidsWith allPassBut
+  avoids-with-is first-rows i first-set =
+      outside-sets first-rows (64 * i) second-rows (64 * j) (S .free) but (secondDiffers S leaf j) (free-periodic (S .free) but per) (differs-periodic S leaf j)
+      (λ w l k m. first-set w l k m ∙ own-none (S .free) but per (64 * w + k))
+      second-set
+      ∙ some-ext (2 ^ S .free) _ _ (λ x l. swap-last (firstMeets S leaf x) (firstDiffers S leaf i x) (not (secondDiffers S leaf j x)))
+    where
+      but : ℕ → Bool
+      but = allPassBut (S .clauses) 0 (getD (S .counts) 0 0) (256 + 4 * i) (S .free) 0 leaf
+
+      per : Periodic (S .free + 0) but
+      per z = but-mod (S .free) 0 leaf z (S .clauses) 0 (getD (S .counts) 0 0) (256 + 4 * i)
+
+-- all disequations have gone through a leaf, by the sets of its choices
+pub leaf-passed : (S : Stored) (leaf words : ℕ) (allowed first-rows second-rows : List ℕ) → words ≡ wordCount (S .free)
+    → RowSets S leaf allowed first-rows second-rows
+    → (alive : ℕ) (met : List ℕ) (alive′ : ℕ) (met′ : List ℕ)
+    → Passed (getD (S .counts) 3 0) (getD (S .counts) 1 0) (λ j. someOutside allowed 0 second-rows (64 * j) words)
+    (λ j i. someOutside first-rows (64 * i) second-rows (64 * j) words) alive met alive′ met′
+    → Passed (getD (S .counts) 3 0) (getD (S .counts) 1 0) (avoids S leaf) (avoidsWith S leaf) alive met alive′ met′
+leaf-passed S leaf words allowed first-rows second-rows e L alive met alive′ met′ =
+    passed-as (getD (S .counts) 1 0) _ _ alive met (getD (S .counts) 3 0) alive′ met′ (avoids S leaf) (avoidsWith S leaf)
+    (λ j l. rw e (avoids-is S leaf second-rows j (L .second-sets j l) allowed (L .allowed-set)))
+    (λ j i l m. rw e (avoids-with-is S leaf second-rows j (L .second-sets j l) first-rows i (L .first-sets i m)))
+
+-- ---- the whole
+
+-- the disequations of the first system, as a search has them
+search-differs : (S : Stored) (h j i b x : ℕ) → testsOf S h (Avoiding j) .dis i b x ≡ firstDiffers S (leafValues S h b) i x
+unfolding specialIn
+search-differs S h j i b x =
+    rw (le-ltb i 0 (omega arith)) (ap (λ k. firstDiffers S (leafValues S h b) k x) {x = i - 0} {y = i} (omega arith))
+
+-- a disequation can be avoided if every leaf has a choice, and for each disequation of the first system some leaf has one that meets it
+avoidable-is : (S : Stored) (h j : ℕ)
+    → avoidable S h j
+    ≡ overall (2 ^ h) (getD (S .counts) 1 0) (λ b. avoids S (leafValues S h b) j) (λ i b. avoidsWith S (leafValues S h b) j i)
+unfolding solvable avoids avoidsWith
+avoidable-is S h j =
+    ap₂ _&&_
+    (every-ext (2 ^ h) _ _ (λ b l. plain-is (S .free) h tests b))
+    (ap (λ k. everyBelow k (λ i. someBelow (2 ^ h) (specialAt (least (S .free)) (numbered (S .free) tests) i))) (zero-add (getD (S .counts) 1 0))
+    ∙ every-ext (getD (S .counts) 1 0) _ _ (λ i m. some-ext (2 ^ h) _ _ (λ b l.
+    special-is (S .free) h tests i b
+    ∙ some-ext (2 ^ S .free) _ _ (λ x u. ap (_&&_ (allowedIn S (Avoiding j) (leafValues S h b) x)) (search-differs S h j i b x)))))
+  where
+    tests : Problem ℕ
+    tests = testsOf S h (Avoiding j)
+
+-- ---- what is known of a question leaf by leaf
+
+module _ (S : Stored) (h : ℕ) where
+  -- one leaf more
+  pub known-leaf : (b leaf alive : ℕ) (met : List ℕ) (alive′ : ℕ) (met′ : List ℕ) → leaf ≡ leafValues S h b → KnownOf S h b alive met
+      → Passed (getD (S .counts) 3 0) (getD (S .counts) 1 0) (avoids S leaf) (avoidsWith S leaf) alive met alive′ met′ → KnownOf S h (b + 1) alive′ met′
+  known-leaf b leaf alive met alive′ met′ e K P = known-more _ _ _ _ b alive met alive′ met′ K (rw e at P)
+
+  -- after the last
+  pub known-lowest : (alive : ℕ) (met : List ℕ) → KnownOf S h (2 ^ h) alive met
+      → firstBelow (getD (S .counts) 3 0) (isMissed alive met (getD (S .counts) 1 0)) ≡ lowestAvoidable S h
+  known-lowest alive met K =
+      first-ext (getD (S .counts) 3 0) _ _ (λ j l. known-all _ _ _ _ (2 ^ h) alive met K j l ∙ sym (avoidable-is S h j))
+
+  -- where none is alive
+  pub known-nothing : (done alive : ℕ) (met : List ℕ) → alive ≡ 0 → done ≤ 2 ^ h → KnownOf S h done alive met
+      → getD (S .counts) 3 0 ≡ lowestAvoidable S h
+  known-nothing done alive met z l K =
+      known-dead _ _ _ _ (2 ^ h) done met l (rw z at K) ∙ first-ext (getD (S .counts) 3 0) _ _ (λ j m. sym (avoidable-is S h j))
