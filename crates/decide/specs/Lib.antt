@@ -1,12 +1,5 @@
-pub mod Numbers
-pub mod NumberLaws
-pub mod Plan
-pub mod PlanLaws
-pub mod ShownLaws
-pub mod Tests
-pub mod PlacedLaws
-pub mod StoredLaws
+pub mod Decision
+pub mod DecideLaws
+pub mod HeightOfLaws
 pub mod StandsLaws
-pub mod Entries
-pub mod EntryLaws
-pub mod SolveLaws
+pub mod ReadableLaws

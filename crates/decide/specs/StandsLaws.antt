@@ -6,7 +6,7 @@ use native.Mathlib.Nat.{le-of-suc-le-suc, mod-eq-of-lt}
 use native.Mathlib.Omega.{arith}
 use lib.Dec.{ltb}
 use lib.ListN.{length, getD}
-use borrow.Author.Tests.{ltb-true, ltb-false}
+use borrow.Author.Tests.{ltb-true, ltb-false, le-ltb}
 use Rattle.shares.specs.Constant.{bit}
 use Rattle.leaves.specs.Choices.{Row, at, least, value, someChoice}
 use Rattle.leaves.specs.ChoiceLaws.{value-lt}
@@ -25,11 +25,11 @@ use Rattle.questions.specs.Callers.{atoms-at}
 use Rattle.questions.specs.declared.Question.{Question as Struct}
 use Rattle.questions.specs.declared.Section.{Section}
 use Rattle.questions.specs.declared.Section.the-variants.{FirstPositive, FirstDisequation, SecondPositive, SecondDisequation}
-use Rattle.decide.specs.Numbers.{numbered}
-use Rattle.decide.specs.NumberLaws.{some-number, solvable-same, candidate-same}
-use Rattle.decide.specs.Tests.{Stored, leafValues, firstMeets, firstDiffers, secondMeets, secondDiffers, testsOf}
-use Rattle.decide.specs.StoredLaws.{row-digit, atom-same, section-same}
-use Rattle.decide.specs.declared.Search.the-variants.{First, Stuck, Avoiding}
+use Rattle.plans.specs.Numbers.{numbered}
+use Rattle.plans.specs.NumberLaws.{some-number, solvable-same, candidate-same}
+use Rattle.plans.specs.Tests.{Stored, leafValues, firstMeets, firstDiffers, secondMeets, secondDiffers, specialIn, testsOf}
+use Rattle.plans.specs.StoredLaws.{row-digit, atom-same, section-same}
+use Rattle.plans.specs.declared.Search.the-variants.{First, Stuck, Avoiding}
 
 -- what a struct holds, with n free and m own variables
 abbrev pub storedOf : Struct → ℕ → ℕ → Stored
@@ -69,7 +69,7 @@ module _ (x : Struct) (q : Question) (St : held.Stands x q) (h : ℕ) where
         ∙ atom-same S h b (St .constantCounted) (q .free) m few-m (variablesFor (q .free) (q .own) σ) X z values (held.sectionStart σ + 4 * j) (stored σ j l))
 
   -- how many disequations the systems have
-  count-same : (σ : Section) → length (inSection q σ) ≡ held.countOf (x .counts) σ
+  pub count-same : (σ : Section) → length (inSection q σ) ≡ held.countOf (x .counts) σ
   count-same σ = ap length (sym (St .sections σ)) ∙ atoms-length (x .clauses) (held.sectionStart σ) (held.countOf (x .counts) σ)
 
   module _ (b : ℕ) (v : Row Bool (q .free)) where
@@ -146,20 +146,29 @@ module _ (x : Struct) (q : Question) (St : held.Stands x q) (h : ℕ) where
     candidate-is = candidate-same (least (q .free)) h P (numbered (q .free) R) c (λ b l v. p b v) (λ j l b m v. d j l b v);
   }
 
+  -- the stored disequations come after the extra ones
+  stored-after : (extra i e b : ℕ) (v : Row Bool (q .free)) → e ≡ extra + i → i < firstAt h q .count
+      → firstAt h q .dis i b v ≡ specialIn (x .clauses) (q .free) (leafValues S h b) (secondMeets S (leafValues S h b)) extra e (value v)
+  unfolding specialIn
+  stored-after extra i e b v at l =
+      first-dis b v i (rw (count-same FirstDisequation) at l)
+      ∙ rw (le-ltb e extra (omega arith)) (ap (λ j. firstDiffers S (leafValues S h b) j (value v)) {y = e - extra} (omega arith))
+
   pub same-first : Same (firstAt h q) (testsOf S h First)
-  same-first = same-of _ _ (count-same FirstDisequation) first-pos (λ j l b v. first-dis b v j (rw (count-same FirstDisequation) at l))
+  same-first = same-of _ _ (count-same FirstDisequation ∙ omega arith) first-pos (λ j l b v. stored-after 0 j j b v (omega arith) l)
 
   pub same-stuck : Same (leaf.stuck (least (q .own)) (secondAt h q) (firstAt h q)) (testsOf S h Stuck)
-  same-stuck = same-of _ _ (ap suc (count-same FirstDisequation)) first-pos go
+  unfolding specialIn
+  same-stuck = same-of _ _ (ap suc (count-same FirstDisequation) ∙ omega arith) first-pos go
     where
       go : (j : ℕ) → j < suc (firstAt h q .count) → (b : ℕ) (v : Row Bool (q .free))
           → leaf.stuck (least (q .own)) (secondAt h q) (firstAt h q) .dis j b v ≡ testsOf S h Stuck .dis j b (value v)
       go zero l b v = ap not (second-meets b v)
-      go (suc j) l b v = first-dis b v j (rw (count-same FirstDisequation) at (le-of-suc-le-suc l))
+      go (suc j) l b v = stored-after 1 j (suc j) b v (omega arith) (le-of-suc-le-suc l)
 
   pub same-avoiding : (j : ℕ) → j < held.countOf (x .counts) SecondDisequation
       → Same (leaf.avoiding (least (q .own)) (secondAt h q) (firstAt h q) j) (testsOf S h (Avoiding j))
   same-avoiding j l =
-      same-of _ _ (count-same FirstDisequation)
+      same-of _ _ (count-same FirstDisequation ∙ omega arith)
       (λ b v. ap₂ (λ y z. y && not z) (first-pos b v) (second-with b v j l))
-      (λ i m b v. first-dis b v i (rw (count-same FirstDisequation) at m))
+      (λ i m b v. stored-after 0 i i b v (omega arith) m)

@@ -1,112 +1,179 @@
-// Deciding a question that was read: leaf by leaf, 64 choices of values at a time.
+// Deciding a question that was read: which searches have a solution, and the plan of the one to show.
+use plans::Search;
+use questions::Question;
+use show::Plan;
 ghost use mathlib.Core.Path.{_≡_};
-ghost use mathlib.Core.Bool.{_&&_};
-ghost use Prim.Native.Nat.{ℕ, _+_, _*_, _-_, _^_, _<_, _≤_};
-ghost use lib.ListN.{length, getD};
-ghost use Rattle.shares.specs.Below.{firstBelow};
-ghost use Rattle.words.specs.Clause.{Clauses};
-ghost use Rattle.words.specs.Sets.{inSet};
-ghost use Rattle.decide.specs.Tests.{specialIn, Placed};
-ghost use Rattle.decide.specs.Entries.{ForLeaf, After};
+ghost use Prim.Native.Nat.{ℕ, _+_, _^_, _<_, _≤_, max};
+ghost use lib.ListN.{length, getD, take};
+ghost use Rattle.shares.specs.Constant.{constantLevels};
+ghost use Rattle.systems.specs.Questions.{Question as Asked, WellFormed, tallestConstant};
+ghost use Rattle.questions.specs.Held.{Stands};
+ghost use Rattle.plans.specs.Tests.{Readable};
+ghost use Rattle.decide.specs.Decision.{Standing, Decided, DecidedParts};
 
-// What is searched for.
-pub enum Search {
-    // a solution of the first system
-    First,
-    // one with a leaf where no own choice meets the second system's positive clauses
-    Stuck,
-    // one with no leaf where an own choice meets them and this disequation of the second
-    Avoiding(usize),
+// What deciding finds. Of a question of satisfiability: a solution; none. Of an entailment: the first system has no solution; every
+// solution extends; some solution cannot meet the second's positive clauses; some solution cannot have this disequation of the second
+// beside them, and it is the lowest such.
+pub enum Finding {
+    Satisfied,
+    Unsatisfied,
+    Vacuous,
+    Entailed,
+    Unmet,
+    Missed(usize),
 }
 
-// The place of an entry that has none yet: past every sub-leaf.
-const NOWHERE: u16 = 2048;
-
-// The least choice of the set in which disequation e holds, or 64 * count.
-fn least_special(
-    clauses: &[u8; 768],
-    free: usize,
-    leaf: u64,
-    extra: usize,
-    set: &[u64; 64],
-    other: &[u64; 64],
-    count: usize,
-    e: usize,
-) -> usize
-    requires { ⌜ (count ≤ 64) × (free ≤ 12) × (e < 32) ⌝ }
-    requires { ⌜ Clauses (now clauses) 256 (e + 1 - extra) ⌝ }
-    ensures { λ r. ⌜ r ≡ firstBelow (64 * count) (λ z. inSet (now (set .entry)) z && specialIn (now (clauses .entry)) free leaf (inSet (now (other .entry))) extra e z) ⌝ }
-{
-    if e < extra {
-        return words::least_outside(set, other, count);
-    }
-    words::least_failing(set, count, clauses, 256 + 4 * (e - extra), free, leaf)
+// What is found, and the plan of the solution to show, where there is one.
+pub struct Decision {
+    pub finding: Finding,
+    pub plan: Plan,
 }
 
-// Gives disequation e a place and a choice, if it has none yet and the leaf has a choice for it. The result is the next free place.
-fn place_one(
-    clauses: &[u8; 768],
-    free: usize,
-    leaf: u64,
-    extra: usize,
-    set: &[u64; 64],
-    other: &[u64; 64],
-    count: usize,
-    e: usize,
-    next: usize,
-    place: &mut [u16],
-    choice: &mut [u16],
-) -> usize
-    requires { ⌜ (count ≤ 64) × (free ≤ 12) × (e < 32) × (next < 2048) × (length (now place) ≡ 32) × (length (now choice) ≡ 32) ⌝ }
-    requires { ⌜ Clauses (now clauses) 256 (e + 1 - extra) ⌝ }
-    ensures { λ r. ⌜ Placed (now (place .entry)) (now (choice .entry)) e next (64 * count) (firstBelow (64 * count) (λ z. inSet (now (set .entry)) z && specialIn (now (clauses .entry)) free leaf (inSet (now (other .entry))) extra e z)) r (now (place .exit)) (now (choice .exit)) ⌝ }
+// ---- the question
+
+// The number of constant i.
+fn constant_at(constants: &[u64; 32], i: usize) -> u64
+    requires { ⌜ i < 32 ⌝ }
+    ensures { λ r. ⌜ r ≡ getD (now (constants .entry)) i 0 ⌝ }
 {
-    if place[e] != NOWHERE {
-        return next;
-    }
-    let x = least_special(clauses, free, leaf, extra, set, other, count, e);
-    if x < 64 * count {
-        place[e] = next as u16;
-        choice[e] = x as u16;
-        return next + 1;
-    }
-    next
+    constants[i]
 }
 
-// Goes through the entries at one leaf, whose first sub-leaf is `first`.
-fn place_all(
-    clauses: &[u8; 768],
-    free: usize,
-    leaf: u64,
-    extra: usize,
-    set: &[u64; 64],
-    other: &[u64; 64],
-    count: usize,
-    entries: usize,
-    first: usize,
-    place: &mut [u16],
-    choice: &mut [u16],
-)
-    requires { ⌜ (count ≤ 64) × (free ≤ 12) × (entries ≤ 32) × (first ≤ 1024) × (length (now place) ≡ 32) × (length (now choice) ≡ 32) ⌝ }
-    requires { ⌜ Clauses (now clauses) 256 (entries - extra) ⌝ }
-    ensures { λ _. ⌜ ForLeaf free count entries first (inSet (now (set .entry))) (specialIn (now (clauses .entry)) free leaf (inSet (now (other .entry))) extra) (λ h k b R. After free h R k b (now (place .entry)) (now (choice .entry)) → After free h R k (b + 1) (now (place .exit)) (now (choice .exit))) ⌝ }
+// The greater of two heights.
+fn larger(a: usize, b: usize) -> usize
+    ensures { λ r. ⌜ r ≡ max a b ⌝ }
 {
-    let mut next = first;
-    let mut e: usize = 0;
-    while e < entries {
-        next = place_one(
+    if a < b {
+        return b;
+    }
+    a
+}
+
+// The height of a question: that of its tallest constant.
+fn height_of(constants: &[u64; 32], defined: usize) -> usize
+    requires { ⌜ (defined ≤ 32) × (length (now constants) ≡ 32) × ((i : ℕ) → i < defined → getD (now constants) i 0 < 2 ^ 32) ⌝ }
+    ensures { λ r. ⌜ r ≡ tallestConstant constantLevels (take defined (now (constants .entry))) ⌝ }
+{
+    let mut h: usize = 0;
+    let mut i: usize = 0;
+    while i < defined {
+        let x = constant_at(constants, i);
+        h = larger(h, shares::constant_height(x as u32) as usize);
+        i += 1;
+    }
+    h
+}
+
+// Decides an entailment whose parts are lent, at its 2^h leaves.
+fn decide_entailment(
+    clauses: &[u8; 768],
+    counts: &[usize; 4],
+    constants: &[u64; 32],
+    defined: usize,
+    free: usize,
+    own: usize,
+    h: usize,
+) -> Decision
+    requires { ⌜ Readable (now clauses) (now counts) free own × (defined ≤ 32) × (h ≤ 5) ⌝ }
+    ensures { λ r. ⌜ DecidedParts (now (clauses .entry)) (now (counts .entry)) (now (constants .entry)) defined free own h r ⌝ }
+{
+    let first = plans::solve(
+        clauses,
+        counts,
+        constants,
+        defined,
+        free,
+        own,
+        h,
+        Search::First,
+    );
+    let none = first.plan;
+    if !first.found {
+        return Decision {
+            finding: Finding::Vacuous,
+            plan: none,
+        };
+    }
+    let second = plans::solve(
+        clauses,
+        counts,
+        constants,
+        defined,
+        free,
+        own,
+        h,
+        Search::Stuck,
+    );
+    if second.found {
+        let plan = second.plan;
+        return Decision {
+            finding: Finding::Unmet,
+            plan,
+        };
+    }
+    let j = missed::lowest_missed(clauses, counts, constants, defined, free, own, h);
+    if j < counts[3] {
+        let third = plans::solve(
             clauses,
+            counts,
+            constants,
+            defined,
             free,
-            leaf,
-            extra,
-            set,
-            other,
-            count,
-            e,
-            next,
-            place,
-            choice,
+            own,
+            h,
+            Search::Avoiding(j),
         );
-        e += 1;
+        let plan = third.plan;
+        return Decision {
+            finding: Finding::Missed(j),
+            plan,
+        };
     }
+    Decision {
+        finding: Finding::Entailed,
+        plan: none,
+    }
+}
+
+// Decides a question.
+pub fn decide(question: Question) -> Decision
+    requires { ⌜ Standing question ⌝ }
+    ensures { λ r. ⌜ ((q : Asked) → Stands question q → WellFormed q → Decided q r) ⌝ }
+{
+    let clauses = question.clauses;
+    let counts = question.counts;
+    let constants = question.constants;
+    let h = height_of(&constants, question.defined);
+    if question.kind == 0 {
+        let first = plans::solve(
+            &clauses,
+            &counts,
+            &constants,
+            question.defined,
+            question.free,
+            question.own,
+            h,
+            Search::First,
+        );
+        let plan = first.plan;
+        if first.found {
+            return Decision {
+                finding: Finding::Satisfied,
+                plan,
+            };
+        }
+        return Decision {
+            finding: Finding::Unsatisfied,
+            plan,
+        };
+    }
+    decide_entailment(
+        &clauses,
+        &counts,
+        &constants,
+        question.defined,
+        question.free,
+        question.own,
+        h,
+    )
 }

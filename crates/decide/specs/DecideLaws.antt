@@ -1,0 +1,205 @@
+-- What the searches find decides the question, and the plan of the one that is shown is the question's own. Assumes nothing.
+use mathlib.Core.Path.{_≡_, refl, sym, ap, _∙_}
+use mathlib.Core.Bool.{Bool, true, false, not}
+use Prim.Native.Nat.{ℕ, _+_, _-_, _^_, _≤_, _<_, suc-le-suc, zero-le}
+use native.Mathlib.Omega.{arith}
+use lib.Dec.{T, T-not, not-T}
+use lib.ListN.{getD}
+use lib.Pow.{pow-mono}
+use borrow.Author.Tests.{lt-ltb, le-ltb}
+use Rattle.shares.specs.Constant.{bit}
+use Rattle.shares.specs.Test.{is-true, is-false, of-true, of-false, and-right}
+use Rattle.shares.specs.Below.{everyBelow, someBelow, firstBelow}
+use Rattle.shares.specs.BelowLaws.{every-at, first-ext, first-below}
+use Rattle.shares.specs.Blocks.{leaf-lt}
+use Rattle.shares.specs.Tree.{treeOf}
+use Rattle.shares.specs.TreeLaws.{treeOf-ext}
+use Rattle.leaves.specs.Heights.{c}
+use Rattle.leaves.specs.Choices.{Row, at, least, value}
+use Rattle.leaves.specs.Problem.{Problem, plainAt, specialAt, solvable, candidate}
+use Rattle.leaves.specs.ProblemLaws.{home-passes, place-lt}
+use Rattle.leaves.specs.Second.{stuck, canStick, canAvoid, firstAvoided}
+use Rattle.leaves.specs.SecondLaws.{stuck-solvable}
+use Rattle.systems.specs.Clauses.{Assignment}
+use Rattle.systems.specs.Questions.{satisfiability, entailment, Question, questionHeight, firstCount, secondCount}
+use Rattle.systems.specs.Answers.{Answer, satisfied, unsatisfied, vacuous, entailed, unmet, missed, shows, heightGiven}
+use Rattle.systems.specs.AtLeaves.{firstAt, secondAt}
+use Rattle.systems.specs.Decide.{canSolve, canBreak, lowestMissed, decideKind, decide, sharesOf, fixed, shownWith}
+use Rattle.questions.specs.Held as held
+use Rattle.questions.specs.declared.Question.{Question as Struct}
+use Rattle.questions.specs.declared.Section.the-variants.{FirstDisequation, SecondDisequation}
+use Rattle.show.specs.declared.Plan.{Plan}
+use Rattle.show.specs.Plans as shown
+use Rattle.plans.specs.Numbers.{numbered}
+use Rattle.plans.specs.Tests.{Stored, roomOf, testsOf}
+use Rattle.plans.specs.StoredLaws.{row-digit}
+use Rattle.decide.specs.StandsLaws.{storedOf, Same, same-first, same-stuck, same-avoiding, count-same}
+use Rattle.plans.specs.ShownLaws.{plan-shows}
+use Rattle.plans.specs.Entries.{Made, SolvedAs}
+use Rattle.plans.specs.SolveLaws.{room-splits}
+use Rattle.decide.specs.Decision.{Planned, Decided}
+use Rattle.plans.specs.declared.Search.{Search}
+use Rattle.plans.specs.declared.Search.the-variants.{First, Stuck, Avoiding}
+use Rattle.decide.specs.declared.Finding.the-variants.{Satisfied, Unsatisfied, Vacuous, Entailed, Unmet, Missed}
+use Rattle.plans.specs.declared.Solved.{Solved}
+
+-- a test and its negation
+pub flip : (a : Bool) {b : Bool} → not a ≡ b → a ≡ not b
+flip true e = ap not e
+flip false e = ap not e
+
+-- a problem with one disequation more is solvable only if some leaf meets that one
+stuck-sticks : (h : ℕ) (q : Question) → T (solvable (least (q .free)) h (stuck (least (q .own)) (secondAt h q) (firstAt h q))) → T (canBreak h q)
+unfolding solvable canStick specialAt
+stuck-sticks h q t =
+    every-at _ (λ j. someBelow (2 ^ h) (specialAt (least (q .free)) (stuck (least (q .own)) (secondAt h q) (firstAt h q)) j))
+    (and-right (everyBelow (2 ^ h) (plainAt (least (q .free)) (stuck (least (q .own)) (secondAt h q) (firstAt h q)))) _ t) 0 (suc-le-suc zero-le)
+
+module _ (x : Struct) (q : Question) (St : held.Stands x q) (h : ℕ) (low : h ≤ 5) where
+  abbrev S : Stored
+  S = storedOf x (q .free) (q .own)
+
+  -- a plan of the fixed solution of a problem, with each leaf split k times
+  pub record Fixed (P : Problem (Row Bool (q .free))) (k : ℕ) (plan : Plan) : Type 0 where
+    pub formed : shown.Showable plan
+    pub high : plan .high ≡ h + k
+    pub trees : (v : ℕ) → v < q .free → shown.planTree plan (q .free - 1 - v) ≡ fixed h q P k v .tree
+
+  module _ (P : Problem (Row Bool (q .free))) (R : Problem ℕ) (same : Same x q St h P R) (k : ℕ) (few : k ≤ 5) (room : R .count ≤ 2 ^ k) (plan : Plan)
+      (M : Made (q .free) h R k plan) (can : T (solvable (least (q .free)) h (numbered (q .free) R))) where
+    fixed-formed : shown.Showable plan
+    fixed-formed = record {
+      below = omega (arith, M .low, M .high);
+      within = omega (arith, M .high);
+      blocks = omega (arith, M .low);
+      few = let p : 2 ^ k ≤ 2 ^ 5 = pow-mono {j = 5} few in omega (arith, M .count);
+      places = λ j l.
+          let m : j < R .count = rw (M .count) at l in
+          rw (M .high, M .places j m)
+          (leaf-lt h k (home-passes (least (q .free)) h (numbered (q .free) R) can j m .0) (place-lt (least (q .free)) h (numbered (q .free) R) k j room m));
+    }
+
+    fixed-trees : (v : ℕ) → v < q .free → shown.planTree plan (q .free - 1 - v) ≡ fixed h q P k v .tree
+    unfolding shown.planTree sharesOf
+    fixed-trees v l =
+        ap (λ w. treeOf w (λ s. bit (shown.choiceAt plan s) (q .free - 1 - v))) (M .high)
+        ∙ treeOf-ext (h + k) _ _ (λ s m.
+        ap (λ y. bit y (q .free - 1 - v)) (plan-shows (q .free) h R k plan M room s m can ∙ ap value (sym (same .candidate-is k s m)))
+        ∙ sym (row-digit (q .free) (candidate (least (q .free)) h P k s) v l))
+
+    pub fixed-plan : Fixed P k plan
+    fixed-plan = record { formed = fixed-formed; high = M .high; trees = fixed-trees }
+
+  -- what a search finds, and the plan of it
+  module _ (search : Search) (P : Problem (Row Bool (q .free))) (same : Same x q St h P (testsOf S h search)) (r : Solved) (D : SolvedAs S h search r) where
+    pub found-is : r .found ≡ solvable (least (q .free)) h P
+    found-is = D .found ∙ sym (same .solvable-is)
+
+    pub found-plan : T (r .found) → Fixed P (c (roomOf search (firstCount q))) (r .plan)
+    found-plan t =
+        let d : getD (x .counts) 1 0 ≡ firstCount q = sym (count-same x q St h FirstDisequation) in
+        let (few, room) = room-splits search (getD (x .counts) 1 0) _ (St .counted FirstDisequation) refl in
+        rw (← d) (fixed-plan P (testsOf S h search) same (c (roomOf search (getD (x .counts) 1 0))) few room (r .plan) (D .made t) (rw (D .found) at t))
+
+-- ---- the six findings
+
+module _ (x : Struct) (q : Question) (St : held.Stands x q) (low : questionHeight q ≤ 5) where
+  abbrev H : ℕ
+  H = questionHeight q
+
+  abbrev Q : Stored
+  Q = storedOf x (q .free) (q .own)
+
+  -- the plan of what is shown with the answer
+  planned : (a : Answer) (P : Problem (Row Bool (q .free))) (k : ℕ) (plan : Plan) → decide q ≡ a → heightGiven H q a ≡ H + k
+      → shownWith H q a ≡ fixed H q P k → Fixed x q St H low P k plan → Planned q plan
+  planned a P k plan d g s F = record {
+    formed = F .formed;
+    high = F .high ∙ sym (ap (heightGiven H q) d ∙ g);
+    trees = λ v l. F .trees v l ∙ ap (λ (σ : Assignment). σ v .tree) (sym (ap (shownWith H q) d ∙ s));
+  }
+
+  -- with nothing to show
+  unshown : (a : Answer) (plan : Plan) → shows a ≡ false → decide q ≡ a → T (shows (decide q)) → Planned q plan
+  unshown a plan s d t = absurd (rw (d, s) at t)
+
+  module _ (first : Solved) (D : SolvedAs Q H First first) where
+    can : first .found ≡ canSolve H q
+    can = found-is x q St H low First (firstAt H q) (same-first x q St H) first D
+
+    module _ (kind : q .kind ≡ satisfiability) where
+      pub decided-satisfied : first .found ≡ true → Decided q (record { finding = Satisfied; plan = first .plan })
+      unfolding decideKind
+      decided-satisfied e =
+          let d : decide q ≡ satisfied = rw (kind, sym can ∙ e) in
+          record {
+            answer = sym d;
+            plan = λ _. planned satisfied (firstAt H q) (c (firstCount q)) (first .plan) d refl refl
+                (found-plan x q St H low First (firstAt H q) (same-first x q St H) first D (of-true e));
+          }
+
+      pub decided-unsatisfied : first .found ≡ false → (plan : Plan) → Decided q (record { finding = Unsatisfied; plan = plan })
+      unfolding decideKind
+      decided-unsatisfied e plan =
+          let d : decide q ≡ unsatisfied = rw (kind, sym can ∙ e) in
+          record { answer = sym d; plan = unshown unsatisfied plan refl d }
+
+    module _ (kind : q .kind ≡ entailment) where
+      pub decided-vacuous : first .found ≡ false → (plan : Plan) → Decided q (record { finding = Vacuous; plan = plan })
+      unfolding decideKind
+      decided-vacuous e plan =
+          let d : decide q ≡ vacuous = rw (kind, sym can ∙ e) in
+          record { answer = sym d; plan = unshown vacuous plan refl d }
+
+      module _ (e : first .found ≡ true) (second : Solved) (E : SolvedAs Q H Stuck second) where
+        stuck-found : second .found ≡ solvable (least (q .free)) H (stuck (least (q .own)) (secondAt H q) (firstAt H q))
+        stuck-found = found-is x q St H low Stuck _ (same-stuck x q St H) second E
+
+        pub decided-unmet : second .found ≡ true → Decided q (record { finding = Unmet; plan = second .plan })
+        unfolding decideKind
+        decided-unmet f =
+            let breaks : canBreak H q ≡ true = is-true _ (stuck-sticks H q (of-true (sym stuck-found ∙ f))) in
+            let d : decide q ≡ unmet = rw (kind, sym can ∙ e, breaks) in
+            record {
+              answer = sym d;
+              plan = λ _. planned unmet _ (c (firstCount q + 1)) (second .plan) d refl refl
+                  (found-plan x q St H low Stuck _ (same-stuck x q St H) second E (of-true f));
+            }
+
+        module _ (f : second .found ≡ false) (j : ℕ)
+            (lowest : j ≡ firstBelow (getD (x .counts) 3 0) (λ i. solvable (least (q .free)) H (numbered (q .free) (testsOf Q H (Avoiding i))))) where
+          holds-on : canBreak H q ≡ false
+          holds-on =
+              is-false (canBreak H q) (not-T (canBreak H q) (λ t.
+              T-not (solvable (least (q .free)) H (stuck (least (q .own)) (secondAt H q) (firstAt H q))) (of-false (sym stuck-found ∙ f))
+              (stuck-solvable (least (q .free)) (least (q .own)) H (firstAt H q) (secondAt H q) (of-true (sym can ∙ e)) t)))
+
+          count : getD (x .counts) 3 0 ≡ secondCount q
+          count = sym (count-same x q St H SecondDisequation)
+
+          lowest-is : j ≡ lowestMissed H q
+          unfolding firstAvoided canAvoid
+          lowest-is =
+              lowest
+              ∙ first-ext (getD (x .counts) 3 0) _ _ (λ i l. sym (same-avoiding x q St H i l .solvable-is))
+              ∙ ap (λ n. firstBelow n (canAvoid (least (q .free)) (least (q .own)) H (firstAt H q) (secondAt H q))) count
+
+          pub decided-entailed : getD (x .counts) 3 0 ≤ j → (plan : Plan) → Decided q (record { finding = Entailed; plan = plan })
+          unfolding decideKind
+          decided-entailed l plan =
+              let d : decide q ≡ entailed = rw (kind, sym can ∙ e, holds-on, ← lowest-is, ← count, le-ltb j (getD (x .counts) 3 0) l) in
+              record { answer = sym d; plan = unshown entailed plan refl d }
+
+          pub decided-missed : j < getD (x .counts) 3 0 → (third : Solved) → SolvedAs Q H (Avoiding j) third → Decided q (record { finding = Missed j; plan = third .plan })
+          unfolding decideKind
+          decided-missed l third G =
+              let d : decide q ≡ missed j = rw (kind, sym can ∙ e, holds-on, ← lowest-is, ← count, lt-ltb j (getD (x .counts) 3 0) l) in
+              let t : T (third .found) = rw (G .found) (avoided l) in
+              record {
+                answer = sym d;
+                plan = λ _. planned (missed j) _ (c (firstCount q + 1)) (third .plan) d refl refl
+                    (found-plan x q St H low (Avoiding j) _ (same-avoiding x q St H j l) third G t);
+              }
+            where
+              avoided : j < getD (x .counts) 3 0 → T (solvable (least (q .free)) H (numbered (q .free) (testsOf Q H (Avoiding j))))
+              avoided l = rw (← lowest) at (first-below (getD (x .counts) 3 0) (λ i. solvable (least (q .free)) H (numbered (q .free) (testsOf Q H (Avoiding i)))) (rw (← lowest) l))

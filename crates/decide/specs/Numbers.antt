@@ -1,9 +1,0 @@
--- A problem at the leaves whose choices are numbers: n values as the digits of a number below 2 ^ n, the first the highest. Assumes nothing.
-use mathlib.Core.Bool.{Bool}
-use Prim.Native.Nat.{ℕ}
-use Rattle.leaves.specs.Choices.{Row, value}
-use Rattle.leaves.specs.Problem.{Problem}
-
--- the problem of rows of n values that tests of their numbers pose
-abbrev pub numbered : (n : ℕ) → Problem ℕ → Problem (Row Bool n)
-numbered n R = record { pos = λ b v. R .pos b (value v); count = R .count; dis = λ j b v. R .dis j b (value v) }
