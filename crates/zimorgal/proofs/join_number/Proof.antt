@@ -1,0 +1,23 @@
+-- `zimorgal::join_number` gives the number that a join has. Assumes nothing.
+use Rattle.zimorgal.specs.CallLaws.{join-defined}
+use borrow.Author.Needs.{needs}
+use Rattle.zimorgal.proofs.join_number.Statement.{statement}
+use Rattle.zimorgal.proofs.join_number.Tie as tie
+
+enum-known-joined : tie.Need-enum-known-joined
+enum-known-joined c = search needs
+
+cast-result : tie.Need-cast-result
+cast-result c = search needs
+
+enum-told : tie.Need-enum-told
+enum-told c = search needs
+
+returns : tie.Need-returns
+returns c = join-defined _ _ (search needs) (c .before .joined .given .1)
+
+returns-2 : tie.Need-returns-2
+returns-2 c = search needs
+
+pub join-number-spec : {M : Type 1} → statement M
+join-number-spec = tie.close (tie.spec enum-known-joined cast-result enum-told returns returns-2)

@@ -1,0 +1,21 @@
+-- What the numbers of the text call and of the join call stand for. Assumes nothing.
+use mathlib.Core.Bool.{cond}
+use mathlib.Core.Option.{Option, none, some}
+use Prim.Native.Nat.{ℕ, _+_, _*_, _^_}
+use lib.Dec.{eqb}
+use Rattle.shares.specs.Tree.{Tree}
+use Rattle.shares.specs.Constant.{constant}
+use Rattle.show.specs.Texts.{lengthOf, refusalOf}
+use Rattle.show.specs.declared.Written.{Written}
+
+-- a text's length in the low 32 bits, the refusal number in the byte after them
+abbrev pub textNumber : Written → ℕ
+textNumber w = lengthOf w + 2 ^ 32 * refusalOf w
+
+-- a number that is no join
+abbrev pub undefinedJoin : ℕ
+undefinedJoin = 2 ^ 32
+
+-- the tree that a join's number stands for
+abbrev pub numberJoin : ℕ → Option Tree
+numberJoin n = cond (eqb n undefinedJoin) none (some (constant n))

@@ -1,0 +1,37 @@
+-- Demand 3, one claim over every accepted question, of the model and of what asking gives and shows. Assumes nothing.
+use mathlib.Core.Path.{_≡_}
+use mathlib.Core.List.{List}
+use Prim.Native.Nat.{ℕ, _≤_, _<_}
+use lib.Dec.{T}
+use Rattle.shares.specs.Tree as tree
+use Rattle.shares.specs.TreeLaws.{treeOf-folded}
+use Rattle.leaves.specs.Heights.{anyHeight}
+use Rattle.systems.specs.Clauses.{Assignment}
+use Rattle.systems.specs.Questions.{Question, questionHeight}
+use Rattle.systems.specs.Answers.{Answer, Answers, shows, heightGiven, Shown}
+use Rattle.systems.specs.HeightRule.{HeightRule}
+use Rattle.show.specs.Rows.{rowLevels, rowBytes, rowCount, rowTree, rowPart}
+use Rattle.zimorgal.specs.declared.Outcome.{Outcome}
+use Rattle.zimorgal.specs.Asking.{zeros}
+
+-- the shares that the rows of an answer buffer stand for, each row unfolded to height 10
+abbrev pub rowShares : List ℕ → Assignment
+rowShares answer v = record { tree = rowTree rowLevels (rowPart answer v); folded = treeOf-folded rowLevels _ }
+
+-- an answer buffer shows a solution that goes with the answer a
+pub record RowsShow (q : Question) (a : Answer) (answer : List ℕ) : Type 0 where
+  -- the rows' shares solve the first system, are no taller than the height given and, for a no, do not extend, for the reason given
+  pub solution : Shown (questionHeight q) q a (rowShares answer)
+  -- no row is taller than the height given
+  pub low : (v : ℕ) → tree.height (rowShares answer v .tree) ≤ heightGiven (questionHeight q) q a
+  -- rows of own and absent variables are zero
+  pub others : (v : ℕ) → q .free ≤ v → v < rowCount → rowPart answer v ≡ zeros rowBytes
+
+-- the claim: where a is the right answer to q
+pub record Demand3 (q : Question) (r : Outcome) (answer : List ℕ) : Type 0 where
+  -- the rule of heights holds
+  pub rule : HeightRule (questionHeight q) q
+  -- the height given is the formula's: h + c d with a solution, h + c (d + 1) with a refuted entailment, 0 where no solution is shown
+  pub height : (a : Answer) → Answers anyHeight q a → r .height ≡ heightGiven (questionHeight q) q a
+  -- where a solution is shown, the answer buffer has it
+  pub shown : (a : Answer) → Answers anyHeight q a → T (shows a) → RowsShow q a answer

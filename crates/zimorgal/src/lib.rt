@@ -1,0 +1,255 @@
+// Asking a question, and every call that other programs link.
+use decide::Decision;
+use decide::Finding;
+use shares::Joined;
+use show::Written;
+ghost use mathlib.Core.Path.{_≡_};
+ghost use mathlib.Core.Bool.{true, cond};
+ghost use mathlib.Core.List.{_++_};
+ghost use Prim.Native.Nat.{_≤_, _/_, _%_, _^_};
+ghost use lib.ListN.{length, take, drop};
+ghost use Rattle.shares.specs.Tree.{height, join};
+ghost use Rattle.shares.specs.Constant.{constant};
+ghost use Rattle.shares.specs.Answer.{joinOf};
+ghost use Rattle.systems.specs.Questions as model;
+ghost use Rattle.systems.specs.Answers.{shows};
+ghost use Rattle.show.specs.Rows.{rowCount, answerBytes, rowPart, rowPlace};
+ghost use Rattle.show.specs.Plans.{Showable, shownAnswer};
+ghost use Rattle.show.specs.Texts.{textAnswer, textAfter};
+ghost use Rattle.decide.specs.Decision.{answerOf};
+ghost use Rattle.zimorgal.specs.Asking.{workBytes, answered, askedWith, refusalOutcome, answerOutcome, outcomeOf, zeros, answerAfter, workAfter};
+ghost use Rattle.zimorgal.specs.Packing.{packed, unpacked, Fits};
+ghost use Rattle.zimorgal.specs.Calls.{textNumber, undefinedJoin, numberJoin};
+ghost use Rattle.zimorgal.specs.Exact.{Exact};
+ghost use Rattle.zimorgal.specs.Demand3.{Demand3};
+
+// A shown solution fills this many bytes of the answer buffer.
+const ANSWER_BYTES: usize = 1536;
+
+// This many bytes of the work area are zero after a yes or no.
+const WORK_BYTES: usize = 4096;
+
+// ---- what asking gives
+
+// The verdict (0 refused, 1 yes, 2 no), the refusal's number and its place, the height given, the reason and the disequation
+// number. A field without a meaning is 0.
+pub struct Outcome {
+    pub verdict: u8,
+    pub refusal: u8,
+    pub place: usize,
+    pub height: usize,
+    pub reason: u8,
+    pub number: usize,
+}
+
+// The result of a refusal.
+fn refused(refusal: u8, place: usize) -> Outcome
+    ensures { λ r. ⌜ r ≡ refusalOutcome refusal place ⌝ }
+{
+    Outcome {
+        verdict: 0,
+        refusal,
+        place,
+        height: 0,
+        reason: 0,
+        number: 0,
+    }
+}
+
+// The result of an answer.
+fn answered(verdict: u8, height: usize, reason: u8, number: usize) -> Outcome
+    ensures { λ r. ⌜ r ≡ record { verdict = verdict; refusal = 0; place = 0; height = height; reason = reason; number = number } ⌝ }
+{
+    Outcome {
+        verdict,
+        refusal: 0,
+        place: 0,
+        height,
+        reason,
+        number,
+    }
+}
+
+// The result of each finding, with the height given.
+fn outcome_of(finding: Finding, height: usize) -> Outcome
+    ensures { λ r. ⌜ r ≡ answerOutcome (answerOf finding) height ⌝ }
+{
+    match finding {
+        Finding::Satisfied => answered(1, height, 0, 0),
+        Finding::Unsatisfied => answered(2, height, 0, 0),
+        Finding::Vacuous => answered(1, height, 1, 0),
+        Finding::Entailed => answered(1, height, 0, 0),
+        Finding::Unmet => answered(2, height, 2, 0),
+        Finding::Missed(j) => answered(2, height, 3, j),
+    }
+}
+
+// Whether a solution is shown.
+fn is_shown(finding: Finding) -> bool
+    ensures { λ r. ⌜ r ≡ shows (answerOf finding) ⌝ }
+{
+    match finding {
+        Finding::Satisfied => true,
+        Finding::Unsatisfied => false,
+        Finding::Vacuous => false,
+        Finding::Entailed => false,
+        Finding::Unmet => true,
+        Finding::Missed(_) => true,
+    }
+}
+
+// The height of the plan that is shown, 0 if none is.
+fn height_of(decision: Decision) -> usize
+    ensures { λ r. ⌜ r ≡ cond (shows (answerOf (decision .finding))) (decision .plan .high) 0 ⌝ }
+{
+    let finding = decision.finding;
+    let plan = decision.plan;
+    if is_shown(finding) {
+        return plan.high;
+    }
+    0
+}
+
+// The result of a decision.
+fn found(decision: Decision) -> Outcome
+    ensures { λ r. ⌜ r ≡ answerOutcome (answerOf (decision .finding)) (cond (shows (answerOf (decision .finding))) (decision .plan .high) 0) ⌝ }
+{
+    let finding = decision.finding;
+    let height = height_of(decision);
+    outcome_of(finding, height)
+}
+
+// ---- the lent bytes
+
+// Shows the solution of a decision of n free variables, where it has one to show.
+fn show_solution(answer: &mut [u8], n: usize, decision: Decision)
+    requires { ⌜ (answerBytes ≤ length (now answer)) × (n ≤ rowCount) ⌝ }
+    requires { ⌜ (shows (answerOf (decision .finding)) ≡ true → Showable (decision .plan)) ⌝ }
+    ensures { λ _. ⌜ now (answer .exit) ≡ cond (shows (answerOf (decision .finding))) (shownAnswer n (decision .plan) (now (answer .entry))) (now (answer .entry)) ⌝ }
+{
+    let finding = decision.finding;
+    let plan = decision.plan;
+    if is_shown(finding) {
+        show::write_rows(answer, n, plan);
+    }
+}
+
+// Sets the first bytes of the work area to zero.
+fn clear(work: &mut [u8])
+    requires { ⌜ workBytes ≤ length (now work) ⌝ }
+    ensures { λ _. ⌜ now (work .exit) ≡ zeros workBytes ++ drop workBytes (now (work .entry)) ⌝ }
+{
+    show::fill(&mut work[0..WORK_BYTES], 0);
+}
+
+// ---- asking
+
+// Reads a question and answers it. Every byte string and all buffers may be handed over.
+pub fn ask(question: &[u8], answer: &mut [u8], work: &mut [u8]) -> Outcome
+    ensures outcome { λ r. ⌜ r ≡ outcomeOf (askedWith (now (question .entry)) (now (answer .entry)) (now (work .entry))) ⌝ }
+    ensures answer { λ _. ⌜ now (answer .exit) ≡ answerAfter (askedWith (now (question .entry)) (now (answer .entry)) (now (work .entry))) (now (answer .entry)) ⌝ }
+    ensures work { λ _. ⌜ now (work .exit) ≡ workAfter (askedWith (now (question .entry)) (now (answer .entry)) (now (work .entry))) (now (work .entry)) ⌝ }
+    ensures model { λ r. ⌜ ((q : model.Question) → askedWith (now (question .entry)) (now (answer .entry)) (now (work .entry)) ≡ answered q → Exact q r × Demand3 q r (now (answer .exit))) ⌝ }
+{
+    let reading = questions::read(question);
+    if reading.refusal != 0 {
+        return refused(reading.refusal, reading.place);
+    }
+    if answer.len() < ANSWER_BYTES {
+        return refused(11, 0);
+    }
+    if work.len() < WORK_BYTES {
+        return refused(12, 0);
+    }
+    let taken = reading.question;
+    let decision = decide::decide(taken);
+    show_solution(answer, taken.free, decision);
+    clear(work);
+    found(decision)
+}
+
+// The result as one number: each field is multiplied to its place.
+fn pack(outcome: Outcome) -> u64
+    requires { ⌜ Fits outcome ⌝ }
+    ensures { λ r. ⌜ r ≡ packed outcome ⌝ }
+{
+    let low = wide(outcome.verdict) + 256 * wide(outcome.refusal) + 65536 * (outcome.place as u64);
+    let height = 4294967296 * (outcome.height as u64);
+    let reason = 1099511627776 * wide(outcome.reason);
+    let number = 281474976710656 * (outcome.number as u64);
+    low + height + reason + number
+}
+
+// A byte as a wide number.
+fn wide(byte: u8) -> u64
+    ensures { λ r. ⌜ r ≡ byte ⌝ }
+{
+    byte as u64
+}
+
+// ---- the calls
+
+// Asking, its result as one number.
+#[no_mangle]
+pub extern "C" fn zimorgal_ask(question: &[u8], answer: &mut [u8], work: &mut [u8]) -> u64
+    ensures outcome { λ r. ⌜ r ≡ packed (outcomeOf (askedWith (now (question .entry)) (now (answer .entry)) (now (work .entry)))) ⌝ }
+    ensures answer { λ _. ⌜ now (answer .exit) ≡ answerAfter (askedWith (now (question .entry)) (now (answer .entry)) (now (work .entry))) (now (answer .entry)) ⌝ }
+    ensures work { λ _. ⌜ now (work .exit) ≡ workAfter (askedWith (now (question .entry)) (now (answer .entry)) (now (work .entry))) (now (work .entry)) ⌝ }
+    ensures model { λ r. ⌜ ((q : model.Question) → askedWith (now (question .entry)) (now (answer .entry)) (now (work .entry)) ≡ answered q → Exact q (unpacked r) × Demand3 q (unpacked r) (now (answer .exit))) ⌝ }
+{
+    pack(ask(question, answer, work))
+}
+
+// Where the row of a variable lies in an answer buffer: the offset in the low 32 bits, the length in the high 32.
+#[no_mangle]
+pub extern "C" fn zimorgal_row(answer: &[u8], variable: usize) -> u64
+    ensures place { λ r. ⌜ r ≡ rowPlace (length (now (answer .entry))) variable ⌝ }
+    ensures part { λ r. ⌜ take (r / 2 ^ 32) (drop (r % 2 ^ 32) (now (answer .entry))) ≡ rowPart (now (answer .entry)) variable ⌝ }
+{
+    show::row_place(answer.len(), variable)
+}
+
+// The text of a row: the length in the low 32 bits, the refusal number in the byte after them.
+#[no_mangle]
+pub extern "C" fn zimorgal_text(row: &[u8], text: &mut [u8]) -> u64
+    ensures answer { λ r. ⌜ r ≡ textNumber (textAnswer (now (row .entry)) (now (text .entry))) ⌝ }
+    ensures text { λ _. ⌜ now (text .exit) ≡ textAfter (now (row .entry)) (now (text .entry)) ⌝ }
+{
+    text_number(show::tree_text(row, text))
+}
+
+// The number of a text that was written or refused.
+fn text_number(written: Written) -> u64
+    ensures { λ r. ⌜ r ≡ textNumber written ⌝ }
+{
+    match written {
+        Written::Length(n) => n as u64,
+        Written::Refused(n) => 4294967296 * wide(n),
+    }
+}
+
+// The join of two constants in the low 32 bits; 2^32 where it is undefined.
+#[no_mangle]
+pub extern "C" fn zimorgal_join(a: u32, b: u32) -> u64
+    ensures { λ r. ⌜ (r ≤ undefinedJoin) × (numberJoin r ≡ join (constant a) (constant b)) ⌝ }
+{
+    join_number(shares::join_constants(a, b))
+}
+
+// The number of a join.
+fn join_number(joined: Joined) -> u64
+    ensures { λ r. ⌜ (r ≤ undefinedJoin) × (numberJoin r ≡ joinOf joined) ⌝ }
+{
+    match joined {
+        Joined::Constant(n) => n as u64,
+        Joined::Undefined => 4294967296,
+    }
+}
+
+// The height of a constant.
+#[no_mangle]
+pub extern "C" fn zimorgal_height(a: u32) -> u32
+    ensures { λ r. ⌜ r ≡ height (constant a) ⌝ }
+{
+    shares::constant_height(a)
+}
