@@ -10,6 +10,7 @@ use brute::question::{
 use brute::random::Random;
 use brute::tree::{tree_of_number, Tree};
 use brute::worked::{self, Worked};
+use std::ops::Range;
 
 pub struct Family {
     pub name: String,
@@ -26,12 +27,12 @@ pub fn all() -> Vec<Family> {
         largest_satisfiable(),
         largest_entailments(),
     ];
-    for own in 0..=MOST_VARIABLES {
-        families.push(split(own, Own::Any));
+    for shape in [Shape::Any, Shape::OnlyLast] {
+        for own in 0..=MOST_VARIABLES {
+            families.push(split(own, shape));
+        }
     }
-    for own in 1..=MOST_VARIABLES {
-        families.push(split(own, Own::OnlyLast));
-    }
+    families.push(split(0, Shape::Missed));
     families
 }
 
@@ -117,59 +118,72 @@ fn largest_entailments() -> Family {
     )
 }
 
-/// Beside which own values the second system's positive clauses hold in a worst case.
+/// What a worst case allows.
 #[derive(Clone, Copy, PartialEq, Eq)]
-enum Own {
-    /// Beside all: a set of choices is full after the first own values, but no disequation of the second
-    /// holds before the last leaf, so the search for each of the 31 goes through all own values there.
+enum Shape {
+    /// All values, in both systems: every set of choices is full, and whatever is looked for among them is looked
+    /// for in all.
     Any,
-    /// Beside the last only, by the last clauses: the search for a choice that leaves the positive
-    /// clauses unmet cannot stop before the last own values either.
+    /// The last values only, all full: the search for a choice comes to the last one before it finds any. The
+    /// clauses that allow no other stand last, those of the variable that is compared first at the very end.
     OnlyLast,
+    /// As the first shape, but the last disequation of the second can be had nowhere. The answer is no, with
+    /// reason 3 and 30: the last search finds a solution, and it is shown.
+    Missed,
 }
 
-/// The worst case of a split into free and own variables. The answer is yes with reason 0, after
+/// The worst case of a split into free and own variables. The answer is yes with reason 0 (but for `Missed`), after
 /// everything was looked at:
-/// - all positive clauses hold for every choice (or fail only by the last ones), so none ends early;
-/// - each disequation, of either system, holds in the last of the 32 leaves alone, so all leaves are
-///   searched for it, and found to lack it with every choice and all own values;
-/// - in the last leaf every choice can have each disequation of the second, so for each of the 31 a
-///   solution that lacks it is sought through all leaves and fails in the last.
+/// - no positive clause fails for a choice, or only the last ones do, so that none ends early;
+/// - each disequation, of either system, holds in the last of the 32 leaves alone, and there with every choice. So it
+///   is looked for in all leaves, with every choice and all own values;
+/// - for each of the second's 31 a solution that lacks it is looked for through all leaves, with the first's 31 still
+///   without a leaf, and fails in the last.
 ///
-/// Which is dearest depends on the solver. One choice at a time, all splits cost the same, 2^12 pairs per
-/// leaf. Where 64 choices of the free variables go into one word and own values are taken one by one,
-/// words are filled badly under six free variables: 2^m words per leaf, clause and disequation, so that 0
-/// free and 12 own is dearest, 64 times dearer than 12 free.
-fn split(own: usize, shape: Own) -> Family {
+/// Which is dearest depends on the solver. One choice at a time, the second system costs the same in all splits, 2^12
+/// pairs per leaf. With 64 pairs in a word it does too, 2^6 words. But the first system and the homes of its
+/// disequations are sought among the free values alone, so that 12 free is dearest there: 31 times 31 times 31 searches
+/// through 2^6 words.
+fn split(own: usize, shape: Shape) -> Family {
     let free = MOST_VARIABLES - own;
     let mut constants = vec![Tree::Empty, Tree::Full, tree_of_number(1 << 31)];
     while constants.len() < MOST_CONSTANTS {
         constants.push(tree_of_number(0x1234_5678 + constants.len() as u32));
     }
     let shape_name = match shape {
-        Own::Any => "any own values",
-        Own::OnlyLast => "only the last own values",
+        Shape::Any => "any values",
+        Shape::OnlyLast => "only the last values",
+        Shape::Missed => "reason 3 30",
     };
-    let question = Question {
+    let fixed = |variables| match shape {
+        Shape::OnlyLast => variables,
+        Shape::Any | Shape::Missed => 0..0,
+    };
+    let mut question = Question {
         entailment: true,
         free,
         own,
         constants,
-        first: clauses_of_split(free, free, 0),
-        second: match shape {
-            Own::Any => clauses_of_split(free, MOST_VARIABLES, 0),
-            Own::OnlyLast => clauses_of_split(free, MOST_VARIABLES, own),
-        },
+        first: clauses_of_split(free, fixed(0..free)),
+        second: clauses_of_split(MOST_VARIABLES, fixed(free..MOST_VARIABLES)),
     };
+    if shape == Shape::Missed {
+        let variable = Term::Variable(0);
+        question.second.pop();
+        question.second.push(Clause {
+            relation: Relation::Equal(variable, variable),
+            negated: true,
+        });
+    }
     Family {
         name: format!("worst case, {free} free, {own} own, {shape_name}"),
         questions: vec![write_in_order(&question)],
     }
 }
 
-/// 64 positive clauses that hold for every choice, but for the last `fixed`, which make own variables
-/// full; and 31 disequations that hold in the last leaf alone, for every choice.
-fn clauses_of_split(free: usize, variables: usize, fixed: usize) -> Vec<Clause> {
+/// 64 positive clauses that hold for every choice, but for the last ones, which make the variables `fixed` full; and
+/// 31 disequations that hold in the last leaf alone, for every choice.
+fn clauses_of_split(variables: usize, fixed: Range<usize>) -> Vec<Clause> {
     let (empty, full, last_leaf) = (Term::Constant(0), Term::Constant(1), Term::Constant(2));
     let clause = |relation, negated| Clause { relation, negated };
     let term = |number: usize| match variables {
@@ -177,13 +191,13 @@ fn clauses_of_split(free: usize, variables: usize, fixed: usize) -> Vec<Clause> 
         _ => Term::Variable(number % variables),
     };
     let mut clauses = Vec::new();
-    for number in 0..MOST_POSITIVE - fixed {
+    for number in 0..MOST_POSITIVE - fixed.len() {
         let term = term(number);
         clauses.push(clause(Relation::Join(term, empty, term), false));
     }
-    for own in 0..fixed {
-        let own = Term::Variable(free + own);
-        clauses.push(clause(Relation::Equal(own, full), false));
+    for variable in fixed.rev() {
+        let variable = Term::Variable(variable);
+        clauses.push(clause(Relation::Equal(variable, full), false));
     }
     for number in 0..MOST_DISEQUATIONS {
         // Not (v join the last leaf is v): undefined or another share there, and v elsewhere.
@@ -195,19 +209,75 @@ fn clauses_of_split(free: usize, variables: usize, fixed: usize) -> Vec<Clause> 
 
 #[cfg(test)]
 mod tests {
-    use super::{split, Own};
-    use brute::question::{read, MOST_VARIABLES};
-    use brute::single::decide;
+    use super::{split, Shape};
+    use brute::question::{read, Clause, Question, MOST_POSITIVE, MOST_VARIABLES};
+    use brute::single::{constants_by_leaf, decide, holds_at_leaf};
 
-    /// Every worst case is entailed, with reason 0, and not because the first has no solution.
+    const OWN: [usize; 4] = [0, 1, 6, MOST_VARIABLES];
+
+    fn question(own: usize, shape: Shape) -> Question {
+        read(&split(own, shape).questions[0]).expect("accepted")
+    }
+
+    /// The answers are those that are told.
     #[test]
-    fn worst_cases_are_entailed() {
-        for own in [0, 1, 6, MOST_VARIABLES] {
-            for shape in [Own::Any, Own::OnlyLast] {
-                let family = split(own, shape);
-                let question = read(&family.questions[0]).expect("accepted");
-                let outcome = decide(&question);
-                assert!(outcome.yes && outcome.reason == 0, "{}", family.name);
+    fn answers() {
+        for own in OWN {
+            for shape in [Shape::Any, Shape::OnlyLast] {
+                let outcome = decide(&question(own, shape));
+                assert!(outcome.yes && outcome.reason == 0);
+            }
+        }
+        let outcome = decide(&question(0, Shape::Missed));
+        assert_eq!((outcome.reason, outcome.disequation), (3, 30));
+    }
+
+    /// Each clause of a system, where it holds: whether in no choice, in all, or else, at each leaf.
+    fn looks(question: &Question, clause: &Clause, choices: &[Vec<bool>]) -> Vec<Option<bool>> {
+        let by_leaf = constants_by_leaf(question, question.height());
+        let look = |constants: &Vec<bool>| {
+            let mut held = choices
+                .iter()
+                .map(|choice| holds_at_leaf(clause, choice, constants));
+            let first = held.next()?;
+            held.all(|other| other == first).then_some(first)
+        };
+        by_leaf.iter().map(look).collect()
+    }
+
+    /// No search ends early: a disequation holds with no choice before the last leaf and with all there; a positive
+    /// clause holds always, but for the last ones of the second shape, which the last choice alone meets.
+    #[test]
+    fn no_search_ends_early() {
+        let choices: Vec<Vec<bool>> = (0..1 << MOST_VARIABLES)
+            .map(|number| (0..MOST_VARIABLES).map(|v| number >> v & 1 == 1).collect())
+            .collect();
+        let mut only_last = vec![Some(false); 32];
+        only_last[31] = Some(true);
+        for own in OWN {
+            for shape in [Shape::Any, Shape::OnlyLast] {
+                let question = question(own, shape);
+                for (system, variables) in
+                    [(&question.first, question.free), (&question.second, own)]
+                {
+                    let fixed = if shape == Shape::OnlyLast {
+                        variables
+                    } else {
+                        0
+                    };
+                    let always = MOST_POSITIVE - fixed;
+                    for (number, clause) in system.iter().enumerate() {
+                        let due = match number {
+                            n if n < always => vec![Some(true); 32],
+                            n if n < MOST_POSITIVE => vec![None; 32],
+                            _ => only_last.clone(),
+                        };
+                        assert_eq!(looks(&question, clause, &choices), due);
+                    }
+                    let constants = &constants_by_leaf(&question, 5)[0];
+                    let mut positive = system[always..MOST_POSITIVE].iter();
+                    assert!(positive.all(|c| holds_at_leaf(c, &[true; MOST_VARIABLES], constants)));
+                }
             }
         }
     }

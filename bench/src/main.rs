@@ -13,8 +13,8 @@ use std::time::{Duration, Instant};
 
 /// How long the rounds of one family and one solver go on.
 const LONG_ENOUGH: Duration = Duration::from_millis(150);
-/// Route B is left out where its first question took longer.
-const TOO_LONG: Duration = Duration::from_secs(1);
+/// Route B is left out where a family's first question takes longer; the table says so.
+const TOO_LONG: Duration = Duration::from_secs(5);
 const MOST_ROUNDS: usize = 2001;
 
 fn main() {
@@ -23,7 +23,7 @@ fn main() {
         std::process::exit(2);
     }
     println!(
-        "{:<52} {:>9} {:>14} {:>14} {:>8}",
+        "{:<52} {:>9} {:>12} {:>16} {:>12}",
         "family", "questions", "library ns", "route B ns", "ratio"
     );
     for family in all() {
@@ -33,18 +33,21 @@ fn main() {
 
 fn print_line(family: &Family) {
     let by_library = median_round(family, ask_library);
-    let by_route_b = route_b(family);
-    let shown = |value: Option<f64>, digits: usize| match value {
-        Some(value) => format!("{value:.digits$}"),
-        None => "-".to_string(),
+    let (route_b, ratio) = match route_b(family) {
+        Some(ns) => (format!("{ns:.0}"), format!("{:.1}", ns / by_library)),
+        None => {
+            let least = TOO_LONG.as_nanos() as f64;
+            let ratio = format!("over {:.0}", least / by_library);
+            (format!("over {least:.0}"), ratio)
+        }
     };
     println!(
-        "{:<52} {:>9} {:>14} {:>14} {:>8}",
+        "{:<52} {:>9} {:>12.0} {:>16} {:>12}",
         family.name,
         family.questions.len(),
-        shown(Some(by_library), 0),
-        shown(by_route_b, 0),
-        shown(by_route_b.map(|ns| ns / by_library), 1)
+        by_library,
+        route_b,
+        ratio
     );
 }
 
@@ -55,17 +58,21 @@ fn ask_library(bytes: &[u8]) {
     black_box((answer, work));
 }
 
-/// Whether the answer is yes, and the reason.
-fn library_says(bytes: &[u8]) -> Option<(bool, u8)> {
+/// The verdict (1 yes, 2 no), the height, the reason and the disequation number.
+type Said = [u8; 4];
+
+fn library_says(bytes: &[u8]) -> Option<Said> {
     let mut answer = [0; ANSWER_BYTES];
     let mut work = [0; ASK_WORK_BYTES];
     let fields = library::ask(bytes, &mut answer, &mut work).to_le_bytes();
-    (fields[0] > 0).then_some((fields[0] == 1, fields[5]))
+    (fields[0] > 0).then_some([fields[0], fields[4], fields[5], fields[6]])
 }
 
-fn route_b_says(bytes: &[u8]) -> Option<(bool, u8)> {
+fn route_b_says(bytes: &[u8]) -> Option<Said> {
     let outcome = decide(&read(bytes).ok()?);
-    Some((outcome.yes, outcome.reason))
+    let verdict = if outcome.yes { 1 } else { 2 };
+    let (height, number) = (outcome.height as u8, outcome.disequation as u8);
+    Some([verdict, height, outcome.reason, number])
 }
 
 fn ask_route_b(bytes: &[u8]) {
@@ -74,7 +81,8 @@ fn ask_route_b(bytes: &[u8]) {
     }
 }
 
-/// Route B's time, unless it is too long; both solvers must give one verdict and reason first.
+/// Route B's time, unless it is too long; both solvers must say the same first, of as many questions as go into
+/// that time.
 fn route_b(family: &Family) -> Option<f64> {
     let began = Instant::now();
     for question in &family.questions {

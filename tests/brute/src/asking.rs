@@ -7,7 +7,10 @@ use crate::make::{
     crowded, damaged, entailment, hidden_question, largest, random_question, Change, Counts, Size,
     CHANGES,
 };
-use crate::question::{hex, read, split, write, Question, Refusal};
+use crate::question::{
+    hex, read, split, write, Question, Refusal, MOST_CONSTANTS, MOST_DISEQUATIONS, MOST_POSITIVE,
+    MOST_VARIABLES,
+};
 use crate::random::Random;
 use crate::refusals;
 use crate::report::Report;
@@ -179,6 +182,7 @@ pub fn compare_asking(report: &mut Report) {
     entailments(report);
     crowded_leaves(report);
     large_questions(report);
+    large_systems(report);
     damaged_bytes(report);
 }
 
@@ -392,6 +396,30 @@ fn large_questions(report: &mut Report) {
         let question = entailment(&mut random, variables, constants, clauses, change);
         ask(report, &mut random, &question, &mut seen);
     }
+    seen.often(report, 5, false);
+}
+
+/// Kind 0 with 8 to 12 variables and nearly all clauses, built round a hidden solution; in every second one a
+/// clause is then turned into its negation.
+fn large_systems(report: &mut Report) {
+    report.family("large questions of kind 0");
+    let mut random = Random::new(19);
+    let mut satisfiable = [0; 2];
+    let counts = Counts {
+        positive: MOST_POSITIVE - 1,
+        disequations: MOST_DISEQUATIONS - 1,
+    };
+    for round in 0..60 {
+        let free = random.between(8, MOST_VARIABLES);
+        let mut question = hidden_question(&mut random, free, MOST_CONSTANTS, 5, counts);
+        if round % 2 == 1 {
+            let turned = random.below(question.first.len());
+            question.first[turned].negated ^= true;
+        }
+        satisfiable[usize::from(decide(&question).yes)] += 1;
+        ask(report, &mut random, &question, &mut Seen::default());
+    }
+    report.same("both verdicts", satisfiable.map(|n| n >= 5), [true; 2]);
 }
 
 /// A largest question has as many clauses as the format allows, and height 5.

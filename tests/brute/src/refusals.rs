@@ -391,7 +391,7 @@ fn after_the_longest() -> Vec<Fault> {
             place: 925,
         }),
     };
-    [1, 98, 99, 100, 2000].map(more).into()
+    [1, 98, 99, 100, 2000, 70_000].map(more).into()
 }
 
 /// All faults worked by hand, and some questions beside them that have none.
