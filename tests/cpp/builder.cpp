@@ -1,0 +1,563 @@
+// Tests of zimorgal.hpp against document 01 and against the library. The last line is 'N passed, M failed'.
+#include <cstdio>
+#include <cstdlib>
+#include <cstring>
+#include <new>
+#include <string>
+#include <vector>
+
+#include "zimorgal.hpp"
+
+using namespace zimorgal;
+
+// ---------------------------------------------------------------- Counting
+
+namespace {
+
+int passed = 0, failed = 0;
+long allocations = 0;
+
+void check(bool holds, const std::string& what) {
+    ++(holds ? passed : failed);
+    if (!holds) std::printf("FAILED %s\n", what.c_str());
+}
+
+using String = std::vector<std::uint8_t>;
+
+String copy(const Question& question) {
+    const Bytes bytes = question.bytes();
+    return String(bytes.begin(), bytes.end());
+}
+
+// What the library says of a string's form alone: with no answer buffer an accepted string is refused 11.
+Refusal form(const String& bytes) {
+    return decode(zimorgal_ask(bytes.data(), bytes.size(), nullptr, 0, nullptr, 0)).refusal;
+}
+
+bool accepted(const Question& question) { return form(copy(question)) == Refusal::answer_too_short; }
+
+// A step that is meant to succeed; counted only if it does not.
+void take(Error error) {
+    if (error != Error::none) check(false, "a step of a test: " + std::string(describe(error)));
+}
+
+Constant take(NewConstant made) {
+    take(made.error);
+    return made.constant;
+}
+
+Question satisfiability(std::size_t free) {
+    Question question;
+    take(question.start_satisfiability(free));
+    return question;
+}
+
+Question entailment(std::size_t free, std::size_t own) {
+    Question question;
+    take(question.start_entailment(free, own));
+    return question;
+}
+
+}  // namespace
+
+void* operator new(std::size_t size) {
+    ++allocations;
+    if (void* memory = std::malloc(size)) return memory;
+    std::abort();
+}
+void operator delete(void* memory) noexcept { std::free(memory); }
+void operator delete(void* memory, std::size_t) noexcept { std::free(memory); }
+
+// ---------------------------------------------------------------- What does not compile
+
+namespace {
+
+template <class T, class = void>
+constexpr bool stands_first = false;
+template <class T>
+constexpr bool stands_first<T, std::void_t<decltype(std::declval<Question&>().first(std::declval<T>()))>> = true;
+
+template <class T, class = void>
+constexpr bool stands_second = false;
+template <class T>
+constexpr bool stands_second<T, std::void_t<decltype(std::declval<Question&>().second(std::declval<T>()))>> = true;
+
+constexpr Free v0{0}, v1{1}, v2{2}, v3{3}, v4{4};
+constexpr Own own0{0}, own1{1};
+constexpr Constant c0{0};
+
+static_assert(stands_first<decltype(join(v0, c0, v1))> && stands_second<decltype(join(v0, c0, v1))>);
+static_assert(stands_first<decltype(not_join(c0, c0, c0))> && stands_first<decltype(equal(v0, c0))> &&
+              stands_first<decltype(not_equal(c0, v0))>);
+static_assert(!stands_first<decltype(join(own0, v0, v0))> && !stands_first<decltype(join(v0, own0, v0))> &&
+              !stands_first<decltype(join(v0, v0, own0))> && !stands_first<decltype(not_join(v0, own0, c0))> &&
+              !stands_first<decltype(equal(v0, own0))> && !stands_first<decltype(not_equal(own0, c0))>);
+static_assert(stands_second<decltype(join(own0, v0, c0))> && stands_second<decltype(not_equal(own0, own1))>);
+static_assert(!stands_first<decltype(equal(Term(v0), c0))>, "a term known only at run time");
+static_assert(!stands_first<Clause> && !std::is_convertible_v<int, Term> && !std::is_convertible_v<Own, Free>);
+
+static_assert(from_text("(*o)").leaves == 0x0000FFFF, "at compile time too");
+
+// ---------------------------------------------------------------- Bytes
+
+void bytes_of_document_01() {
+    check(copy(Question()) == String{0x01, 0x00, 0x00, 0x00, 0x00}, "bytes of a new question");
+
+    Question example = satisfiability(1);
+    const Constant left = take(example.constant(0x0000FFFF));
+    const Constant whole = take(example.constant("*"));
+    take(example.first(join(v0, left, whole)));
+    check(copy(example) == String{0x01, 0x00, 0x01, 0x00, 0x03, 0xFF, 0xFF, 0x00, 0x00, 0x03, 0xFF, 0xFF, 0xFF, 0xFF,
+                                  0x10, 0x00, 0x20, 0x21, 0x00},
+          "bytes of the example");
+
+    // Every command and every sort of term; the systems alternate; the second constant comes after clauses.
+    Question every = entailment(2, 2);
+    const Constant first = take(every.constant(0x04030201));
+    take(every.second(join(v1, own0, first)));
+    take(every.first(join(v0, v1, first)));
+    take(every.first(not_join(first, v0, v1)));
+    const Constant second = take(every.constant(0x80000000));
+    take(every.second(not_join(own1, own0, v0)));
+    take(every.first(equal(v1, second)));
+    take(every.second(equal(own1, second)));
+    take(every.first(not_equal(second, v0)));
+    take(every.second(not_equal(first, own1)));
+    check(
+        copy(every) == String{0x01, 0x01, 0x02, 0x02, 0x03, 0x01, 0x02, 0x03, 0x04, 0x03, 0x00, 0x00, 0x00, 0x80, 0x20,
+                              0x01, 0x02, 0x20, 0x10, 0x00, 0x01, 0x20, 0x11, 0x20, 0x00, 0x01, 0x21, 0x03, 0x02, 0x00,
+                              0x12, 0x01, 0x21, 0x22, 0x03, 0x21, 0x13, 0x21, 0x00, 0x23, 0x20, 0x03, 0x00},
+        "bytes of every command");
+    check(accepted(every), "every command is accepted");
+    Question again = every;
+    take(again.start_satisfiability(3));
+    check(copy(again) == String{0x01, 0x00, 0x03, 0x00, 0x00} && again.constants() == 0, "starting anew");
+    for (int i = 0; i < 64; ++i) take(again.first(equal(v0, v1)));
+    for (int i = 0; i < 31; ++i) take(again.first(not_equal(v0, v1)));
+    check(again.first(equal(v0, v1)) == Error::too_many_positives, "clauses are counted anew");
+    check(every.kind() == Kind::entailment && every.free_variables() == 2 && every.own_variables() == 2 &&
+              every.constants() == 2,
+          "what a question says of itself");
+}
+
+// ---------------------------------------------------------------- Errors and limits
+
+// A step that must fail with an error and leave the question as it was.
+template <class Step>
+void refused(Question& question, Error error, const char* what, Step step) {
+    const String before = copy(question);
+    check(step() == error, std::string("error: ") + what);
+    check(copy(question) == before && accepted(question), std::string("left as it was: ") + what);
+}
+
+void errors() {
+    Question sat = satisfiability(2);
+    const Constant empty = take(sat.constant("o"));
+    take(sat.first(equal(v0, empty)));
+    refused(sat, Error::too_many_variables, "13 free", [&] { return sat.start_satisfiability(13); });
+    refused(sat, Error::too_many_variables, "12 free, 1 own", [&] { return sat.start_entailment(12, 1); });
+    refused(sat, Error::too_many_variables, "0 free, 13 own", [&] { return sat.start_entailment(0, 13); });
+    refused(sat, Error::too_many_variables, "a sum past the largest number",
+            [&] { return sat.start_entailment(1, static_cast<std::size_t>(-1)); });
+    refused(sat, Error::names_nothing, "free variable 2 of 2", [&] { return sat.first(equal(v2, v0)); });
+    refused(sat, Error::names_nothing, "in the second place", [&] { return sat.first(not_equal(v0, v2)); });
+    refused(sat, Error::names_nothing, "in the third place", [&] { return sat.first(join(v0, v1, v2)); });
+    refused(sat, Error::names_nothing, "constant 1 of 1", [&] { return sat.first(join(v0, Constant{1}, v1)); });
+    refused(sat, Error::names_nothing, "no constant", [&] { return sat.first(equal(v0, Constant{})); });
+    refused(sat, Error::names_nothing, "free variable 32 is no constant",
+            [&] { return sat.first(equal(Free{32}, v0)); });
+    refused(sat, Error::names_nothing, "free variable 256 is not 0", [&] { return sat.first(equal(Free{256}, v0)); });
+    refused(sat, Error::no_second_system, "second system", [&] { return sat.second(equal(v0, empty)); });
+    refused(sat, Error::not_tree_text, "a constant that is no tree", [&] { return sat.constant("(*").error; });
+    refused(sat, Error::too_tall, "a tall constant", [&] { return sat.constant("((((((*o)o)o)o)o)o)").error; });
+    refused(sat, Error::not_folded, "a constant not folded", [&] { return sat.constant("(oo)").error; });
+    check(sat.constant("(oo)").constant.number == Constant{}.number, "a refused constant names nothing");
+
+    Question ent = entailment(2, 1);
+    refused(ent, Error::names_nothing, "own variable 1 of 1", [&] { return ent.second(equal(own1, v0)); });
+    refused(ent, Error::names_nothing, "a free variable that is an own one", [&] { return ent.second(equal(v2, v0)); });
+    refused(ent, Error::own_variable_in_first, "own variable in the first",
+            [&] { return ent.add(System::first, equal(v0, own0)); });
+    refused(ent, Error::own_variable_in_first, "a clause that claims to be of the first",
+            [&] { return ent.first(FirstClause{join(v0, own0, v0)}); });
+    take(ent.add(System::second, equal(v0, own0)));
+}
+
+void limits() {
+    Question constants;
+    for (Leaves i = 0; i < 32; ++i) take(constants.constant(i));
+    check(accepted(constants), "32 constants");
+    refused(constants, Error::too_many_constants, "a 33rd constant", [&] { return constants.constant(0).error; });
+    take(constants.first(equal(Constant{31}, Constant{31})));
+    refused(constants, Error::too_many_constants, "a 33rd by text", [&] { return constants.constant("*").error; });
+
+    for (const System system : {System::first, System::second}) {
+        Question question = entailment(1, 0);
+        for (int i = 0; i < 64; ++i) take(question.add(system, i % 2 ? Clause{equal(v0, v0)} : join(v0, v0, v0)));
+        check(accepted(question), "64 positive clauses");
+        refused(question, Error::too_many_positives, "a 65th equality",
+                [&] { return question.add(system, equal(v0, v0)); });
+        refused(question, Error::too_many_positives, "a 65th join",
+                [&] { return question.add(system, join(v0, v0, v0)); });
+        for (int i = 0; i < 31; ++i)
+            take(question.add(system, i % 2 ? Clause{not_equal(v0, v0)} : not_join(v0, v0, v0)));
+        check(accepted(question), "31 disequations");
+        refused(question, Error::too_many_disequations, "a 32nd inequality",
+                [&] { return question.add(system, not_equal(v0, v0)); });
+        refused(question, Error::too_many_disequations, "a 32nd negated join",
+                [&] { return question.add(system, not_join(v0, v0, v0)); });
+    }
+
+    // Everything at its limit, the longest string, answered.
+    Question longest = entailment(6, 6);
+    for (int i = 0; i < 64; ++i) {
+        take(longest.first(join(v0, v1, v2)));
+        take(longest.second(join(own0, own1, v0)));
+    }
+    for (int i = 0; i < 31; ++i) {
+        take(longest.first(not_join(v2, v3, v4)));
+        take(longest.second(not_join(own0, Own{5}, Free{5})));
+    }
+    for (Leaves i = 0; i < 32; ++i) take(longest.constant(i));
+    check(longest.bytes().size == ZIMORGAL_QUESTION_BYTES, "the longest question has 925 bytes");
+    Workspace workspace;
+    check(ask(longest, workspace).result.verdict != Verdict::refused, "the longest question is answered");
+    check(satisfiability(12).free_variables() == 12 && accepted(satisfiability(12)), "12 free variables");
+    check(accepted(entailment(0, 12)) && accepted(entailment(12, 0)) && accepted(entailment(5, 7)), "12 of both sorts");
+}
+
+class Random {
+  public:
+    unsigned below(unsigned bound) {
+        state_ = state_ * 6364136223846793005u + 1442695040888963407u;
+        return static_cast<unsigned>(state_ >> 33) % bound;
+    }
+    Leaves leaves() { return below(1u << 31) * 2 + below(2); }
+
+  private:
+    std::uint64_t state_ = 20;
+};
+
+// A question written by hand, byte by byte.
+struct ByHand {
+    String head{0x01, 0x00, 0x00, 0x00}, constants, clauses;
+
+    String bytes() const {
+        String all = head;
+        all.insert(all.end(), constants.begin(), constants.end());
+        all.insert(all.end(), clauses.begin(), clauses.end());
+        all.push_back(0x00);
+        return all;
+    }
+};
+
+std::uint8_t byte(unsigned number) { return static_cast<std::uint8_t>(number); }
+
+// A term of a sort that the system may have, and its byte. Now and then one past the last that is defined, or an own
+// variable in the first system.
+Term random_term(Random& random, const ByHand& hand, System system, std::uint8_t& written) {
+    const unsigned n = hand.head[2], m = hand.head[3], constants = static_cast<unsigned>(hand.constants.size() / 5);
+    const bool wrong = random.below(40) == 0;
+    const unsigned sort = random.below(3);
+    if (sort == 0 && (constants > 0 || wrong)) {
+        const unsigned number = wrong ? constants : random.below(constants);
+        written = byte(0x20 + number);
+        return Constant{number};
+    }
+    if (sort == 1 && (wrong || (m > 0 && system == System::second))) {
+        const unsigned number = m == 0 || (wrong && system == System::second) ? m : random.below(m);
+        written = byte(n + number);
+        return Own{number};
+    }
+    const unsigned number = n == 0 ? 12 : random.below(n);
+    written = byte(number);
+    return Free{number};
+}
+
+// The refusal of a step that has an error; 11, for the missing buffer, of one that has none.
+Refusal refusal_for(Error error) {
+    switch (error) {
+        case Error::none: return Refusal::answer_too_short;
+        case Error::too_many_variables: return Refusal::bad_head;
+        case Error::too_many_constants: return Refusal::too_many_constants;
+        case Error::too_many_positives:
+        case Error::too_many_disequations: return Refusal::too_many_clauses;
+        case Error::names_nothing:
+        case Error::own_variable_in_first: return Refusal::bad_term;
+        case Error::no_second_system: return Refusal::no_second_system;
+        default: return Refusal::none;
+    }
+}
+
+// Random steps, taken by the builder and written by hand. The library judges what is written: the builder takes exactly
+// what the library accepts, refuses the rest for the same reason, and has the same bytes.
+void random_steps() {
+    Random random;
+    long steps = 0, wrong = 0;
+    long seen[15] = {};
+    for (int round = 0; round < 100; ++round) {
+        Question question;
+        ByHand hand;
+        const auto compare = [&](Error error, const ByHand& tried) {
+            const Refusal refusal = form(tried.bytes());
+            ++steps;
+            ++seen[static_cast<std::size_t>(refusal)];
+            if (error == Error::none) hand = tried;
+            wrong += refusal != refusal_for(error) || copy(question) != hand.bytes();
+        };
+
+        const unsigned kind = random.below(4) == 0 ? 0 : 1;
+        Error error;
+        do {
+            const unsigned n = random.below(14), m = kind == 0 ? 0 : random.below(14);
+            error = kind == 0 ? question.start_satisfiability(n) : question.start_entailment(n, m);
+            compare(error, {{0x01, byte(kind), byte(n), byte(m)}, {}, {}});
+        } while (error != Error::none);
+
+        for (int step = 0; step < 300; ++step) {
+            ByHand tried = hand;
+            if (random.below(6) == 0) {
+                const Leaves leaves = random.leaves();
+                tried.constants.push_back(0x03);
+                for (int i = 0; i < 4; ++i) tried.constants.push_back(byte(leaves >> 8 * i & 0xFF));
+                compare(question.constant(leaves).error, tried);
+                continue;
+            }
+            const System system = random.below(2) == 0 ? System::first : System::second;
+            const unsigned relation = random.below(4);
+            std::uint8_t written[3];
+            const Term a = random_term(random, hand, system, written[0]);
+            const Term b = random_term(random, hand, system, written[1]);
+            const Term c = random_term(random, hand, system, written[2]);
+            tried.clauses.push_back(byte((system == System::first ? 0x10 : 0x20) + relation));
+            tried.clauses.insert(tried.clauses.end(), written, written + (relation < 2 ? 3 : 2));
+            compare(question.add(system, {static_cast<Relation>(relation), {a, b, c}}), tried);
+        }
+    }
+    check(steps > 30000 && wrong == 0, "random steps: " + std::to_string(wrong) + " wrong of " + std::to_string(steps));
+    for (const Refusal refusal : {Refusal::bad_head, Refusal::too_many_constants, Refusal::too_many_clauses,
+                                  Refusal::bad_term, Refusal::no_second_system, Refusal::answer_too_short})
+        check(seen[static_cast<std::size_t>(refusal)] > 50, "random steps meet: " + std::string(describe(refusal)));
+}
+
+// ---------------------------------------------------------------- Results
+
+// Asks, and compares every field and the tree texts of what is shown. Own variables and refusals have none.
+void answers(const char* what, const Question& question, Result expected, const std::vector<const char*>& texts,
+             bool shown) {
+    Workspace workspace;
+    const auto [result, solution] = ask(question, workspace);
+    check(result.verdict == expected.verdict && result.refusal == expected.refusal && result.place == expected.place &&
+              result.height == expected.height && result.reason == expected.reason &&
+              result.disequation == expected.disequation,
+          std::string("result: ") + what);
+    check(bool(solution) == shown && solution.variables() == texts.size(), std::string("shown or not: ") + what);
+    for (std::size_t i = 0; i < texts.size(); ++i) {
+        const Text text = solution.text(Free{i});
+        check(text.view() == texts[i], std::string("text: ") + what + ": " + std::string(text.view()));
+    }
+}
+
+// Of document 01's worked questions one of each kind of result. Where a solution is shown it is the only one, or the
+// one that the examples of tests/cli have.
+void results() {
+    answers("nothing asked", Question(), {Verdict::yes, Refusal::none, 0, 0, Reason::none, 0}, {}, true);
+
+    Question question = satisfiability(1);
+    Constant whole = take(question.constant(full_share));
+    take(question.first(join(v0, v0, whole)));
+    answers("not satisfiable", question, {Verdict::no, Refusal::none, 0, 0, Reason::none, 0}, {}, false);
+
+    question = satisfiability(2);
+    Constant left = take(question.constant("(*o)"));
+    whole = take(question.constant("*"));
+    take(question.first(join(v0, left, whole)));
+    take(question.first(equal(v1, left)));
+    answers("satisfiable", question, {Verdict::yes, Refusal::none, 0, 1, Reason::none, 0}, {"(o*)", "(*o)"}, true);
+
+    question = entailment(1, 0);
+    whole = take(question.constant("*"));
+    Constant empty = take(question.constant("o"));
+    take(question.first(join(v0, v0, whole)));
+    take(question.second(equal(v0, empty)));
+    answers("reason 1", question, {Verdict::yes, Refusal::none, 0, 0, Reason::first_unsolvable, 0}, {}, false);
+
+    question = entailment(1, 2);
+    empty = take(question.constant(empty_share));
+    take(question.first(not_equal(v0, empty)));
+    take(question.second(join(own0, own1, v0)));
+    take(question.second(not_equal(own0, empty)));
+    take(question.second(not_equal(own1, empty)));
+    answers("yes, reason 0", question, {Verdict::yes, Refusal::none, 0, 0, Reason::none, 0}, {}, false);
+
+    question = entailment(2, 1);
+    left = take(question.constant("(*o)"));
+    const Constant right = take(question.constant("(o*)"));
+    empty = take(question.constant("o"));
+    take(question.first(not_equal(v0, empty)));
+    take(question.first(equal(v1, right)));
+    take(question.second(join(left, own0, v0)));
+    answers("reason 2", question, {Verdict::no, Refusal::none, 0, 2, Reason::positives_unmet, 0}, {"((o*)o)", "(o*)"},
+            true);
+
+    question = entailment(2, 0);
+    whole = take(question.constant("*"));
+    empty = take(question.constant("o"));
+    take(question.first(join(v0, v1, whole)));
+    take(question.second(not_equal(empty, whole)));
+    take(question.second(not_equal(v0, empty)));
+    answers("reason 3 with 1", question, {Verdict::no, Refusal::none, 0, 0, Reason::disequation_unmet, 1}, {"o", "*"},
+            true);
+
+    Workspace workspace;
+    String late = copy(question);
+    late.insert(late.end() - 1, {0x03, 0x00, 0x00, 0x00, 0x00});
+    const auto [result, solution] = ask(Bytes{late.data(), late.size()}, workspace);
+    check(result.verdict == Verdict::refused && result.refusal == Refusal::out_of_order &&
+              result.place == late.size() - 6 && !solution && solution.variables() == 0,
+          "a refusal and its place");
+    check(ask(Bytes{nullptr, 0}, workspace).result.refusal == Refusal::no_head, "no bytes");
+
+    // Every byte of the number, each value unlike the others.
+    const Result fields = decode(0x001E'03'0A'039D'08'02);
+    check(fields.verdict == Verdict::no && fields.refusal == Refusal::bad_term && fields.place == 925 &&
+              fields.height == 10 && fields.reason == Reason::disequation_unmet && fields.disequation == 30,
+          "each field where document 01 has it");
+    check(decode(1).verdict == Verdict::yes && decode(0).verdict == Verdict::refused, "verdicts");
+
+    for (unsigned i = 0; i <= 14; ++i)
+        check(describe(static_cast<Refusal>(i)) != "unknown refusal", "a text for refusal " + std::to_string(i));
+    for (unsigned i = 0; i <= 10; ++i)
+        check(describe(static_cast<Error>(i)) != "unknown error", "a text for error " + std::to_string(i));
+}
+
+// ---------------------------------------------------------------- Tree text
+
+void tree_text() {
+    const struct {
+        const char* text;
+        Leaves leaves;
+    } trees[] = {
+        {"o", 0},
+        {"*", 0xFFFFFFFF},
+        {"(*o)", 0x0000FFFF},
+        {"(o*)", 0xFFFF0000},
+        {"((*o)o)", 0x000000FF},
+        {"(o(o*))", 0xFF000000},
+        {"(((((*o)o)o)o)o)", 0x00000001},
+        {"(o(o(o(o(o*)))))", 0x80000000},
+        {"(((((*o)(*o))((*o)(*o)))(((*o)(*o))((*o)(*o))))((((*o)(*o))((*o)(*o)))(((*o)(*o))((*o)(*o)))))", 0x55555555}};
+    for (const auto& tree : trees) {
+        const Parsed parsed = from_text(tree.text);
+        check(parsed.error == Error::none && parsed.leaves == tree.leaves, std::string("from text: ") + tree.text);
+        const Text text = text_of(tree.leaves);
+        check(text.view() == tree.text, std::string("to text: ") + tree.text);
+    }
+
+    const struct {
+        const char* text;
+        Error error;
+    } wrong[] = {{"", Error::not_tree_text},
+                 {"x", Error::not_tree_text},
+                 {"O", Error::not_tree_text},
+                 {" o", Error::not_tree_text},
+                 {"o ", Error::not_tree_text},
+                 {"oo", Error::not_tree_text},
+                 {"(", Error::not_tree_text},
+                 {")", Error::not_tree_text},
+                 {"()", Error::not_tree_text},
+                 {"(*)", Error::not_tree_text},
+                 {"(*o", Error::not_tree_text},
+                 {"(*o*)", Error::not_tree_text},
+                 {"(*o))", Error::not_tree_text},
+                 {"(* o)", Error::not_tree_text},
+                 {"(*oo", Error::not_tree_text},
+                 {"(oo", Error::not_tree_text},
+                 {"(oo)", Error::not_folded},
+                 {"(**)", Error::not_folded},
+                 {"((oo)*)", Error::not_folded},
+                 {"(*(**))", Error::not_folded},
+                 {"((*o)(oo))", Error::not_folded},
+                 {"((((((*o)o)o)o)o)o)", Error::too_tall},
+                 {"(o(o(o(o(o(o*))))))", Error::too_tall}};
+    for (const auto& text : wrong) {
+        const Parsed parsed = from_text(text.text);
+        check(parsed.error == text.error && parsed.leaves == 0, std::string("no tree: ") + text.text);
+    }
+    check(from_text(std::string(1000000, '(')).error == Error::too_tall, "a text that only opens pairs");
+
+    Random random;
+    long wrong_trips = 0;
+    for (int i = 0; i < 3000; ++i) {
+        // Both sparse and dense leaves, so that there are pairs at every height.
+        Leaves leaves = random.leaves();
+        if (i % 3 == 1) leaves &= random.leaves() & random.leaves();
+        if (i % 3 == 2) leaves = full_share << random.below(32) & full_share >> random.below(32);
+        const Text text = text_of(leaves);
+        const Parsed parsed = from_text(text.view());
+        wrong_trips += parsed.error != Error::none || parsed.leaves != leaves;
+        for (std::size_t cut = 0; cut < text.view().size(); cut += 7)
+            wrong_trips += from_text(text.view().substr(0, cut)).error == Error::none;
+    }
+    check(wrong_trips == 0, "leaves to text and back: " + std::to_string(wrong_trips) + " wrong");
+
+    Question question = satisfiability(1);
+    take(question.first(equal(v0, take(question.constant("((*o)o)")))));
+    Workspace workspace;
+    const Solution solution = ask(question, workspace).solution;
+    char text[8];
+    std::memset(text, '#', sizeof text);
+    Written written = solution.text(v0, text, 6);
+    check(written.refusal == Refusal::text_too_short && written.length == 0 && text[0] == '#',
+          "a buffer one too short");
+    written = solution.text(v0, text, 7);
+    check(written.refusal == Refusal::none && std::string_view(text, written.length) == "((*o)o)" && text[7] == '#',
+          "a buffer that just fits");
+    written = solution.text(v1, text, sizeof text);
+    check(written.refusal == Refusal::not_a_row && written.length == 0, "no such variable");
+    check(
+        solution.row(v0).data == workspace.answer.data() && solution.row(v0).size == 128 && solution.row(v1).size == 0,
+        "rows");
+    const Text none = Solution().text(v0);
+    check(none.view().empty(), "no solution, no text");
+}
+
+void constants() {
+    check(join_of(0x0000FFFF, 0xFFFF0000).defined && join_of(0x0000FFFF, 0xFFFF0000).leaves == full_share, "a join");
+    check(!join_of(3, 6).defined && join_of(3, 6).leaves == 0, "an undefined join");
+    check(height_of(0) == 0 && height_of(full_share) == 0 && height_of(0x0000FFFF) == 1 && height_of(1) == 5,
+          "heights");
+}
+
+// ---------------------------------------------------------------- No heap
+
+void no_heap() {
+    const long before = allocations;
+    static Workspace workspace;
+    Question question;
+    bool fine = question.start_entailment(2, 1) == Error::none;
+    const auto [error, half] = question.constant("(*o)");
+    fine = fine && error == Error::none && question.first(join(v0, half, v1)) == Error::none &&
+           question.second(not_equal(own0, v0)) == Error::none && question.second(equal(v0, half)) == Error::none;
+    const auto [result, solution] = ask(question, workspace);
+    const Text text = solution.text(v0);
+    fine = fine && result.verdict == Verdict::no && !text.view().empty() && allocations == before;
+    check(fine, "no heap from building to tree text");
+    delete new int;
+    check(allocations > before, "allocations are counted");
+}
+
+}  // namespace
+
+int main() {
+    bytes_of_document_01();
+    errors();
+    limits();
+    random_steps();
+    results();
+    tree_text();
+    constants();
+    no_heap();
+    std::printf("%d passed, %d failed\n", passed, failed);
+    return failed == 0 ? 0 : 1;
+}
