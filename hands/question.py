@@ -1,0 +1,174 @@
+"""A question: its limits, and its bytes both ways. docs/FORMAT.md has the format."""
+
+MOST_VARIABLES = 12
+MOST_CONSTANTS = 32
+MOST_POSITIVE = 64
+MOST_DISEQUATIONS = 31
+
+# Commands. A clause's command is FIRST or SECOND, and 1 more if it is negated, and 2 more if it is an equality.
+END, HEAD, CONSTANT, FIRST, SECOND = 0x00, 0x01, 0x03, 0x10, 0x20
+NEGATED, EQUALITY = 1, 2
+
+# How many operand bytes each command has.
+OPERANDS = {END: 0, HEAD: 3, CONSTANT: 4}
+for system in (FIRST, SECOND):
+    OPERANDS.update({system + shape: 2 if shape & EQUALITY else 3 for shape in range(4)})
+
+# Terms: a variable is its number, a constant is CONSTANTS and its number.
+CONSTANTS = 0x20
+
+MEANINGS = {
+    1: "the first byte is missing or is not 01",
+    2: "no byte where a command is due, or its operands are cut short",
+    3: "an unknown command byte",
+    4: "a second head, or a constant after a clause",
+    5: "kind above 1, more than 12 variables, or own variables with kind 0",
+    6: "a 33rd constant",
+    7: "a 65th positive clause or a 32nd disequation in one system",
+    8: "a term that names nothing defined, or an own variable in a clause of the first system",
+    9: "a clause of the second system with kind 0",
+    10: "bytes after the end",
+}
+
+
+class Fault(Exception):
+    """A rule of the format that a question would break: the refusal number, and what is wrong in words."""
+
+    def __init__(self, number, what):
+        super().__init__(what)
+        self.number = number
+        self.what = what
+
+
+class Refusal(Exception):
+    """Why a byte string is no question: number and place as the library gives them, and where the command at fault ends."""
+
+    def __init__(self, number, place, end, what):
+        super().__init__(what)
+        self.number = number
+        self.place = place
+        self.end = end
+        self.what = what
+
+
+def ordinal(number):
+    """64th, 32nd and so on."""
+    ending = "th" if number // 10 % 10 == 1 else {1: "st", 2: "nd", 3: "rd"}.get(number % 10, "th")
+    return f"{number}{ending}"
+
+
+def is_second(command):
+    return command >= SECOND
+
+
+class Question:
+    """Head, constants (as 32 leaves) and clauses (the command, then its terms). Each step breaks no rule or raises a Fault."""
+
+    def __init__(self, kind, free, own):
+        self.set_head(kind, free, own)
+        self.constants = []
+        self.clauses = []
+
+    def set_head(self, kind, free, own):
+        if kind > 1:
+            raise Fault(5, f"kind {kind}: it is 0 (satisfiable) or 1 (entails)")
+        if free + own > MOST_VARIABLES:
+            raise Fault(5, f"{free + own} variables: there may be {MOST_VARIABLES}, free and own together")
+        if kind == 0 and own > 0:
+            raise Fault(5, "own variables need a question that asks 'entails'")
+        self.kind, self.free, self.own = kind, free, own
+
+    def define(self, leaves):
+        """Adds a constant and gives its term."""
+        if len(self.constants) == MOST_CONSTANTS:
+            raise Fault(6, f"a {ordinal(MOST_CONSTANTS + 1)} constant: there may be {MOST_CONSTANTS}")
+        self.constants.append(leaves)
+        return CONSTANTS + len(self.constants) - 1
+
+    def check_system(self, second):
+        if second and self.kind == 0:
+            raise Fault(9, "a second system needs a question that asks 'entails'")
+
+    def check_room(self, command):
+        negated = command & NEGATED
+        most, what = (MOST_DISEQUATIONS, "disequation") if negated else (MOST_POSITIVE, "positive clause")
+        alike = [clause for clause in self.clauses
+                 if is_second(clause[0]) == is_second(command) and clause[0] & NEGATED == negated]
+        if len(alike) == most:
+            system = "second" if is_second(command) else "first"
+            raise Fault(7, f"a {ordinal(most + 1)} {what} in the {system} system: there may be {most}")
+
+    def check_term(self, term, second):
+        if term < self.free or CONSTANTS <= term < CONSTANTS + len(self.constants):
+            return
+        if not self.free <= term < self.free + self.own:
+            raise Fault(8, f"term {term:02X} names no variable of the head and no constant defined")
+        if not second:
+            raise Fault(8, "an own variable in a clause of the first system")
+
+    def add(self, command, terms):
+        self.check_system(is_second(command))
+        self.check_room(command)
+        for term in terms:
+            self.check_term(term, is_second(command))
+        self.clauses.append((command, *terms))
+
+
+def write_question(question):
+    """The bytes of a question."""
+    string = bytearray([HEAD, question.kind, question.free, question.own])
+    for leaves in question.constants:
+        string.append(CONSTANT)
+        string += leaves.to_bytes(4, "little")
+    for clause in question.clauses:
+        string += bytes(clause)
+    string.append(END)
+    return bytes(string)
+
+
+def command_end(string, place):
+    """Where the command at a place ends, its operands taken along."""
+    if place == len(string):
+        raise Refusal(2, place, place, "the bytes end where a command is due; the last command is 00")
+    command = string[place]
+    if command not in OPERANDS:
+        raise Refusal(3, place, place + 1, f"no command is {command:02X}")
+    end = place + 1 + OPERANDS[command]
+    if end > len(string):
+        there = len(string) - place - 1
+        raise Refusal(2, place, len(string), f"command {command:02X} has {OPERANDS[command]} operand bytes, and {there} of them are there")
+    return end
+
+
+def obey(question, command, operands):
+    """The question after one more command; before the head there is none."""
+    if command == HEAD:
+        if question:
+            raise Fault(4, "there is a head already")
+        return Question(*operands)
+    if command == CONSTANT:
+        if question.clauses:
+            raise Fault(4, "constants stand before the first clause")
+        question.define(int.from_bytes(operands, "little"))
+    elif command != END:
+        question.add(command, operands)
+    return question
+
+
+def read_question(string):
+    """The question that a byte string is. Commands are judged from the left, and the first fault is raised as a Refusal."""
+    if string[:1] != bytes([HEAD]):
+        found = f"it starts with {string[0]:02X}" if string else "there is no byte"
+        raise Refusal(1, 0, min(1, len(string)), f"a question starts with 01, and {found}")
+    question, place, command = None, 0, None
+    while command != END:
+        end = command_end(string, place)
+        command = string[place]
+        try:
+            question = obey(question, command, string[place + 1:end])
+        except Fault as fault:
+            raise Refusal(fault.number, place, end, fault.what) from None
+        place = end
+    if place < len(string):
+        raise Refusal(10, place, place + 1, "the question ends with the byte before")
+    return question

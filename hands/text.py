@@ -1,0 +1,263 @@
+"""Questions as readable text, both ways. One thing a line; '#' starts a comment.
+
+    satisfiable                    or: entails; the first line
+    free writer reader rest        free variables, by name
+    own part                       own variables of the second system
+    let L = (*o)                   a constant, as tree text; these three kinds of line stand before the first clause
+    writer join reader is rest     a join
+    not writer join reader is *    its negation: another share, or undefined
+    writer is L                    an equality
+    reader is not o                its negation
+    then                           from here on: the second system
+    if                             from here on: the first system again
+
+A share in a clause is a name or tree text. Tree text in a clause is the first constant with that tree; if there is none, it becomes
+one, after those of 'let'.
+"""
+
+import re
+from contextlib import contextmanager
+
+from hands.question import CONSTANTS, EQUALITY, FIRST, NEGATED, SECOND, Fault, Question, is_second
+from hands.trees import TreeFault, read_tree, write_tree
+
+WORD = re.compile(r"=|[^\s=]+")
+NAME = re.compile(r"[A-Za-z_][A-Za-z_0-9]*")
+KINDS = ["satisfiable", "entails"]
+KEPT = KINDS + ["free", "own", "let", "if", "then", "not", "join", "is", "o"]
+
+
+class TextFault(Exception):
+    """What is wrong with a text, and where; lines and columns count from 1."""
+
+    def __init__(self, line, column, what):
+        super().__init__(what)
+        self.line = line
+        self.column = column
+        self.what = what
+
+
+class Line:
+    """The words of one line, taken from the left."""
+
+    def __init__(self, number, text):
+        self.number = number
+        code = text.split("#")[0].rstrip()
+        self.words = [(found.group(), found.start() + 1) for found in WORD.finditer(code)]
+        self.words.append(("", len(code) + 1))
+
+    def peek(self):
+        """The next word, empty at the end of the line."""
+        return self.words[0][0]
+
+    def column(self):
+        return self.words[0][1]
+
+    def fault(self, what):
+        """A fault at the next word."""
+        return TextFault(self.number, self.column(), what)
+
+    def due(self, what):
+        found = f"not '{self.peek()}'" if self.peek() else "and the line ends"
+        return self.fault(f"{what} is due here, {found}")
+
+    def skip(self, word):
+        """Takes that word if it is next, and says whether it was."""
+        if self.peek() != word:
+            return False
+        self.words.pop(0)
+        return True
+
+    def expect(self, word):
+        if not self.skip(word):
+            raise self.due(f"'{word}'")
+
+    def take(self, what):
+        """Takes a word, whatever it is."""
+        if not self.peek():
+            raise self.due(what)
+        return self.words.pop(0)[0]
+
+    def finish(self):
+        if self.peek():
+            raise self.due("the end of the line")
+
+    @contextmanager
+    def here(self):
+        """Faults inside are faults at the word that is next now."""
+        column = self.column()
+        try:
+            yield
+        except Fault as fault:
+            raise TextFault(self.number, column, fault.what) from None
+        except TreeFault as fault:
+            raise TextFault(self.number, column + fault.at, fault.what) from None
+
+
+class TextReader:
+    """Reads a question line by line."""
+
+    def __init__(self):
+        self.question = None
+        self.free = []
+        self.own = []
+        self.lets = {}  # the constants that have names
+        self.lines = {}  # where each name was defined
+        self.system = FIRST
+
+    def read(self, line):
+        word = line.peek()
+        if self.question is None:
+            self.read_kind(line)
+        elif word in KINDS:
+            raise line.fault("the kind of question stands in the first line, and only there")
+        elif word in ("free", "own", "let"):
+            if self.question.clauses:
+                raise line.fault(f"'{word}' must stand before the first clause")
+            if word == "let":
+                self.read_let(line)
+            else:
+                self.read_variables(line)
+        elif word in ("if", "then"):
+            self.read_system(line)
+        else:
+            self.read_clause(line)
+        line.finish()
+
+    def read_kind(self, line):
+        if line.peek() not in KINDS:
+            raise line.due("'satisfiable' or 'entails'")
+        self.question = Question(KINDS.index(line.take("the kind")), 0, 0)
+
+    def read_name(self, line):
+        """Takes a new name."""
+        name = line.peek()
+        if not NAME.fullmatch(name):
+            raise line.due("a name (letters, digits, '_')")
+        if name in KEPT:
+            raise line.fault(f"'{name}' has a meaning of its own and cannot be a name")
+        if name in self.lines:
+            raise line.fault(f"'{name}' is defined already, in line {self.lines[name]}")
+        self.lines[name] = line.number
+        return line.take("a name")
+
+    def read_variables(self, line):
+        names = self.free if line.take("free or own") == "free" else self.own
+        while True:
+            with line.here():
+                names.append(self.read_name(line))
+                self.question.set_head(self.question.kind, len(self.free), len(self.own))
+            if not line.peek():
+                return
+
+    def read_let(self, line):
+        line.expect("let")
+        name = self.read_name(line)
+        line.expect("=")
+        with line.here():
+            self.lets[name] = self.question.define(read_tree(line.take("a tree")))
+
+    def read_system(self, line):
+        with line.here():
+            second = line.take("the system") == "then"
+            self.question.check_system(second)
+        self.system = SECOND if second else FIRST
+
+    def read_clause(self, line):
+        """A clause. Where 'not' stands in the place of the other kind's, the message says how to write what was meant."""
+        with line.here():
+            negated = line.skip("not")
+            terms = [self.read_share(line)]
+            if line.skip("join"):
+                shape = 0
+                terms.append(self.read_share(line))
+                line.expect("is")
+                if line.peek() == "not":
+                    raise line.fault("the negation of a join is written 'not a join b is c'")
+            elif negated:
+                if line.peek() == "is":
+                    raise line.fault("the negation of an equality is written 'a is not b'")
+                raise line.due("'join'")
+            else:
+                shape = EQUALITY
+                if not line.skip("is"):
+                    raise line.due("'join' or 'is'")
+                negated = line.skip("not")
+            terms.append(self.read_share(line))
+            line.finish()
+            self.question.add(self.system + shape + (NEGATED if negated else 0), terms)
+
+    def read_share(self, line):
+        """Takes a name or a tree text, and gives its term."""
+        word = line.peek()
+        variables = self.free + self.own
+        with line.here():
+            if word == "o" or word[:1] in ("(", "*", ")"):
+                term = self.constant(read_tree(word))
+            elif word in self.lets:
+                term = self.lets[word]
+            elif word in variables:
+                term = variables.index(word)
+            elif NAME.fullmatch(word) and word not in KEPT:
+                raise line.fault(f"nothing is named '{word}'")
+            else:
+                raise line.due("a name or a tree")
+            self.question.check_term(term, self.system == SECOND)
+        line.take("a share")
+        return term
+
+    def constant(self, leaves):
+        """The term of the first constant with these leaves, which is a new one if there is none."""
+        constants = self.question.constants
+        if leaves in constants:
+            return CONSTANTS + constants.index(leaves)
+        return self.question.define(leaves)
+
+
+def read_text(text):
+    """The question that a text asks, and the names of its variables in order."""
+    reader = TextReader()
+    for number, line in enumerate(text.split("\n"), 1):
+        line = Line(number, line)
+        if line.peek():
+            reader.read(line)
+    if reader.question is None:
+        raise TextFault(1, 1, "the text asks nothing: 'satisfiable' or 'entails' is due in its first line")
+    return reader.question, reader.free + reader.own
+
+
+def in_clauses(question):
+    """How many of the last constants need no 'let': short ones, unlike all others, that the clauses name in their order."""
+    named = dict.fromkeys(term - CONSTANTS for clause in question.clauses for term in clause[1:] if term >= CONSTANTS)
+    constants, count = question.constants, 0
+    for constant in range(len(constants) - 1, -1, -1):
+        short = len(write_tree(constants[constant])) <= len("(*o)")
+        wanted = range(constant, len(constants))
+        if not short or constants.count(constants[constant]) > 1 or [c for c in named if c in wanted] != list(wanted):
+            break
+        count += 1
+    return count
+
+
+def write_text(question):
+    """A text that asks this very question. Its variables are named as the printing program names them."""
+    variables = [f"v{number:02}" for number in range(question.free + question.own)]
+    lets = len(question.constants) - in_clauses(question)
+    trees = [write_tree(leaves) for leaves in question.constants]
+    constants = [f"c{number:02}" for number in range(lets)] + trees[lets:]
+    lines = [KINDS[question.kind]]
+    for word, names in (("free", variables[:question.free]), ("own", variables[question.free:])):
+        if names:
+            lines.append(" ".join([word] + names))
+    lines += [f"let {name} = {tree}" for name, tree in zip(constants[:lets], trees)]
+    second = False
+    for command, *terms in question.clauses:
+        if is_second(command) != second:
+            second = not second
+            lines.append("then" if second else "if")
+        a, b, *c = (constants[term - CONSTANTS] if term >= CONSTANTS else variables[term] for term in terms)
+        if c:
+            lines.append(("not " if command & NEGATED else "") + f"{a} join {b} is {c[0]}")
+        else:
+            lines.append(f"{a} is " + ("not " if command & NEGATED else "") + b)
+    return "".join(line + "\n" for line in lines)

@@ -1,0 +1,202 @@
+"""Texts and byte strings with what is due, worked by hand."""
+
+EMPTY, FULL, LEFT, RIGHT = "03 00 00 00 00", "03 FF FF FF FF", "03 FF FF 00 00", "03 00 00 FF FF"
+
+# The questions that document 01 works by hand, and those of the printing program and of its Contracts.
+WORKED = """printed no_clause joined_to_itself doubled three_not_empty five_not_empty not_the_left_half undefined_join
+no_first_solution left_half_not_inside can_be_split may_be_empty half_not_empty half_not_full""".split()
+
+# A text, and its bytes in hexadecimal.
+BYTES = [
+    ("satisfiable", "01 00 00 00 00"),
+    ("entails", "01 01 00 00 00"),
+    ("\n# a comment\n  satisfiable # another, with ü\r\n\n", "01 00 00 00 00"),
+    ("satisfiable\nfree a b c\na join b is c", "01 00 03 00 10 00 01 02 00"),
+    ("satisfiable\nfree a b c\nnot a join b is c", "01 00 03 00 11 00 01 02 00"),
+    ("satisfiable\nfree a b\nb is a", "01 00 02 00 12 01 00 00"),
+    ("satisfiable\nfree a b\nb is not a", "01 00 02 00 13 01 00 00"),
+    ("entails\nfree a\nown b c\nthen\na join b is c", "01 01 01 02 20 00 01 02 00"),
+    ("entails\nfree a\nown b c\nthen\nnot c join b is a", "01 01 01 02 21 02 01 00 00"),
+    ("entails\nfree a\nown b\nthen\na is b", "01 01 01 01 22 00 01 00"),
+    ("entails\nfree a\nown b\nthen\na is not b", "01 01 01 01 23 00 01 00"),
+    # Own variables come after all free ones, in whatever order the lines stand.
+    ("entails\nown x\nfree a\nown y\nfree b\nthen\nx join y is b", "01 01 02 02 20 02 03 01 00"),
+    # The systems alternate.
+    ("entails\nfree a\nthen\na is a\nif\na is not a\nthen\na is not a", "01 01 01 00 22 00 00 13 00 00 23 00 00 00"),
+    ("satisfiable\nif\n* is *", f"01 00 00 00 {FULL} 12 20 20 00"),
+    # Constants: those of 'let' in order, equal ones too, then each new tree of the clauses once.
+    ("satisfiable\nlet A=(*o)\nlet B = (*o)\nB is A", f"01 00 00 00 {LEFT} {LEFT} 12 21 20 00"),
+    ("satisfiable\nlet B = (*o)\n(*o) is (o*)\n(o*) is not *", f"01 00 00 00 {LEFT} {RIGHT} {FULL} 12 20 21 13 21 22 00"),
+    ("satisfiable\nfree a\na is o\na join o is *", f"01 00 01 00 {EMPTY} {FULL} 12 00 20 10 00 20 21 00"),
+    ("satisfiable\nlet unused = ((o*)(*o))", "01 00 00 00 03 00 FF FF 00 00"),
+    ("satisfiable\nlet low = (((((*o)o)o)o)o)\nlet high = (o(o(o(o(o*)))))", "01 00 00 00 03 01 00 00 00 03 00 00 00 80 00"),
+    ("satisfiable\nlet mixed = ((*(o*))(o(*o)))", "01 00 00 00 03 FF F0 00 0F 00"),
+]
+
+CLAUSE = "satisfiable\nfree a b c\n"
+
+# A text, and where and why it is refused.
+FAULTS = [
+    ("", "1:1: the text asks nothing: 'satisfiable' or 'entails' is due in its first line"),
+    ("# only a comment\n", "1:1: the text asks nothing: 'satisfiable' or 'entails' is due in its first line"),
+    ("\n  free a\n", "2:3: 'satisfiable' or 'entails' is due here, not 'free'"),
+    ("satisfiable a", "1:13: the end of the line is due here, not 'a'"),
+    ("satisfiable\nentails", "2:1: the kind of question stands in the first line, and only there"),
+    # Names.
+    ("satisfiable\nfree", "2:5: a name (letters, digits, '_') is due here, and the line ends"),
+    ("satisfiable\nfree a # b\nfree  ", "3:5: a name (letters, digits, '_') is due here, and the line ends"),
+    ("satisfiable\nfree a 7b", "2:8: a name (letters, digits, '_') is due here, not '7b'"),
+    ("satisfiable\nfree join", "2:6: 'join' has a meaning of its own and cannot be a name"),
+    ("satisfiable\nfree o", "2:6: 'o' has a meaning of its own and cannot be a name"),
+    ("satisfiable\nfree a b\nfree c a", "3:8: 'a' is defined already, in line 2"),
+    ("entails\nfree a\nown a", "3:5: 'a' is defined already, in line 2"),
+    ("satisfiable\nfree a\nlet a = o", "3:5: 'a' is defined already, in line 2"),
+    ("satisfiable\nlet L = o\nfree L", "3:6: 'L' is defined already, in line 2"),
+    (CLAUSE + "a is\tbb", "3:6: nothing is named 'bb'"),
+    (CLAUSE + "a join b is d", "3:13: nothing is named 'd'"),
+    (CLAUSE + "A is b", "3:1: nothing is named 'A'"),
+    (CLAUSE + "a join b is c c", "3:15: the end of the line is due here, not 'c'"),
+    # Trees.
+    ("satisfiable\nlet L", "2:6: '=' is due here, and the line ends"),
+    ("satisfiable\nlet L (*o)", "2:7: '=' is due here, not '(*o)'"),
+    ("satisfiable\nlet L =", "2:8: a tree is due here, and the line ends"),
+    ("satisfiable\nlet L = half", "2:9: no tree text: '(', 'o' or '*' is due here, not 'h'"),
+    ("satisfiable\nlet L = (*x)", "2:11: no tree text: '(', 'o' or '*' is due here, not 'x'"),
+    ("satisfiable\nlet L = (*)", "2:11: no tree text: '(', 'o' or '*' is due here, not ')'"),
+    ("satisfiable\nlet L = (*o*)", "2:12: no tree text: ')' is due here, not '*'"),
+    ("satisfiable\nlet L = (*o", "2:12: no tree text: it ends before the tree does"),
+    ("satisfiable\nlet L = (*(o*)", "2:15: no tree text: it ends before the tree does"),
+    ("satisfiable\nlet L = (*o)o", "2:13: no tree text: the tree ends before this character"),
+    ("satisfiable\nlet L = (* o)", "2:11: no tree text: it ends before the tree does"),
+    (CLAUSE + "a is *o", "3:7: no tree text: the tree ends before this character"),
+    (CLAUSE + "a is )", "3:6: no tree text: '(', 'o' or '*' is due here, not ')'"),
+    (CLAUSE + "a is " + "(" * 5000, "3:5006: no tree text: it ends before the tree does"),
+    ("satisfiable\nlet L = (oo)", "2:9: a pair of two equal leaves must be folded: write 'o' for '(oo)'"),
+    (CLAUSE + "a is (o(*(**)))", "3:10: a pair of two equal leaves must be folded: write '*' for '(**)'"),
+    (CLAUSE + "a is ((((((oo)o)o)o)o)o)", "3:11: a pair of two equal leaves must be folded: write 'o' for '(oo)'"),
+    (CLAUSE + "a is ((((((*o)o)o)o)o)o)", "3:11: the tree is too tall: at most 5 pairs may stand one in the other"),
+    ("satisfiable\nlet L = (*(o(o(o(o(*(*o)))))))", "2:19: the tree is too tall: at most 5 pairs may stand one in the other"),
+    # Clauses.
+    (CLAUSE + "a", "3:2: 'join' or 'is' is due here, and the line ends"),
+    (CLAUSE + "a b", "3:3: 'join' or 'is' is due here, not 'b'"),
+    (CLAUSE + "a is", "3:5: a name or a tree is due here, and the line ends"),
+    (CLAUSE + "a is not", "3:9: a name or a tree is due here, and the line ends"),
+    (CLAUSE + "a is is", "3:6: a name or a tree is due here, not 'is'"),
+    (CLAUSE + "a is b!", "3:6: a name or a tree is due here, not 'b!'"),
+    (CLAUSE + "a = b", "3:3: 'join' or 'is' is due here, not '='"),
+    (CLAUSE + "a join", "3:7: a name or a tree is due here, and the line ends"),
+    (CLAUSE + "a join b", "3:9: 'is' is due here, and the line ends"),
+    (CLAUSE + "a join b c", "3:10: 'is' is due here, not 'c'"),
+    (CLAUSE + "not", "3:4: a name or a tree is due here, and the line ends"),
+    (CLAUSE + "not a b", "3:7: 'join' is due here, not 'b'"),
+    (CLAUSE + "not a is b", "3:7: the negation of an equality is written 'a is not b'"),
+    (CLAUSE + "a join b is not c", "3:13: the negation of a join is written 'not a join b is c'"),
+    # Order, and the two systems.
+    (CLAUSE + "a is b\nfree d", "4:1: 'free' must stand before the first clause"),
+    (CLAUSE + "a is b\nown d", "4:1: 'own' must stand before the first clause"),
+    (CLAUSE + "a is b\nlet L = o", "4:1: 'let' must stand before the first clause"),
+    (CLAUSE + "own d", "3:5: own variables need a question that asks 'entails'"),
+    (CLAUSE + "a is b\n then", "4:2: a second system needs a question that asks 'entails'"),
+    ("entails\nown d\nd is d", "3:1: an own variable in a clause of the first system"),
+    ("entails\nfree a\nown d\nthen\nd is d\nif\na join d is a", "7:8: an own variable in a clause of the first system"),
+    ("entails\nfree a\nthen a is a", "3:6: the end of the line is due here, not 'a'"),
+]
+
+
+def lines(*parts):
+    return "".join(part + "\n" for part in parts)
+
+
+def names(count, letter="v"):
+    return " ".join(f"{letter}{number}" for number in range(count))
+
+
+def trees(count):
+    """Distinct trees of height 5: one full leaf each."""
+    def one_leaf(number, height):
+        if height == 0:
+            return "*"
+        half = 1 << (height - 1)
+        below = one_leaf(number % half, height - 1)
+        return f"({below}o)" if number < half else f"(o{below})"
+    return [one_leaf(number, 5) for number in range(32)][:count] + ["o", "*"][:max(0, count - 32)]
+
+
+def lets(count):
+    return lines(*(f"let c{number} = {tree}" for number, tree in enumerate(trees(count))))
+
+
+def clauses(count, clause):
+    return lines(*[clause] * count)
+
+
+# Texts at the edge of a limit; a line more than each is refused so.
+EDGES = [
+    ("12 free variables", lines("satisfiable", f"free {names(12)}"), "free more", "3:6: 13 variables: there may be 12, free and own together"),
+    ("12 own variables", lines("entails", f"own {names(12)}"), "own more", "3:5: 13 variables: there may be 12, free and own together"),
+    ("7 and 5 variables", lines("entails", f"free {names(7)}", f"own {names(4, 'w')}"), "own last more",
+     "4:10: 13 variables: there may be 12, free and own together"),
+    ("32 constants", "satisfiable\n" + lets(32), "let more = o", "34:12: a 33rd constant: there may be 32"),
+    ("32 constants, one in a clause", "satisfiable\n" + lets(31) + "o is o\n", "o is *", "34:6: a 33rd constant: there may be 32"),
+    ("32 constants in clauses", "satisfiable\n" + lines(*(f"{tree} is {tree}" for tree in trees(32))), "not o join o is o",
+     "34:5: a 33rd constant: there may be 32"),
+    ("64 joins", "satisfiable\nfree a\n" + clauses(64, "a join a is a"), "a is a",
+     "67:1: a 65th positive clause in the first system: there may be 64"),
+    ("64 positive clauses of the second", "entails\nfree a\nthen\n" + clauses(64, "a is a"), "  a join a is a",
+     "68:3: a 65th positive clause in the second system: there may be 64"),
+    ("31 disequations", "satisfiable\nfree a\n" + clauses(31, "a is not o"), "not a join a is a",
+     "34:1: a 32nd disequation in the first system: there may be 31"),
+    ("31 disequations of the second", "entails\nfree a\nthen\n" + clauses(31, "not a join a is a"), "a is not a",
+     "35:1: a 32nd disequation in the second system: there may be 31"),
+    ("height 5", "satisfiable\n" + "let low = (((((*o)o)o)o)o)\n", "let lower = ((((((*o)o)o)o)o)o)",
+     "3:18: the tree is too tall: at most 5 pairs may stand one in the other"),
+]
+
+# Everything at once: the longest question there is.
+LONGEST = lines("entails", f"free {names(7)}", f"own {names(5, 'w')}") + lets(32) + clauses(64, "v0 join v1 is v2") + \
+    clauses(31, "not v0 join v1 is v3") + "then\n" + clauses(64, "v0 join v1 is v2") + clauses(31, "not v0 join w1 is v3")
+
+# Bytes that are no question, and what explaining them says: the refusal, what is wrong here, and the bytes around.
+REFUSED = [
+    ("", "1 at 0", "a question starts with 01, and there is no byte", "[]"),
+    ("03 00", "1 at 0", "a question starts with 01, and it starts with 03", "[03] 00"),
+    ("01 00 00", "2 at 0", "command 01 has 3 operand bytes, and 2 of them are there", "[01 00 00]"),
+    ("01 00 00 00", "2 at 4", "the bytes end where a command is due; the last command is 00", "01 00 00 00 []"),
+    (f"01 00 00 00 {LEFT} 03 FF", "2 at 9", "command 03 has 4 operand bytes, and 1 of them are there", "... 00 00 00 03 FF FF 00 00 [03 FF]"),
+    ("01 00 00 00 14 00 00 00 00", "3 at 4", "no command is 14", "01 00 00 00 [14] 00 00 00 00"),
+    ("01 00 00 00 01 00 00 00 00", "4 at 4", "there is a head already", "01 00 00 00 [01 00 00 00] 00"),
+    (f"01 00 01 00 12 00 00 {FULL} 00", "4 at 7", "constants stand before the first clause", "01 00 01 00 12 00 00 [03 FF FF FF FF] 00"),
+    ("01 02 00 00 00", "5 at 0", "kind 2: it is 0 (satisfiable) or 1 (entails)", "[01 02 00 00] 00"),
+    ("01 01 FF 0D 00", "5 at 0", "268 variables: there may be 12, free and own together", "[01 01 FF 0D] 00"),
+    ("01 00 0B 01 00", "5 at 0", "own variables need a question that asks 'entails'", "[01 00 0B 01] 00"),
+    ("01 00 00 00 " + f"{LEFT} " * 33 + "00", "6 at 164", "a 33rd constant: there may be 32",
+     "... FF 00 00 03 FF FF 00 00 [03 FF FF 00 00] 00"),
+    ("01 00 01 00 " + "10 00 00 00 " * 65 + "00", "7 at 260", "a 65th positive clause in the first system: there may be 64",
+     "... 10 00 00 00 10 00 00 00 [10 00 00 00] 00"),
+    ("01 01 01 00 " + "23 00 00 " * 32 + "00", "7 at 97", "a 32nd disequation in the second system: there may be 31",
+     "... 00 00 23 00 00 23 00 00 [23 00 00] 00"),
+    ("01 00 01 00 12 00 01 00", "8 at 4", "term 01 names no variable of the head and no constant defined", "01 00 01 00 [12 00 01] 00"),
+    (f"01 00 01 00 {FULL} 13 00 21 12 00 00 12 00 00 12 00 00 00", "8 at 9",
+     "term 21 names no variable of the head and no constant defined", "... 00 01 00 03 FF FF FF FF [13 00 21] 12 00 00 12 00 00 12 00 ..."),
+    ("01 01 01 01 20 01 01 01 10 00 00 01 00", "8 at 8", "an own variable in a clause of the first system",
+     "01 01 01 01 20 01 01 01 [10 00 00 01] 00"),
+    ("01 00 01 00 22 00 FF 00", "9 at 4", "a second system needs a question that asks 'entails'", "01 00 01 00 [22 00 FF] 00"),
+    ("01 00 00 00 00 00 01", "10 at 5", "the question ends with the byte before", "01 00 00 00 00 [00] 01"),
+]
+
+# Bytes, and the text that explains them.
+EXPLAINED = [
+    ("01 00 00 00 00", ["satisfiable"]),
+    ("01 01 01 02 00", ["entails", "free v00", "own v01 v02"]),
+    # Short constants that the clauses name in order are written where they stand.
+    (f"01 00 01 00 {LEFT} {FULL} 10 00 20 21 00", ["satisfiable", "free v00", "v00 join (*o) is *"]),
+    # Named before an earlier one, there twice, long, or not named: they have names, and so have all before them.
+    (f"01 00 01 00 {LEFT} {FULL} 10 00 21 20 00", ["satisfiable", "free v00", "let c00 = (*o)", "v00 join * is c00"]),
+    (f"01 00 01 00 {LEFT} {FULL} 12 00 20 00", ["satisfiable", "free v00", "let c00 = (*o)", "let c01 = *", "v00 is c00"]),
+    (f"01 00 01 00 {LEFT} {LEFT} {FULL} 12 20 22 00", ["satisfiable", "free v00", "let c00 = (*o)", "let c01 = (*o)", "c00 is *"]),
+    (f"01 00 01 00 03 00 FF FF 00 {EMPTY} 12 00 20 13 00 21 00",
+     ["satisfiable", "free v00", "let c00 = ((o*)(*o))", "v00 is c00", "v00 is not o"]),
+    (f"01 00 01 00 {EMPTY} 12 00 00 00", ["satisfiable", "free v00", "let c00 = o", "v00 is v00"]),
+    ("01 01 01 01 22 00 01 11 00 00 00 21 01 00 01 00",
+     ["entails", "free v00", "own v01", "then", "v00 is v01", "if", "not v00 join v00 is v00", "then", "not v01 join v00 is v01"]),
+]

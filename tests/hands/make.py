@@ -1,0 +1,50 @@
+"""Random questions and damaged strings, as bytes and from the format alone."""
+
+LIKELY = [0x00, 0x01, 0x02, 0x03, 0x0B, 0x0C, 0x10, 0x11, 0x12, 0x13, 0x1F, 0x20, 0x21, 0x22, 0x23, 0x3F, 0x40, 0xFF]
+
+
+def random_leaves(random):
+    """Leaves of a tree of any height up to 5."""
+    height = random.randrange(6)
+    bits = random.getrandbits(1 << height)
+    width = 32 >> height
+    return sum(((1 << width) - 1) << (width * leaf) for leaf in range(1 << height) if bits >> leaf & 1)
+
+
+def random_question(random):
+    """The bytes of an accepted question."""
+    kind = random.randrange(2)
+    free = random.choice([0, 1, 2, 3, 5, 12])
+    own = random.randrange(min(4, 13 - free)) if kind else 0
+    constants = random.choice([0, 1, 2, 3, 4, 32])
+    string = [0x01, kind, free, own]
+    for _ in range(constants):
+        string += [0x03, *random_leaves(random).to_bytes(4, "little")]
+    for _ in range(random.choice([0, 1, 2, 4, 8, 31])):
+        second = random.randrange(2) if kind else 0
+        terms = list(range(free + own if second else free)) + [0x20 + number for number in range(constants)]
+        if terms:
+            shape = random.randrange(4)
+            string.append(0x10 + 0x10 * second + shape)
+            string += random.choices(terms, k=3 if shape < 2 else 2)
+    return bytes(string + [0x00])
+
+
+def damaged(random, string):
+    """A string after one to three changes; some are taken from strings at a limit."""
+    string = bytearray(string)
+    for _ in range(random.randrange(1, 4)):
+        at = random.randrange(len(string) + 1)
+        byte = random.choice(LIKELY)
+        change = random.randrange(6)
+        if change == 0:
+            string[at:] = b""
+        elif change == 1:
+            string[at:at] = bytes([byte])
+        elif change == 2:
+            string[at:at + 1] = b""
+        elif change == 3:
+            string += bytes([byte])
+        else:
+            string[at:at + 1] = bytes([byte])
+    return bytes(string)
