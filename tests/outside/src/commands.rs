@@ -1,0 +1,24 @@
+//! Where the commands of some bytes begin and end, also where the bytes are faulty.
+
+use std::ops::Range;
+
+/// The bytes of each command. An unknown command byte stands alone; a last command may be cut short.
+pub fn commands(bytes: &[u8]) -> Vec<Range<usize>> {
+    let mut found = Vec::new();
+    let mut at = 0;
+    while at < bytes.len() {
+        let end = (at + width(bytes[at])).min(bytes.len());
+        found.push(at..end);
+        at = end;
+    }
+    found
+}
+
+fn width(command: u8) -> usize {
+    match command {
+        0x01 | 0x10 | 0x11 | 0x20 | 0x21 => 4,
+        0x03 => 5,
+        0x12 | 0x13 | 0x22 | 0x23 => 3,
+        _ => 1,
+    }
+}
