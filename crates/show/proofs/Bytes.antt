@@ -1,17 +1,13 @@
 -- The bits of a byte with a block set, and the test of a block's bits, by a mask. Assumes nothing.
 use mathlib.Core.Path.{_≡_, refl, sym, ap, ap₂, _∙_}
 use mathlib.Core.Bool.{Bool, true, false, cond, _&&_, xor}
-use mathlib.Core.List.{List}
 use mathlib.Core.Logic.{_↔_}
-use Prim.Native.Nat.{ℕ, _+_, _/_, _^_, _<_}
+use Prim.Native.Nat.{ℕ, _/_, _^_, _<_}
 use native.Mathlib.Decide.{ℕ-discrete}
 use native.Mathlib.Omega.{arith}
 use borrow.Author.Tests.{eq-eqb, ne-eqb}
 use lib.Bits.{bitAnd, bitXor, and-le-r}
-use borrow.Author.Count.{below-more}
 use lib.Dec.{T, eqb, eqb→eq}
-use lib.ListN.{length, getD, set}
-use lib.Seq.{getD-set-same, getD-set-other}
 use Rattle.shares.specs.Test.{of-true}
 use Rattle.shares.specs.Constant.{bit}
 use Rattle.shares.specs.BitLaws.{bit-and, bit-xor, bit-zero, bits-zero}
@@ -68,11 +64,3 @@ module _ (byte w m h a : ℕ) (v : Bool) (ew : w ≡ wholeByte v) (em : (i : ℕ
           → (xor (bit byte i) v && eqb (i / 2 ^ h) a) ≡ false
       none f i l (yes e) = rw (f i l e) (no-difference v (eqb (i / 2 ^ h) a))
       none f i l (no n) = rw (ne-eqb (i / 2 ^ h) a n) (not-asked (xor (bit byte i) v))
-
--- one byte more is written
-pub set-more : (f : ℕ → ℕ) (row : List ℕ) (j b : ℕ) → j < length row → ((k : ℕ) → k < j → getD row k 0 ≡ f k) → b ≡ f j
-    → (k : ℕ) → k < j + 1 → getD (set row j b) k 0 ≡ f k
-set-more f row j b inside old e =
-    below-more (λ k. getD (set row j b) k 0 ≡ f k) j
-    (λ k l. getD-set-other row j k b 0 (λ p. omega arith) ∙ old k l)
-    (getD-set-same row j b 0 inside ∙ e)

@@ -2,7 +2,7 @@
 use mathlib.Core.Path.{_≡_, ap, _∙_}
 use mathlib.Core.Bool.{Bool, _&&_, Bool·beq}
 use Prim.Native.Nat.{ℕ, _-_, _*_, _/_, _%_, _^_, _≤_, _<_, suc-le-suc}
-use native.Mathlib.Nat.{one-mul, div-lt-iff-lt-mul}
+use native.Mathlib.Nat.{one-mul}
 use native.Mathlib.Omega.{arith}
 use lib.Dec.{T, eqb, ltb, leb, ltb→lt, leb→le, lit<}
 use lib.Pow.{shl-exact, pow-mono, pow-pos}
@@ -16,9 +16,6 @@ power-is k h = shl-exact 1 k 64 (lit< tt) (omega arith) ∙ one-mul (2 ^ k)
 
 pub power-small : {k : ℕ} → k ≤ 32 → 2 ^ k ≤ 4294967296
 power-small h = pow-mono h
-
-pub shifted-lt : (n k s : ℕ) → k < n * 2 ^ s → k / 2 ^ s < n
-shifted-lt n k s = div-lt-iff-lt-mul (pow-pos s) .1
 
 -- ---- the mask of a block of a byte
 

@@ -124,7 +124,7 @@ filled-at l s q b pos fits j = pick (decLt j (q * s)) (decLt j (q * s + s))
         ∙ getD-drop s (drop (q * s) l) r 0 ∙ getD-drop (q * s) l (s + r) 0 ∙ ap (λ (x : ℕ). getD l x 0) e)
 
 module _ (h : ℕ) (high : 3 ≤ h) where
-  pub of-bytes : (i : ℕ) → i / 8 / 2 ^ (h - 3) ≡ i / 2 ^ h
+  of-bytes : (i : ℕ) → i / 8 / 2 ^ (h - 3) ≡ i / 2 ^ h
   of-bytes i = shr-shr i 3 (h - 3) ∙ ap (λ (n : ℕ). i / 2 ^ n) (omega arith)
 
   module _ (row : List ℕ) (q : ℕ) (fits : q * 2 ^ h + 2 ^ h ≤ 8 * length row) where
@@ -234,12 +234,12 @@ block-pair row (suc h) q n =
     let e : suc h - 1 ≡ h = omega arith in
     (omega arith, rw e (block-halves row h q ∙ fold-pair _ _ (λ v p. n v (block-leaf-iff row (suc h) q v .1 (block-halves row h q ∙ p)))))
 
--- ---- a row whose bytes are each all of one leaf
+-- ---- blocks set one after the other
 
-pub bytes-leaves : (h : ℕ) → 3 ≤ h → (n : ℕ) (row plain : List ℕ) (p : ℕ)
-    → ((k : ℕ) → k < n → getD row k 0 ≡ wholeByte (bit (getD plain (k / 2 ^ (h - 3)) 0) p))
-    → (i : ℕ) → i < 8 * n → rowLeaf row i ≡ bit (getD plain (i / 2 ^ h) 0) p
-unfolding rowLeaf
-bytes-leaves h high n row plain p given i l =
-    ap (λ (x : ℕ). bit x (i % 8)) (given (i / 8) (omega arith)) ∙ whole-bit _ (i % 8) (omega arith)
-    ∙ ap (λ (x : ℕ). bit (getD plain x 0) p) (of-bytes h high i)
+pub blocks-more : (h k : ℕ) (f : ℕ → Bool) (v : Bool) (row after : List ℕ) → ((i : ℕ) → i / 2 ^ h < k → rowLeaf row i ≡ f (i / 2 ^ h))
+    → BlockSet row after h k v → v ≡ f k → (i : ℕ) → i / 2 ^ h < k + 1 → rowLeaf after i ≡ f (i / 2 ^ h)
+blocks-more h k f v row after old step e i l = step i ∙ pick (ℕ-discrete (i / 2 ^ h) k)
+  where
+    pick : Dec (i / 2 ^ h ≡ k) → cond (eqb (i / 2 ^ h) k) v (rowLeaf row i) ≡ f (i / 2 ^ h)
+    pick (yes p) = rw (eq-eqb (i / 2 ^ h) k p) (e ∙ ap f (sym p))
+    pick (no n) = rw (ne-eqb (i / 2 ^ h) k n) (old i (omega arith))

@@ -25,23 +25,17 @@ bit-cond : (t : Bool) (a b p : ℕ) → bit (cond t a b) p ≡ cond t (bit a p) 
 bit-cond true a b p = refl
 bit-cond false a b p = refl
 
-module _ (plan : Plan) (ok : Showable plan) where
-  -- a place is a block of the row
-  pub place-inside : (n : ℕ) → n < plan .count → Inside (rowLevels - plan .high) (getD (plan .place) n 0) rowBytes
-  place-inside n l =
-      let c = 2 ^ (rowLevels - plan .high) in
-      let s = getD (plan .place) n 0 in
-      let e : 2 ^ plan .high * c ≡ 2 ^ rowLevels =
-      sym (pow-add 2 (plan .high) (rowLevels - plan .high)) ∙ ap (λ (k : ℕ). 2 ^ k) (add-sub-of-le (ok .within)) in
-      let last : s * c + (c - 1) < 2 ^ plan .high * c = digits-lt (ok .places n l) (omega (arith, pow-pos (rowLevels - plan .high))) in
-      record { low = omega arith; few = lit≤ tt; fits = omega (arith, pow-pos (rowLevels - plan .high)) }
+-- each of 2 ^ k leaves or sub-leaves is a block of the row
+pub leaf-inside : {k s : ℕ} → k ≤ rowLevels → s < 2 ^ k → Inside (rowLevels - k) s rowBytes
+leaf-inside {k} {s} low l =
+    let c = 2 ^ (rowLevels - k) in
+    let e : 2 ^ k * c ≡ 2 ^ rowLevels = sym (pow-add 2 k (rowLevels - k)) ∙ ap (λ (n : ℕ). 2 ^ n) (add-sub-of-le low) in
+    let last : s * c + (c - 1) < 2 ^ k * c = digits-lt l (omega (arith, pow-pos (rowLevels - k))) in
+    record { low = omega arith; few = lit≤ tt; fits = omega (arith, pow-pos (rowLevels - k)) }
 
+module _ (plan : Plan) (ok : Showable plan) where
   pub place-small : (n : ℕ) → n < plan .count → getD (plan .place) n 0 < 1024
   place-small n l = omega (arith, ok .places n l, pow-mono (ok .within))
-
-  -- the plain leaves fill whole bytes, and the row
-  pub leaf-size : (3 ≤ rowLevels - plan .low) × (rowLevels - plan .low ≤ 32) × (rowBytes ≤ 64 * 2 ^ (rowLevels - plan .low - 3))
-  leaf-size = let e : 1 ≤ rowLevels - plan .low - 3 = omega (arith, ok .blocks) in (omega (arith, ok .blocks), omega arith, omega (arith, pow-mono e))
 
   module _ (p : ℕ) where
     pub shows-plain : (row : List ℕ)

@@ -171,39 +171,18 @@ fn digit(choice: u16, p: usize) -> bool
     (choice >> p) % 2 == 1
 }
 
-// For each leaf, the byte whose leaves are all digit p of its choice.
-fn leaf_bytes(plain: &[u16; 64], p: usize) -> [u8; 64]
-    requires { ⌜ p < 16 ⌝ }
-    ensures { λ r. ⌜ ((k : ℕ) → k < 64 → getD r k 0 ≡ wholeByte (bit (getD (now (plain .entry)) k 0) p)) ⌝ }
+// Fills a row with the 2^low leaves, each with digit p of its choice.
+fn write_leaves(row: &mut [u8], plain: &[u16; 64], low: usize, p: usize)
+    requires { ⌜ (low ≤ 6) × (length (now row) ≡ rowBytes) × (p < 16) ⌝ }
+    ensures { λ _. ⌜ ((i : ℕ) → i < 2 ^ rowLevels → rowLeaf (now (row .exit)) i ≡ bit (getD (now (plain .entry)) (i / 2 ^ (rowLevels - low)) 0) p) ⌝ }
 {
-    let mut bytes = [0u8; 64];
+    let height = ROW_LEVELS - low;
+    let count = power(low);
     let mut k: usize = 0;
-    while k < 64 {
-        bytes[k] = whole(digit(plain[k], p));
+    while k < count {
+        write_block(row, height, k, digit(plain[k], p));
         k += 1;
     }
-    bytes
-}
-
-// Fills a row with bytes, each repeated 2^shift times.
-fn spread(row: &mut [u8], bytes: &[u8; 64], shift: usize)
-    requires { ⌜ (shift ≤ 32) × (length (now row) ≤ 64 * 2 ^ shift) ⌝ }
-    ensures { λ _. ⌜ ((j : ℕ) → j < length (now (row .entry)) → getD (now (row .exit)) j 0 ≡ getD (now (bytes .entry)) (j / 2 ^ shift) 0) ⌝ }
-{
-    let mut j: usize = 0;
-    while j < row.len() {
-        row[j] = bytes[j >> shift];
-        j += 1;
-    }
-}
-
-// Fills a row with blocks of whole bytes, each with digit p of its choice.
-fn write_leaves(row: &mut [u8], plain: &[u16; 64], height: usize, p: usize)
-    requires { ⌜ (3 ≤ height) × (height ≤ 32) × (length (now row) ≤ 64 * 2 ^ (height - 3)) × (p < 16) ⌝ }
-    ensures { λ _. ⌜ ((i : ℕ) → i < 8 * length (now (row .entry)) → rowLeaf (now (row .exit)) i ≡ bit (getD (now (plain .entry)) (i / 2 ^ height) 0) p) ⌝ }
-{
-    let bytes = leaf_bytes(plain, p);
-    spread(row, &bytes, height - 3);
 }
 
 // Sets the sub-leaves that hold another choice, in order.
@@ -228,7 +207,7 @@ pub fn write_row(row: &mut [u8], plan: Plan, p: usize)
     ensures { λ _. ⌜ now (row .exit) ≡ rowOf rowLevels (planTree plan p) ⌝ }
 {
     let plain = plan.plain;
-    write_leaves(row, &plain, ROW_LEVELS - plan.low, p);
+    write_leaves(row, &plain, plan.low, p);
     write_places(row, plan, p);
 }
 

@@ -1,32 +1,90 @@
--- `show::write_leaves` writes every leaf. Assumes nothing.
+-- `show::write_leaves` writes every leaf. The loop's invariant: the first k are written. Assumes nothing.
 use native.Mathlib.Omega.{arith}
-use mathlib.Core.Path.{_∙_}
-use Prim.Native.Nat.{_-_}
-use lib.ListN.{length}
-use Rattle.show.specs.BlockLaws.{bytes-leaves}
-use Rattle.show.proofs.Numbers.{shifted-lt}
-use borrow.Author.Needs.{needs}
+use mathlib.Core.Path.{_≡_, refl, sym, _∙_, subst}
+use Prim.Native.Nat.{ℕ, _-_, _/_, _^_, _≤_, _<_}
+use lib.ListN.{length, getD}
+use lib.Pow.{pow-mono}
+use Rattle.shares.specs.Constant.{bit}
+use Rattle.shares.specs.Blocks.{block-lt}
+use Rattle.show.specs.Rows.{rowLevels, rowLeaf}
+use Rattle.show.specs.Blocks.{Inside}
+use Rattle.show.specs.BlockLaws.{blocks-more}
+use Rattle.show.specs.PlanLaws.{leaf-inside}
 use Rattle.show.proofs.write_leaves.Statement.{statement}
 use Rattle.show.proofs.write_leaves.Tie as tie
 
-leaf-bytes-requires : tie.Need-leaf-bytes-requires
-leaf-bytes-requires c κs = search needs
+abbrev Inv-loop : tie.InvT-loop
+Inv-loop row₀ plain low p height count k₀ row k =
+    (k ≤ count) × (length row ≡ length row₀) × ((i : ℕ) → i / 2 ^ height < k → rowLeaf row i ≡ bit (getD plain (i / 2 ^ height) 0) p)
 
-sub-spread : tie.Need-sub-spread
-sub-spread c = search needs
+abbrev μ-loop : tie.MeasureT-loop
+μ-loop row₀ plain low p height count k₀ row k = count - k
 
-spread-requires : tie.Need-spread-requires
-spread-requires c κs = search needs
+sub-height : tie.Need-sub-height Inv-loop μ-loop
+sub-height c = omega arith
 
-same-length : tie.Need-same-length
-same-length c = search needs
+power-requires : tie.Need-power-requires Inv-loop μ-loop
+power-requires c κs = omega arith
 
-returns : tie.Need-returns
-returns c =
+loop-holds : tie.Need-loop-holds Inv-loop μ-loop
+loop-holds c = (omega arith, refl, λ i l. absurd (omega arith))
+
+mul-digit : tie.Need-mul-digit Inv-loop μ-loop
+mul-digit c = omega (arith, pow-mono (c .before .before .before .before .before .pre .0))
+
+element-copy-out-digit : tie.Need-element-copy-out-digit Inv-loop μ-loop
+element-copy-out-digit c = omega (arith, pow-mono (c .before .before .before .before .before .pre .0))
+
+digit-requires : tie.Need-digit-requires Inv-loop μ-loop
+digit-requires c κs = c .before .before .before .before .before .before .pre .2
+
+write-block-requires : tie.Need-write-block-requires Inv-loop μ-loop
+write-block-requires c κs =
     let start = c .before .before .before .before .before .before .before in
-    bytes-leaves _ (start .pre .0) (length (start .args .row .now)) (c .before .before .spread .last .0) (start .args .plain .now) (start .args .p)
-    (λ k u. c .before .before .spread .ensures k u ∙ c .before .before .before .before .before .leaf-bytes .ensures _ (shifted-lt 64 k (start .args .height - 3) (omega (arith, start .pre .2))))
+    let l = c .before .before .before .before .loop in
+    let within : start .args .low ≤ rowLevels = omega arith in
+    let below : l .k < 2 ^ start .args .low = omega arith in
+    subst (Inside (rowLevels - start .args .low) (l .k)) (sym (l .inv .1 ∙ start .pre .1)) (leaf-inside within below)
+
+add-k : tie.Need-add-k Inv-loop μ-loop
+add-k c = omega arith
+
+loop-less : tie.Need-loop-less Inv-loop μ-loop
+loop-less c = omega arith
+
+loop-again : tie.Need-loop-again Inv-loop μ-loop
+loop-again c =
+    let start = c .before .before .before .before .before .before .before .before .before .before in
+    let l = c .before .before .before .before .before .before .before .loop in (
+      omega arith,
+      c .before .before .write-block .kept .0 ∙ l .inv .1,
+      blocks-more _ _ (λ k. bit (getD (start .args .plain .now) k 0) (start .args .p)) _ (l .row) _ (l .inv .2) (c .before .before .write-block .ensures) (c .before .before .before .digit .ensures),
+    )
+
+same-length : tie.Need-same-length Inv-loop μ-loop
+same-length c = c .before .loop .inv .1
+
+returns : tie.Need-returns Inv-loop μ-loop
+returns c =
+    let start = c .before .before .before .before in
+    let within : start .args .low ≤ rowLevels = omega arith in
+    λ i l. c .before .loop .inv .2 i (omega (arith, block-lt within l))
 
 pub write-leaves-spec : {M : Type 1} → statement M
 write-leaves-spec =
-    tie.close (tie.spec leaf-bytes-requires sub-spread spread-requires same-length returns)
+    tie.close
+    (tie.spec
+    Inv-loop
+    μ-loop
+    sub-height
+    power-requires
+    loop-holds
+    mul-digit
+    element-copy-out-digit
+    digit-requires
+    write-block-requires
+    add-k
+    loop-less
+    loop-again
+    same-length
+    returns)

@@ -5,7 +5,7 @@ use Prim.Native.Nat.{ℕ, _≤_, _-_}
 use lib.ListN.{length, getD}
 use Rattle.show.specs.Blocks.{Inside}
 use Rattle.show.specs.Plans.{Shows}
-use Rattle.show.specs.PlanLaws.{place-inside, place-small, shows-more}
+use Rattle.show.specs.PlanLaws.{leaf-inside, place-small, shows-more}
 use Rattle.show.proofs.write_places.Statement.{statement}
 use Rattle.show.proofs.write_places.Tie as tie
 
@@ -41,10 +41,11 @@ digit-requires c κs = c .before .before .before .before .before .before .pre .1
 
 write-block-requires : tie.Need-write-block-requires Inv-loop μ-loop
 write-block-requires c κs =
-    let plan = c .before .before .before .before .before .before .before .args .t2 in
-    let n = c .before .before .before .before .before .loop .n in
-    subst (Inside (10 - plan .high) (getD (plan .place) n 0)) (sym (c .before .before .before .before .before .loop .inv .1 ∙ c .before .before .before .before .before .before .before .pre .1 .0))
-    (place-inside plan (c .before .before .before .before .before .before .before .pre .0) n (c .before .before .before .before .loop-test .taken))
+    let start = c .before .before .before .before .before .before .before in
+    let l = c .before .before .before .before .before .loop in
+    let ok = start .pre .0 in
+    subst (Inside (10 - start .args .t2 .high) (getD (start .args .t2 .place) (l .n) 0)) (sym (l .inv .1 ∙ start .pre .1 .0))
+    (leaf-inside (ok .within) (ok .places (l .n) (c .before .before .before .before .loop-test .taken)))
 
 add-n : tie.Need-add-n Inv-loop μ-loop
 add-n c = omega (arith, c .before .before .before .before .before .before .before .before .before .before .pre .0 .few, c .before .before .before .before .before .before .before .loop-test .taken)

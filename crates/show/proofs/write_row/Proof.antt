@@ -1,25 +1,21 @@
 -- `show::write_row` writes the row of the tree. Assumes nothing.
-use native.Mathlib.Omega.{arith}
 use mathlib.Core.Path.{_∙_}
-use Rattle.show.specs.PlanLaws.{leaf-size, shows-plain, shows-all}
+use Rattle.show.specs.PlanLaws.{shows-plain, shows-all}
 use borrow.Author.Needs.{needs}
 use Rattle.show.proofs.write_row.Statement.{statement}
 use Rattle.show.proofs.write_row.Tie as tie
 
-sub-write-leaves : tie.Need-sub-write-leaves
-sub-write-leaves c = search needs
-
 write-leaves-requires : tie.Need-write-leaves-requires
-write-leaves-requires c κs = let z = leaf-size _ (c .before .before .before .before .before .pre .0) in (z .0, z .1, omega (arith, z .2, c .before .before .before .before .before .pre .1 .0), c .before .before .before .before .before .pre .1 .1)
+write-leaves-requires c κs = let start = c .before .before .before .before in (start .pre .0 .blocks, start .pre .1 .0, start .pre .1 .1)
 
 write-places-requires : tie.Need-write-places-requires
 write-places-requires c κs =
-    let start = c .before .before .before .before .before .before .before .before .before in (
+    let start = c .before .before .before .before .before .before .before .before in (
       start .pre .0,
       (
         c .before .before .before .write-leaves .kept .0 ∙ start .pre .1 .0,
         start .pre .1 .1,
-        shows-plain _ (start .pre .0) _ _ (λ i l. c .before .before .before .write-leaves .ensures i (omega (arith, start .pre .1 .0))),
+        shows-plain _ (start .pre .0) _ _ (c .before .before .before .write-leaves .ensures),
       ),
     )
 
@@ -28,11 +24,11 @@ same-length c = search needs
 
 returns : tie.Need-returns
 returns c =
-    let start = c .before .before .before .before .before .before .before .before .before .before .before .before in
+    let start = c .before .before .before .before .before .before .before .before .before .before .before in
     shows-all _ (start .pre .0) _ _ (c .before .before .write-places .kept .0 ∙ c .before .before .before .before .before .before .write-leaves .kept .0 ∙ start .pre .1 .0)
     (λ j. c .slice-known3 .given j .fits) (c .before .before .write-places .ensures)
 
 pub write-row-spec : {M : Type 1} → statement M
 write-row-spec =
     tie.close
-    (tie.spec sub-write-leaves write-leaves-requires write-places-requires same-length returns)
+    (tie.spec write-leaves-requires write-places-requires same-length returns)
