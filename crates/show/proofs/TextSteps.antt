@@ -8,7 +8,7 @@ use native.Mathlib.Nat.{two-pow-succ, mul-one, mul-le-mul-left}
 use native.Mathlib.Numerals.{add-one}
 use native.Mathlib.Omega.{arith}
 use lib.Dec.{T}
-use lib.ListN.{length, drop, set, length-append, length-set}
+use lib.ListN.{length, getD, drop, set, length-append, length-set}
 use lib.Pow.{pow-pos}
 use lib.Seq.{sets, length-sets, sets-eq}
 use Rattle.shares.specs.Test.{of-true}
@@ -25,13 +25,27 @@ abbrev pub sign : Bool → ℕ
 sign false = 0x6F
 sign true = 0x2A
 
-leaf-text : (v : Bool) → text (leaf v) ≡ sign v ∷ []
+leaf-first : (v : Bool) → sign v ≡ getD (text (leaf v)) 0 0
 unfolding text
-leaf-text false = refl
-leaf-text true = refl
+leaf-first false = refl
+leaf-first true = refl
 
-leaf-length : (v : Bool) → length (text (leaf v)) ≡ 1
-leaf-length v = ap length (leaf-text v)
+pair-first : (t : Tree) → ((v : Bool) → t ≡ leaf v → ⊥) → 0x28 ≡ getD (text t) 0 0
+unfolding text
+pair-first (leaf v) n = absurd (n v refl)
+pair-first (pair l r) n = refl
+
+-- a bracket is no leaf's, and any other sign is the whole text
+no-leaf : (v : Bool) → 0x28 ≡ getD (text (leaf v)) 0 0 → ⊥
+unfolding text
+no-leaf false e = omega arith
+no-leaf true e = omega arith
+
+alone : (t : Tree) (s : ℕ) → s ≡ getD (text t) 0 0 → (s ≡ 0x28 → ⊥) → text t ≡ s ∷ []
+unfolding text
+alone (leaf false) s e n = rw e
+alone (leaf true) s e n = rw e
+alone (pair l r) s e n = absurd (n e)
 
 text-some : (t : Tree) → 0 < length (text t)
 unfolding text
@@ -85,29 +99,32 @@ module _ (row : List ℕ) (h q : ℕ) (inside : Inside h q (length row)) where
   pub at-room : (at : ℕ) (buffer : List ℕ) → at + length (text (blockTree row h q)) ≤ length buffer → at < length buffer
   at-room at buffer room = omega (arith, text-some (blockTree row h q))
 
-  module _ (v t : Bool) (test : T t ↔ AllLeaves row h q v) (passed : t ≡ true) where
-    is-leaf : tree ≡ leaf v
-    unfolding tree
-    is-leaf = block-leaf-iff row h q v .0 (test .0 (of-true passed))
+  -- its first sign, by the tests of its leaves
+  pub first-leaf : (v t : Bool) → T t ↔ AllLeaves row h q v → t ≡ true → sign v ≡ getD (text (blockTree row h q)) 0 0
+  first-leaf v t test passed = rw (block-leaf-iff row h q v .0 (test .0 (of-true passed))) (leaf-first v)
+
+  pub first-pair : (t u : Bool) → T t ↔ AllLeaves row h q false → T u ↔ AllLeaves row h q true → t ≡ false → u ≡ false
+      → 0x28 ≡ getD (text (blockTree row h q)) 0 0
+  first-pair t u none all not-none not-all = pair-first (blockTree row h q) mixed
+    where
+      mixed : (v : Bool) → blockTree row h q ≡ leaf v → ⊥
+      mixed false e = rw not-none at (none .1 (block-leaf-iff row h q false .1 e))
+      mixed true e = rw not-all at (all .1 (block-leaf-iff row h q true .1 e))
+
+  module _ (s : ℕ) (first : s ≡ getD (text (blockTree row h q)) 0 0) (other : s ≡ 0x28 → ⊥) where
+    whole : text (blockTree row h q) ≡ s ∷ []
+    whole = alone (blockTree row h q) s first other
 
     pub leaf-counted : (1 ≡ length (text (blockTree row h q))) × (3 ≤ 3 * 2 ^ h)
-    unfolding tree
-    leaf-counted = (sym (ap (λ t. length (text t)) is-leaf ∙ leaf-length v), omega (arith, pow-pos h))
+    leaf-counted = (sym (ap length whole), omega (arith, pow-pos h))
 
-    pub leaf-put : (at : ℕ) (buffer : List ℕ) → Put (text (blockTree row h q)) buffer at (at + 1) (set buffer at (sign v))
-    unfolding tree
-    leaf-put at buffer =
-        let whole : text (blockTree row h q) ≡ sign v ∷ [] = ap text is-leaf ∙ leaf-text v in
-        record { place = rw whole; bytes = rw whole }
+    pub leaf-put : (at : ℕ) (buffer : List ℕ) → Put (text (blockTree row h q)) buffer at (at + 1) (set buffer at s)
+    leaf-put at buffer = record { place = rw whole; bytes = rw whole }
 
-  module _ (t u : Bool) (none : T t ↔ AllLeaves row h q false) (all : T u ↔ AllLeaves row h q true) (not-none : t ≡ false) (not-all : u ≡ false) where
-    mixed : (v : Bool) → AllLeaves row h q v → ⊥
-    mixed false a = rw not-none at (none .1 a)
-    mixed true a = rw not-all at (all .1 a)
-
+  module _ (s : ℕ) (first : s ≡ getD (text (blockTree row h q)) 0 0) (bracket : s ≡ 0x28) where
     is-pair : (0 < h) × (tree ≡ pair left right)
     unfolding tree left right
-    is-pair = block-pair row h q mixed
+    is-pair = block-pair row h q (λ v e. no-leaf v (rw (bracket, e) at first))
 
     pub above : 0 < h
     above = is-pair .0
@@ -116,11 +133,8 @@ module _ (row : List ℕ) (h q : ℕ) (inside : Inside h q (length row)) where
     halved zero l = absurd (omega arith)
     halved (suc k) l = let e : suc k - 1 ≡ k = omega arith in rw e (two-pow-succ k)
 
-    pub left-inside : Inside (h - 1) (2 * q) (length row)
-    left-inside = halves-inside h q (length row) above inside .0
-
-    pub right-inside : Inside (h - 1) (2 * q + 1) (length row)
-    right-inside = halves-inside h q (length row) above inside .1
+    pub insides : Inside (h - 1) (2 * q) (length row) × Inside (h - 1) (2 * q + 1) (length row)
+    insides = halves-inside h q (length row) above inside
 
     halves-length : length (text tree) ≡ 2 + length (text left) + length (text right)
     halves-length = ap (λ t. length (text t)) (is-pair .1) ∙ pair-length left right
@@ -132,13 +146,13 @@ module _ (row : List ℕ) (h q : ℕ) (inside : Inside h q (length row)) where
     pair-counted a b ea eb = (omega (arith, halves-length), omega (arith, halved h above))
 
     module _ (buffer : List ℕ) (at : ℕ) (room : at + length (text (blockTree row h q)) ≤ length buffer) where
-      pub left-room : at + 1 + length (text (blockTree row (h - 1) (2 * q))) ≤ length (set buffer at 0x28)
+      pub left-room : at + 1 + length (text (blockTree row (h - 1) (2 * q))) ≤ length (set buffer at s)
       unfolding tree left right
-      left-room = rw (length-set buffer at 0x28) (omega (arith, halves-length))
+      left-room = rw (length-set buffer at s) (omega (arith, halves-length))
 
-      module _ (m : ℕ) (mid : List ℕ) (a : Put (text (blockTree row (h - 1) (2 * q))) (set buffer at 0x28) (at + 1) m mid) where
+      module _ (m : ℕ) (mid : List ℕ) (a : Put (text (blockTree row (h - 1) (2 * q))) (set buffer at s) (at + 1) m mid) where
         mid-length : length mid ≡ length buffer
-        mid-length = put-length a ∙ length-set buffer at 0x28
+        mid-length = put-length a ∙ length-set buffer at s
 
         pub right-room : m + length (text (blockTree row (h - 1) (2 * q + 1))) ≤ length mid
         unfolding tree left right
@@ -151,7 +165,7 @@ module _ (row : List ℕ) (h q : ℕ) (inside : Inside h q (length row)) where
 
           pub pair-put : Put (text (blockTree row h q)) buffer at (n + 1) (set after n 0x29)
           unfolding tree left right
-          pair-put = rw (is-pair .1) (put-pair left right buffer mid after at m n a b)
+          pair-put = rw (is-pair .1) (put-pair left right buffer mid after at m n (rw bracket at a) b)
 
           pub pair-length-kept : length (set after n 0x29) ≡ length buffer
           pair-length-kept = length-set after n 0x29 ∙ put-length b ∙ mid-length

@@ -226,13 +226,14 @@ fold-pair (leaf false) (leaf false) n = absurd (n false refl)
 fold-pair (leaf a) (pair l r) n = refl
 fold-pair (pair l r) t n = refl
 
--- where they are neither all empty nor all full, it is the pair of its halves
-pub block-pair : (row : List ℕ) (h q : ℕ) → ((v : Bool) → AllLeaves row h q v → ⊥)
+-- where it is no leaf, it is the pair of its halves
+pub block-pair : (row : List ℕ) (h q : ℕ) → ((v : Bool) → blockTree row h q ≡ leaf v → ⊥)
     → (0 < h) × (blockTree row h q ≡ pair (blockTree row (h - 1) (2 * q)) (blockTree row (h - 1) (2 * q + 1)))
-block-pair row zero q n = absurd (n (rowLeaf row q) (λ i e. ap (rowLeaf row) (omega arith)))
+unfolding blockTree treeOf
+block-pair row zero q n = absurd (n _ refl)
 block-pair row (suc h) q n =
     let e : suc h - 1 ≡ h = omega arith in
-    (omega arith, rw e (block-halves row h q ∙ fold-pair _ _ (λ v p. n v (block-leaf-iff row (suc h) q v .1 (block-halves row h q ∙ p)))))
+    (omega arith, rw e (block-halves row h q ∙ fold-pair _ _ (λ v p. n v (block-halves row h q ∙ p))))
 
 -- ---- blocks set one after the other
 

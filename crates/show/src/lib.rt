@@ -250,20 +250,31 @@ pub enum Written {
     Refused(u8),
 }
 
-// The length of the text of block q. At each height at which the block of a byte is a pair, the byte is looked at twice at most,
-// and so once more where the block is a leaf.
+// The first sign of the text of block q: the leaf that it is, or a bracket. No byte is looked at more than twice.
+fn first_sign(row: &[u8], height: usize, q: usize) -> u8
+    requires { ⌜ Inside height q (length (now row)) ⌝ }
+    ensures { λ r. ⌜ r ≡ getD (text (blockTree (now (row .entry)) height q)) 0 0 ⌝ }
+{
+    if is_constant(row, height, q, false) {
+        return b'o';
+    }
+    if is_constant(row, height, q, true) {
+        return b'*';
+    }
+    b'('
+}
+
+// The length of the text of block q.
 fn text_length(row: &[u8], height: usize, q: usize) -> usize
     requires { ⌜ Inside height q (length (now row)) ⌝ }
     ensures { λ r. ⌜ (r ≡ length (text (blockTree (now (row .entry)) height q))) × (r + 2 ≤ 3 * 2 ^ height) ⌝ }
 {
-    if is_constant(row, height, q, false) {
+    if first_sign(row, height, q) != b'(' {
         return 1;
     }
-    if is_constant(row, height, q, true) {
-        return 1;
-    }
-    let left = text_length(row, height - 1, 2 * q);
-    let right = text_length(row, height - 1, 2 * q + 1);
+    let below = height - 1;
+    let left = text_length(row, below, 2 * q);
+    let right = text_length(row, below, 2 * q + 1);
     2 + left + right
 }
 
@@ -273,17 +284,14 @@ fn write_text(row: &[u8], height: usize, q: usize, buffer: &mut [u8], at: usize)
     requires { ⌜ at + length (text (blockTree (now row) height q)) ≤ length (now buffer) ⌝ }
     ensures { λ r. ⌜ Put (text (blockTree (now (row .entry)) height q)) (now (buffer .entry)) at r (now (buffer .exit)) ⌝ }
 {
-    if is_constant(row, height, q, false) {
-        buffer[at] = b'o';
+    let sign = first_sign(row, height, q);
+    buffer[at] = sign;
+    if sign != b'(' {
         return at + 1;
     }
-    if is_constant(row, height, q, true) {
-        buffer[at] = b'*';
-        return at + 1;
-    }
-    buffer[at] = b'(';
-    let middle = write_text(row, height - 1, 2 * q, buffer, at + 1);
-    let end = write_text(row, height - 1, 2 * q + 1, buffer, middle);
+    let below = height - 1;
+    let middle = write_text(row, below, 2 * q, buffer, at + 1);
+    let end = write_text(row, below, 2 * q + 1, buffer, middle);
     buffer[end] = b')';
     end + 1
 }

@@ -1,163 +1,90 @@
--- `show::text_length` counts the text of the block. The height falls. Assumes nothing.
+-- `show::text_length` gives the length of the text of the block. The height falls. Assumes nothing.
 use native.Mathlib.Omega.{arith}
 use Rattle.show.proofs.Numbers.{power-small}
-use Rattle.show.proofs.TextSteps.{number-small, leaf-counted, above, left-inside, right-inside, pair-counted}
+use Rattle.show.proofs.TextSteps.{number-small, leaf-counted, above, insides, pair-counted}
 use Prim.Native.Nat.{ℕ, _<_}
 use borrow.Fn.Kinds.{In}
 use borrow.Fn.PlainCycle.{Measures, is, falls, and}
 use Rattle.show.proofs.text_length.Reads as text-length
-use Rattle.show.proofs.text_length.Kinds as text-length-kinds
-use Rattle.show.proofs.+text_length.Lts-text_length as text-length-lts
-use Rattle.show.proofs.is_constant.Reads as is-constant-reads
+use Rattle.show.proofs.text_length.Kinds as kinds
+use Rattle.show.proofs.+text_length.Lts-text_length as lts
+use Rattle.show.proofs.first_sign.Reads as first-sign
 use Rattle.show.proofs.+text_length.{statement}
 use Rattle.show.proofs.+text_length.Tie.{close}
 
-abbrev μ-text-length : Measures 1 text-length-kinds.ps ℕ
-μ-text-length κs a = a .1 .0
+abbrev μ : Measures 1 kinds.ps ℕ
+μ κs a = a .1 .0
 
-abbrev text-length-at : ℕ → In 1 text-length-kinds.ps
-text-length-at t =
-    and 1 text-length-kinds.ps (is 1 text-length-kinds.ps μ-text-length t) text-length.Pre
+module _ (t : ℕ) where
+  abbrev here : In 1 kinds.ps
+  here = and 1 kinds.ps (is 1 kinds.ps μ t) text-length.Pre
 
-abbrev text-length-below : ℕ → In 1 text-length-kinds.ps
-text-length-below t =
-    and 1 text-length-kinds.ps (falls 1 text-length-kinds.ps _<_ μ-text-length t) text-length.Pre
+  abbrev claims : lts.Claims
+  claims = (first-sign.Asked, first-sign.Learnt, and 1 kinds.ps (falls 1 kinds.ps _<_ μ t) text-length.Pre, text-length.Post)
 
-text-length-is-constant-requires : (t : ℕ) → text-length-lts.Need-is-constant-requires (
-  is-constant-reads.Asked,
-  is-constant-reads.Learnt,
-  text-length-below t,
-  text-length.Post,
-) (text-length-at t) text-length.Post
-text-length-is-constant-requires t c κs = c .before .pre .1
+  first-sign-requires : lts.Need-first-sign-requires claims here text-length.Post
+  first-sign-requires c κs = c .before .pre .1
 
-text-length-returns : (t : ℕ) → text-length-lts.Need-returns (
-  is-constant-reads.Asked,
-  is-constant-reads.Learnt,
-  text-length-below t,
-  text-length.Post,
-) (text-length-at t) text-length.Post
-text-length-returns t c = leaf-counted (c .before .before .before .args .row .now) _ _ (c .before .before .before .pre .1) _ (c .before .is-constant .result) (c .before .is-constant .ensures) (c .if1 .taken)
+  returns : lts.Need-returns claims here text-length.Post
+  returns c =
+      let start = c .before .before .before in
+      leaf-counted (start .args .row .now) _ _ (start .pre .1) _ (c .before .first-sign .ensures) (c .if1 .taken)
 
-text-length-is-constant-requires-2 : (t : ℕ) → text-length-lts.Need-is-constant-requires-2 (
-  is-constant-reads.Asked,
-  is-constant-reads.Learnt,
-  text-length-below t,
-  text-length.Post,
-) (text-length-at t) text-length.Post
-text-length-is-constant-requires-2 t c κs = c .before .before .before .pre .1
+  sub-below : lts.Need-sub-below claims here text-length.Post
+  sub-below c =
+      let start = c .before .before .before in
+      above (start .args .row .now) _ _ (start .pre .1) _ (c .before .first-sign .ensures) (c .if1 .left)
 
-text-length-returns-2 : (t : ℕ) → text-length-lts.Need-returns-2 (
-  is-constant-reads.Asked,
-  is-constant-reads.Learnt,
-  text-length-below t,
-  text-length.Post,
-) (text-length-at t) text-length.Post
-text-length-returns-2 t c = leaf-counted (c .before .before .before .before .before .args .row .now) _ _ (c .before .before .before .before .before .pre .1) _ (c .before .is-constant2 .result) (c .before .is-constant2 .ensures) (c .if2 .taken)
+  mul-text-length : lts.Need-mul-text-length claims here text-length.Post
+  mul-text-length c =
+      let start = c .before .before .before in
+      omega (arith, number-small (start .args .row .now) _ _ (start .pre .1))
 
-text-length-sub-text-length : (t : ℕ) → text-length-lts.Need-sub-text-length (
-  is-constant-reads.Asked,
-  is-constant-reads.Learnt,
-  text-length-below t,
-  text-length.Post,
-) (text-length-at t) text-length.Post
-text-length-sub-text-length t c = above (c .before .before .before .before .before .args .row .now) _ _ (c .before .before .before .before .before .pre .1) (c .before .before .before .is-constant .result) (c .before .is-constant2 .result) (c .before .before .before .is-constant .ensures) (c .before .is-constant2 .ensures) (c .before .before .if1 .left) (c .if2 .left)
+  text-length-requires : lts.Need-text-length-requires claims here text-length.Post
+  text-length-requires c κs =
+      let start = c .before .before .before in
+      (omega (arith, sub-below c, start .pre .0), insides (start .args .row .now) _ _ (start .pre .1) _ (c .before .first-sign .ensures) (c .if1 .left) .0)
 
-text-length-mul-text-length : (t : ℕ) → text-length-lts.Need-mul-text-length (
-  is-constant-reads.Asked,
-  is-constant-reads.Learnt,
-  text-length-below t,
-  text-length.Post,
-) (text-length-at t) text-length.Post
-text-length-mul-text-length t c = omega (arith, number-small (c .before .before .before .before .before .args .row .now) _ _ (c .before .before .before .before .before .pre .1))
+  mul-text-length-2 : lts.Need-mul-text-length-2 claims here text-length.Post
+  mul-text-length-2 c =
+      let start = c .before .before .before .before in
+      omega (arith, number-small (start .args .row .now) _ _ (start .pre .1))
 
-text-length-text-length-requires : (t : ℕ) → text-length-lts.Need-text-length-requires (
-  is-constant-reads.Asked,
-  is-constant-reads.Learnt,
-  text-length-below t,
-  text-length.Post,
-) (text-length-at t) text-length.Post
-text-length-text-length-requires t c κs = (omega (arith, above (c .before .before .before .before .before .args .row .now) _ _ (c .before .before .before .before .before .pre .1) (c .before .before .before .is-constant .result) (c .before .is-constant2 .result) (c .before .before .before .is-constant .ensures) (c .before .is-constant2 .ensures) (c .before .before .if1 .left) (c .if2 .left), c .before .before .before .before .before .pre .0), left-inside (c .before .before .before .before .before .args .row .now) _ _ (c .before .before .before .before .before .pre .1) (c .before .before .before .is-constant .result) (c .before .is-constant2 .result) (c .before .before .before .is-constant .ensures) (c .before .is-constant2 .ensures) (c .before .before .if1 .left) (c .if2 .left))
+  add-text-length : lts.Need-add-text-length claims here text-length.Post
+  add-text-length c =
+      let start = c .before .before .before .before in
+      omega (arith, number-small (start .args .row .now) _ _ (start .pre .1))
 
-text-length-sub-text-length-2 : (t : ℕ) → text-length-lts.Need-sub-text-length-2 (
-  is-constant-reads.Asked,
-  is-constant-reads.Learnt,
-  text-length-below t,
-  text-length.Post,
-) (text-length-at t) text-length.Post
-text-length-sub-text-length-2 t c = above (c .before .before .before .before .before .before .args .row .now) _ _ (c .before .before .before .before .before .before .pre .1) (c .before .before .before .before .is-constant .result) (c .before .before .is-constant2 .result) (c .before .before .before .before .is-constant .ensures) (c .before .before .is-constant2 .ensures) (c .before .before .before .if1 .left) (c .before .if2 .left)
+  text-length-requires-2 : lts.Need-text-length-requires-2 claims here text-length.Post
+  text-length-requires-2 c κs =
+      let start = c .before .before .before .before in
+      (omega (arith, sub-below (c .before), start .pre .0), insides (start .args .row .now) _ _ (start .pre .1) _ (c .before .before .first-sign .ensures) (c .before .if1 .left) .1)
 
-text-length-mul-text-length-2 : (t : ℕ) → text-length-lts.Need-mul-text-length-2 (
-  is-constant-reads.Asked,
-  is-constant-reads.Learnt,
-  text-length-below t,
-  text-length.Post,
-) (text-length-at t) text-length.Post
-text-length-mul-text-length-2 t c = omega (arith, number-small (c .before .before .before .before .before .before .args .row .now) _ _ (c .before .before .before .before .before .before .pre .1))
+  add-result : lts.Need-add-result claims here text-length.Post
+  add-result c =
+      let start = c .before .before .before .before .before in
+      omega (arith, power-small (start .pre .1 .low), pair-counted (start .args .row .now) _ _ (start .pre .1) _ (c .before .before .before .first-sign .ensures) (c .before .before .if1 .left) _ _ (c .before .text-length .ensures) (c .text-length2 .ensures) .1)
 
-text-length-add-text-length : (t : ℕ) → text-length-lts.Need-add-text-length (
-  is-constant-reads.Asked,
-  is-constant-reads.Learnt,
-  text-length-below t,
-  text-length.Post,
-) (text-length-at t) text-length.Post
-text-length-add-text-length t c = omega (arith, number-small (c .before .before .before .before .before .before .args .row .now) _ _ (c .before .before .before .before .before .before .pre .1))
+  add-result-2 : lts.Need-add-result-2 claims here text-length.Post
+  add-result-2 c =
+      let start = c .before .before .before .before .before in
+      omega (arith, power-small (start .pre .1 .low), pair-counted (start .args .row .now) _ _ (start .pre .1) _ (c .before .before .before .first-sign .ensures) (c .before .before .if1 .left) _ _ (c .before .text-length .ensures) (c .text-length2 .ensures) .1)
 
-text-length-text-length-requires-2 : (t : ℕ) → text-length-lts.Need-text-length-requires-2 (
-  is-constant-reads.Asked,
-  is-constant-reads.Learnt,
-  text-length-below t,
-  text-length.Post,
-) (text-length-at t) text-length.Post
-text-length-text-length-requires-2 t c κs = (omega (arith, above (c .before .before .before .before .before .before .args .row .now) _ _ (c .before .before .before .before .before .before .pre .1) (c .before .before .before .before .is-constant .result) (c .before .before .is-constant2 .result) (c .before .before .before .before .is-constant .ensures) (c .before .before .is-constant2 .ensures) (c .before .before .before .if1 .left) (c .before .if2 .left), c .before .before .before .before .before .before .pre .0), right-inside (c .before .before .before .before .before .before .args .row .now) _ _ (c .before .before .before .before .before .before .pre .1) (c .before .before .before .before .is-constant .result) (c .before .before .is-constant2 .result) (c .before .before .before .before .is-constant .ensures) (c .before .before .is-constant2 .ensures) (c .before .before .before .if1 .left) (c .before .if2 .left))
-
-text-length-add-result : (t : ℕ) → text-length-lts.Need-add-result (
-  is-constant-reads.Asked,
-  is-constant-reads.Learnt,
-  text-length-below t,
-  text-length.Post,
-) (text-length-at t) text-length.Post
-text-length-add-result t c =
-    omega (arith, power-small (c .before .before .before .before .before .before .before .pre .1 .low), pair-counted (c .before .before .before .before .before .before .before .args .row .now) _ _ (c .before .before .before .before .before .before .before .pre .1) (c .before .before .before .before .before .is-constant .result) (c .before .before .before .is-constant2 .result) (c .before .before .before .before .before .is-constant .ensures) (c .before .before .before .is-constant2 .ensures) (c .before .before .before .before .if1 .left) (c .before .before .if2 .left) _ _ (c .before .text-length .ensures) (c .text-length2 .ensures) .1)
-
-text-length-add-result-2 : (t : ℕ) → text-length-lts.Need-add-result-2 (
-  is-constant-reads.Asked,
-  is-constant-reads.Learnt,
-  text-length-below t,
-  text-length.Post,
-) (text-length-at t) text-length.Post
-text-length-add-result-2 t c =
-    omega (arith, power-small (c .before .before .before .before .before .before .before .pre .1 .low), pair-counted (c .before .before .before .before .before .before .before .args .row .now) _ _ (c .before .before .before .before .before .before .before .pre .1) (c .before .before .before .before .before .is-constant .result) (c .before .before .before .is-constant2 .result) (c .before .before .before .before .before .is-constant .ensures) (c .before .before .before .is-constant2 .ensures) (c .before .before .before .before .if1 .left) (c .before .before .if2 .left) _ _ (c .before .text-length .ensures) (c .text-length2 .ensures) .1)
-
-text-length-returns-3 : (t : ℕ) → text-length-lts.Need-returns-3 (
-  is-constant-reads.Asked,
-  is-constant-reads.Learnt,
-  text-length-below t,
-  text-length.Post,
-) (text-length-at t) text-length.Post
-text-length-returns-3 t c =
-    pair-counted (c .before .before .before .before .before .before .before .args .row .now) _ _ (c .before .before .before .before .before .before .before .pre .1) (c .before .before .before .before .before .is-constant .result) (c .before .before .before .is-constant2 .result) (c .before .before .before .before .before .is-constant .ensures) (c .before .before .before .is-constant2 .ensures) (c .before .before .before .before .if1 .left) (c .before .before .if2 .left) _ _ (c .before .text-length .ensures) (c .text-length2 .ensures)
+  returns-2 : lts.Need-returns-2 claims here text-length.Post
+  returns-2 c =
+      let start = c .before .before .before .before .before in
+      pair-counted (start .args .row .now) _ _ (start .pre .1) _ (c .before .before .before .first-sign .ensures) (c .before .before .if1 .left) _ _ (c .before .text-length .ensures) (c .text-length2 .ensures)
 
 pub +text-length-spec : {M : Type 1} → statement M
-+text-length-spec = close μ-text-length λ t. text-length-lts.spec (
-  is-constant-reads.Asked,
-  is-constant-reads.Learnt,
-  text-length-below t,
-  text-length.Post,
-)
-    (text-length-at t)
-    text-length.Post
-    (text-length-is-constant-requires t)
-    (text-length-returns t)
-    (text-length-is-constant-requires-2 t)
-    (text-length-returns-2 t)
-    (text-length-sub-text-length t)
-    (text-length-mul-text-length t)
-    (text-length-text-length-requires t)
-    (text-length-sub-text-length-2 t)
-    (text-length-mul-text-length-2 t)
-    (text-length-add-text-length t)
-    (text-length-text-length-requires-2 t)
-    (text-length-add-result t)
-    (text-length-add-result-2 t)
-    (text-length-returns-3 t)
++text-length-spec = close μ λ t. lts.spec (claims t) (here t) text-length.Post
+    (first-sign-requires t)
+    (returns t)
+    (sub-below t)
+    (mul-text-length t)
+    (text-length-requires t)
+    (mul-text-length-2 t)
+    (add-text-length t)
+    (text-length-requires-2 t)
+    (add-result t)
+    (add-result-2 t)
+    (returns-2 t)

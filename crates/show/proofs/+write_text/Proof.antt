@@ -1,243 +1,118 @@
 -- `show::write_text` writes the text of the block. The height falls. Assumes nothing.
 use native.Mathlib.Omega.{arith}
 use lib.ListN.{length-set}
-use Rattle.show.proofs.TextSteps.{number-small, at-room, leaf-put, above, left-inside, right-inside, left-room, right-room, last-room, pair-put, pair-length-kept}
+use Rattle.show.proofs.TextSteps.{number-small, at-room, leaf-put, above, insides, left-room, right-room, last-room, pair-put, pair-length-kept}
 use Prim.Native.Nat.{ℕ, _<_}
 use borrow.Fn.Kinds.{In}
 use borrow.Fn.PlainCycle.{Measures, is, falls, and}
 use Rattle.show.proofs.write_text.Reads as write-text
-use Rattle.show.proofs.write_text.Kinds as write-text-kinds
-use Rattle.show.proofs.+write_text.Lts-write_text as write-text-lts
-use Rattle.show.proofs.is_constant.Reads as is-constant-reads
+use Rattle.show.proofs.write_text.Kinds as kinds
+use Rattle.show.proofs.+write_text.Lts-write_text as lts
+use Rattle.show.proofs.first_sign.Reads as first-sign
 use Rattle.show.proofs.+write_text.{statement}
 use Rattle.show.proofs.+write_text.Tie.{close}
 
-abbrev μ-write-text : Measures 2 write-text-kinds.ps ℕ
-μ-write-text κs a = a .1 .0
+abbrev μ : Measures 2 kinds.ps ℕ
+μ κs a = a .1 .0
 
-abbrev write-text-at : ℕ → In 2 write-text-kinds.ps
-write-text-at t =
-    and 2 write-text-kinds.ps (is 2 write-text-kinds.ps μ-write-text t) write-text.Pre
+module _ (t : ℕ) where
+  abbrev here : In 2 kinds.ps
+  here = and 2 kinds.ps (is 2 kinds.ps μ t) write-text.Pre
 
-abbrev write-text-below : ℕ → In 2 write-text-kinds.ps
-write-text-below t =
-    and 2 write-text-kinds.ps (falls 2 write-text-kinds.ps _<_ μ-write-text t) write-text.Pre
+  abbrev claims : lts.Claims
+  claims = (first-sign.Asked, first-sign.Learnt, and 2 kinds.ps (falls 2 kinds.ps _<_ μ t) write-text.Pre, write-text.Post)
 
-write-text-is-constant-requires : (t : ℕ) → write-text-lts.Need-is-constant-requires (
-  is-constant-reads.Asked,
-  is-constant-reads.Learnt,
-  write-text-below t,
-  write-text.Post,
-) (write-text-at t) write-text.Post
-write-text-is-constant-requires t c κs = c .before .before .pre .1 .0
+  first-sign-requires : lts.Need-first-sign-requires claims here write-text.Post
+  first-sign-requires c κs = c .before .before .pre .1 .0
 
-write-text-slice-write-buffer : (t : ℕ) → write-text-lts.Need-slice-write-buffer (
-  is-constant-reads.Asked,
-  is-constant-reads.Learnt,
-  write-text-below t,
-  write-text.Post,
-) (write-text-at t) write-text.Post
-write-text-slice-write-buffer t c = at-room (c .before .before .before .before .args .row .now) _ _ (c .before .before .before .before .pre .1 .0) (c .before .before .before .before .args .at) (c .before .before .before .before .args .buffer .now) (c .before .before .before .before .pre .1 .1)
+  slice-write-buffer : lts.Need-slice-write-buffer claims here write-text.Post
+  slice-write-buffer c =
+      let start = c .before .before .before in
+      at-room (start .args .row .now) _ _ (start .pre .1 .0) (start .args .at) (start .args .buffer .now) (start .pre .1 .1)
 
-write-text-add-result : (t : ℕ) → write-text-lts.Need-add-result (
-  is-constant-reads.Asked,
-  is-constant-reads.Learnt,
-  write-text-below t,
-  write-text.Post,
-) (write-text-at t) write-text.Post
-write-text-add-result t c = omega (arith, at-room (c .before .before .before .before .args .row .now) _ _ (c .before .before .before .before .pre .1 .0) (c .before .before .before .before .args .at) (c .before .before .before .before .args .buffer .now) (c .before .before .before .before .pre .1 .1), c .before .before .before .before .good)
+  add-result : lts.Need-add-result claims here write-text.Post
+  add-result c =
+      let start = c .before .before .before .before in
+      omega (arith, at-room (start .args .row .now) _ _ (start .pre .1 .0) (start .args .at) (start .args .buffer .now) (start .pre .1 .1), start .good)
 
-write-text-same-length : (t : ℕ) → write-text-lts.Need-same-length (
-  is-constant-reads.Asked,
-  is-constant-reads.Learnt,
-  write-text-below t,
-  write-text.Post,
-) (write-text-at t) write-text.Post
-write-text-same-length t c = simp length-set
+  same-length : lts.Need-same-length claims here write-text.Post
+  same-length c = simp length-set
 
-write-text-returns : (t : ℕ) → write-text-lts.Need-returns (
-  is-constant-reads.Asked,
-  is-constant-reads.Learnt,
-  write-text-below t,
-  write-text.Post,
-) (write-text-at t) write-text.Post
-write-text-returns t c = leaf-put (c .before .before .before .before .args .row .now) _ _ (c .before .before .before .before .pre .1 .0) _ (c .before .is-constant .result) (c .before .is-constant .ensures) (c .if1 .taken) _ _
+  returns : lts.Need-returns claims here write-text.Post
+  returns c =
+      let start = c .before .before .before .before in
+      leaf-put (start .args .row .now) _ _ (start .pre .1 .0) _ (c .before .first-sign .ensures) (c .if1 .taken) _ _
 
-write-text-is-constant-requires-2 : (t : ℕ) → write-text-lts.Need-is-constant-requires-2 (
-  is-constant-reads.Asked,
-  is-constant-reads.Learnt,
-  write-text-below t,
-  write-text.Post,
-) (write-text-at t) write-text.Post
-write-text-is-constant-requires-2 t c κs = c .before .before .before .before .pre .1 .0
+  sub-below : lts.Need-sub-below claims here write-text.Post
+  sub-below c =
+      let start = c .before .before .before .before in
+      above (start .args .row .now) _ _ (start .pre .1 .0) _ (c .before .first-sign .ensures) (c .if1 .left)
 
-write-text-slice-write-buffer-2 : (t : ℕ) → write-text-lts.Need-slice-write-buffer-2 (
-  is-constant-reads.Asked,
-  is-constant-reads.Learnt,
-  write-text-below t,
-  write-text.Post,
-) (write-text-at t) write-text.Post
-write-text-slice-write-buffer-2 t c = at-room (c .before .before .before .before .before .before .args .row .now) _ _ (c .before .before .before .before .before .before .pre .1 .0) (c .before .before .before .before .before .before .args .at) (c .before .before .before .before .before .before .args .buffer .now) (c .before .before .before .before .before .before .pre .1 .1)
+  mul-write-text : lts.Need-mul-write-text claims here write-text.Post
+  mul-write-text c =
+      let start = c .before .before .before .before in
+      omega (arith, number-small (start .args .row .now) _ _ (start .pre .1 .0))
 
-write-text-add-result-2 : (t : ℕ) → write-text-lts.Need-add-result-2 (
-  is-constant-reads.Asked,
-  is-constant-reads.Learnt,
-  write-text-below t,
-  write-text.Post,
-) (write-text-at t) write-text.Post
-write-text-add-result-2 t c = omega (arith, at-room (c .before .before .before .before .before .before .args .row .now) _ _ (c .before .before .before .before .before .before .pre .1 .0) (c .before .before .before .before .before .before .args .at) (c .before .before .before .before .before .before .args .buffer .now) (c .before .before .before .before .before .before .pre .1 .1), c .before .before .before .before .before .before .good)
+  add-write-text : lts.Need-add-write-text claims here write-text.Post
+  add-write-text c =
+      let start = c .before .before .before .before .before in
+      omega (arith, at-room (start .args .row .now) _ _ (start .pre .1 .0) (start .args .at) (start .args .buffer .now) (start .pre .1 .1), start .good)
 
-write-text-same-length-2 : (t : ℕ) → write-text-lts.Need-same-length-2 (
-  is-constant-reads.Asked,
-  is-constant-reads.Learnt,
-  write-text-below t,
-  write-text.Post,
-) (write-text-at t) write-text.Post
-write-text-same-length-2 t c = simp length-set
+  write-text-requires : lts.Need-write-text-requires claims here write-text.Post
+  write-text-requires c κs =
+      let start = c .before .before .before .before .before in
+      (omega (arith, sub-below (c .before), start .pre .0), (insides (start .args .row .now) _ _ (start .pre .1 .0) _ (c .before .before .first-sign .ensures) (c .before .if1 .left) .0, left-room (start .args .row .now) _ _ (start .pre .1 .0) _ (c .before .before .first-sign .ensures) (c .before .if1 .left) (start .args .buffer .now) _ (start .pre .1 .1)))
 
-write-text-returns-2 : (t : ℕ) → write-text-lts.Need-returns-2 (
-  is-constant-reads.Asked,
-  is-constant-reads.Learnt,
-  write-text-below t,
-  write-text.Post,
-) (write-text-at t) write-text.Post
-write-text-returns-2 t c = leaf-put (c .before .before .before .before .before .before .args .row .now) _ _ (c .before .before .before .before .before .before .pre .1 .0) _ (c .before .is-constant2 .result) (c .before .is-constant2 .ensures) (c .if2 .taken) _ _
+  mul-write-text-2 : lts.Need-mul-write-text-2 claims here write-text.Post
+  mul-write-text-2 c =
+      let start = c .before .before .before .before .before .before .before .before in
+      omega (arith, number-small (start .args .row .now) _ _ (start .pre .1 .0))
 
-write-text-slice-write-buffer-3 : (t : ℕ) → write-text-lts.Need-slice-write-buffer-3 (
-  is-constant-reads.Asked,
-  is-constant-reads.Learnt,
-  write-text-below t,
-  write-text.Post,
-) (write-text-at t) write-text.Post
-write-text-slice-write-buffer-3 t c = at-room (c .before .before .before .before .before .before .args .row .now) _ _ (c .before .before .before .before .before .before .pre .1 .0) (c .before .before .before .before .before .before .args .at) (c .before .before .before .before .before .before .args .buffer .now) (c .before .before .before .before .before .before .pre .1 .1)
+  add-write-text-2 : lts.Need-add-write-text-2 claims here write-text.Post
+  add-write-text-2 c =
+      let start = c .before .before .before .before .before .before .before .before in
+      omega (arith, number-small (start .args .row .now) _ _ (start .pre .1 .0))
 
-write-text-sub-write-text : (t : ℕ) → write-text-lts.Need-sub-write-text (
-  is-constant-reads.Asked,
-  is-constant-reads.Learnt,
-  write-text-below t,
-  write-text.Post,
-) (write-text-at t) write-text.Post
-write-text-sub-write-text t c = above (c .before .before .before .before .before .before .args .row .now) _ _ (c .before .before .before .before .before .before .pre .1 .0) (c .before .before .before .is-constant .result) (c .before .is-constant2 .result) (c .before .before .before .is-constant .ensures) (c .before .is-constant2 .ensures) (c .before .before .if1 .left) (c .if2 .left)
+  write-text-requires-2 : lts.Need-write-text-requires-2 claims here write-text.Post
+  write-text-requires-2 c κs =
+      let start = c .before .before .before .before .before .before .before .before .before in
+      (omega (arith, sub-below (c .before .before .before .before .before), start .pre .0), (insides (start .args .row .now) _ _ (start .pre .1 .0) _ (c .before .before .before .before .before .before .first-sign .ensures) (c .before .before .before .before .before .if1 .left) .1, right-room (start .args .row .now) _ _ (start .pre .1 .0) _ (c .before .before .before .before .before .before .first-sign .ensures) (c .before .before .before .before .before .if1 .left) (start .args .buffer .now) _ (start .pre .1 .1) _ _ (c .before .before .before .write-text .ensures)))
 
-write-text-mul-write-text : (t : ℕ) → write-text-lts.Need-mul-write-text (
-  is-constant-reads.Asked,
-  is-constant-reads.Learnt,
-  write-text-below t,
-  write-text.Post,
-) (write-text-at t) write-text.Post
-write-text-mul-write-text t c = omega (arith, number-small (c .before .before .before .before .before .before .args .row .now) _ _ (c .before .before .before .before .before .before .pre .1 .0))
+  slice-write-buffer-2 : lts.Need-slice-write-buffer-2 claims here write-text.Post
+  slice-write-buffer-2 c =
+      let start = c .before .before .before .before .before .before .before .before .before .before .before .before in
+      last-room (start .args .row .now) _ _ (start .pre .1 .0) _ (c .before .before .before .before .before .before .before .before .before .first-sign .ensures) (c .before .before .before .before .before .before .before .before .if1 .left) (start .args .buffer .now) _ (start .pre .1 .1) _ _ (c .before .before .before .before .before .before .write-text .ensures) _ _ (c .before .before .write-text2 .ensures) .0
 
-write-text-add-write-text : (t : ℕ) → write-text-lts.Need-add-write-text (
-  is-constant-reads.Asked,
-  is-constant-reads.Learnt,
-  write-text-below t,
-  write-text.Post,
-) (write-text-at t) write-text.Post
-write-text-add-write-text t c = omega (arith, at-room (c .before .before .before .before .before .before .before .args .row .now) _ _ (c .before .before .before .before .before .before .before .pre .1 .0) (c .before .before .before .before .before .before .before .args .at) (c .before .before .before .before .before .before .before .args .buffer .now) (c .before .before .before .before .before .before .before .pre .1 .1), c .before .before .before .before .before .before .before .good)
+  add-result-2 : lts.Need-add-result-2 claims here write-text.Post
+  add-result-2 c =
+      let start = c .before .before .before .before .before .before .before .before .before .before .before .before in
+      omega (arith, last-room (start .args .row .now) _ _ (start .pre .1 .0) _ (c .before .before .before .before .before .before .before .before .before .first-sign .ensures) (c .before .before .before .before .before .before .before .before .if1 .left) (start .args .buffer .now) _ (start .pre .1 .1) _ _ (c .before .before .before .before .before .before .write-text .ensures) _ _ (c .before .before .write-text2 .ensures) .1, start .good)
 
-write-text-write-text-requires : (t : ℕ) → write-text-lts.Need-write-text-requires (
-  is-constant-reads.Asked,
-  is-constant-reads.Learnt,
-  write-text-below t,
-  write-text.Post,
-) (write-text-at t) write-text.Post
-write-text-write-text-requires t c κs =
-    (omega (arith, above (c .before .before .before .before .before .before .before .args .row .now) _ _ (c .before .before .before .before .before .before .before .pre .1 .0) (c .before .before .before .before .is-constant .result) (c .before .before .is-constant2 .result) (c .before .before .before .before .is-constant .ensures) (c .before .before .is-constant2 .ensures) (c .before .before .before .if1 .left) (c .before .if2 .left), c .before .before .before .before .before .before .before .pre .0), (left-inside (c .before .before .before .before .before .before .before .args .row .now) _ _ (c .before .before .before .before .before .before .before .pre .1 .0) (c .before .before .before .before .is-constant .result) (c .before .before .is-constant2 .result) (c .before .before .before .before .is-constant .ensures) (c .before .before .is-constant2 .ensures) (c .before .before .before .if1 .left) (c .before .if2 .left), left-room (c .before .before .before .before .before .before .before .args .row .now) _ _ (c .before .before .before .before .before .before .before .pre .1 .0) (c .before .before .before .before .is-constant .result) (c .before .before .is-constant2 .result) (c .before .before .before .before .is-constant .ensures) (c .before .before .is-constant2 .ensures) (c .before .before .before .if1 .left) (c .before .if2 .left) (c .before .before .before .before .before .before .before .args .buffer .now) _ (c .before .before .before .before .before .before .before .pre .1 .1)))
+  same-length-2 : lts.Need-same-length-2 claims here write-text.Post
+  same-length-2 c =
+      let start = c .before .before .before .before .before .before .before .before .before .before .before .before in
+      pair-length-kept (start .args .row .now) _ _ (start .pre .1 .0) _ (c .before .before .before .before .before .before .before .before .before .first-sign .ensures) (c .before .before .before .before .before .before .before .before .if1 .left) (start .args .buffer .now) _ (start .pre .1 .1) _ _ (c .before .before .before .before .before .before .write-text .ensures) _ _ (c .before .before .write-text2 .ensures)
 
-write-text-sub-write-text-2 : (t : ℕ) → write-text-lts.Need-sub-write-text-2 (
-  is-constant-reads.Asked,
-  is-constant-reads.Learnt,
-  write-text-below t,
-  write-text.Post,
-) (write-text-at t) write-text.Post
-write-text-sub-write-text-2 t c = above (c .before .before .before .before .before .before .before .before .before .before .args .row .now) _ _ (c .before .before .before .before .before .before .before .before .before .before .pre .1 .0) (c .before .before .before .before .before .before .before .is-constant .result) (c .before .before .before .before .before .is-constant2 .result) (c .before .before .before .before .before .before .before .is-constant .ensures) (c .before .before .before .before .before .is-constant2 .ensures) (c .before .before .before .before .before .before .if1 .left) (c .before .before .before .before .if2 .left)
-
-write-text-mul-write-text-2 : (t : ℕ) → write-text-lts.Need-mul-write-text-2 (
-  is-constant-reads.Asked,
-  is-constant-reads.Learnt,
-  write-text-below t,
-  write-text.Post,
-) (write-text-at t) write-text.Post
-write-text-mul-write-text-2 t c = omega (arith, number-small (c .before .before .before .before .before .before .before .before .before .before .args .row .now) _ _ (c .before .before .before .before .before .before .before .before .before .before .pre .1 .0))
-
-write-text-add-write-text-2 : (t : ℕ) → write-text-lts.Need-add-write-text-2 (
-  is-constant-reads.Asked,
-  is-constant-reads.Learnt,
-  write-text-below t,
-  write-text.Post,
-) (write-text-at t) write-text.Post
-write-text-add-write-text-2 t c = omega (arith, number-small (c .before .before .before .before .before .before .before .before .before .before .args .row .now) _ _ (c .before .before .before .before .before .before .before .before .before .before .pre .1 .0))
-
-write-text-write-text-requires-2 : (t : ℕ) → write-text-lts.Need-write-text-requires-2 (
-  is-constant-reads.Asked,
-  is-constant-reads.Learnt,
-  write-text-below t,
-  write-text.Post,
-) (write-text-at t) write-text.Post
-write-text-write-text-requires-2 t c κs =
-    (omega (arith, above (c .before .before .before .before .before .before .before .before .before .before .before .args .row .now) _ _ (c .before .before .before .before .before .before .before .before .before .before .before .pre .1 .0) (c .before .before .before .before .before .before .before .before .is-constant .result) (c .before .before .before .before .before .before .is-constant2 .result) (c .before .before .before .before .before .before .before .before .is-constant .ensures) (c .before .before .before .before .before .before .is-constant2 .ensures) (c .before .before .before .before .before .before .before .if1 .left) (c .before .before .before .before .before .if2 .left), c .before .before .before .before .before .before .before .before .before .before .before .pre .0), (right-inside (c .before .before .before .before .before .before .before .before .before .before .before .args .row .now) _ _ (c .before .before .before .before .before .before .before .before .before .before .before .pre .1 .0) (c .before .before .before .before .before .before .before .before .is-constant .result) (c .before .before .before .before .before .before .is-constant2 .result) (c .before .before .before .before .before .before .before .before .is-constant .ensures) (c .before .before .before .before .before .before .is-constant2 .ensures) (c .before .before .before .before .before .before .before .if1 .left) (c .before .before .before .before .before .if2 .left), right-room (c .before .before .before .before .before .before .before .before .before .before .before .args .row .now) _ _ (c .before .before .before .before .before .before .before .before .before .before .before .pre .1 .0) (c .before .before .before .before .before .before .before .before .is-constant .result) (c .before .before .before .before .before .before .is-constant2 .result) (c .before .before .before .before .before .before .before .before .is-constant .ensures) (c .before .before .before .before .before .before .is-constant2 .ensures) (c .before .before .before .before .before .before .before .if1 .left) (c .before .before .before .before .before .if2 .left) (c .before .before .before .before .before .before .before .before .before .before .before .args .buffer .now) _ (c .before .before .before .before .before .before .before .before .before .before .before .pre .1 .1) _ _ (c .before .before .before .write-text .ensures)))
-
-write-text-slice-write-buffer-4 : (t : ℕ) → write-text-lts.Need-slice-write-buffer-4 (
-  is-constant-reads.Asked,
-  is-constant-reads.Learnt,
-  write-text-below t,
-  write-text.Post,
-) (write-text-at t) write-text.Post
-write-text-slice-write-buffer-4 t c = last-room (c .before .before .before .before .before .before .before .before .before .before .before .before .before .before .args .row .now) _ _ (c .before .before .before .before .before .before .before .before .before .before .before .before .before .before .pre .1 .0) (c .before .before .before .before .before .before .before .before .before .before .before .is-constant .result) (c .before .before .before .before .before .before .before .before .before .is-constant2 .result) (c .before .before .before .before .before .before .before .before .before .before .before .is-constant .ensures) (c .before .before .before .before .before .before .before .before .before .is-constant2 .ensures) (c .before .before .before .before .before .before .before .before .before .before .if1 .left) (c .before .before .before .before .before .before .before .before .if2 .left) (c .before .before .before .before .before .before .before .before .before .before .before .before .before .before .args .buffer .now) _ (c .before .before .before .before .before .before .before .before .before .before .before .before .before .before .pre .1 .1) _ _ (c .before .before .before .before .before .before .write-text .ensures) _ _ (c .before .before .write-text2 .ensures) .0
-
-write-text-add-result-3 : (t : ℕ) → write-text-lts.Need-add-result-3 (
-  is-constant-reads.Asked,
-  is-constant-reads.Learnt,
-  write-text-below t,
-  write-text.Post,
-) (write-text-at t) write-text.Post
-write-text-add-result-3 t c = omega (arith, last-room (c .before .before .before .before .before .before .before .before .before .before .before .before .before .before .args .row .now) _ _ (c .before .before .before .before .before .before .before .before .before .before .before .before .before .before .pre .1 .0) (c .before .before .before .before .before .before .before .before .before .before .before .is-constant .result) (c .before .before .before .before .before .before .before .before .before .is-constant2 .result) (c .before .before .before .before .before .before .before .before .before .before .before .is-constant .ensures) (c .before .before .before .before .before .before .before .before .before .is-constant2 .ensures) (c .before .before .before .before .before .before .before .before .before .before .if1 .left) (c .before .before .before .before .before .before .before .before .if2 .left) (c .before .before .before .before .before .before .before .before .before .before .before .before .before .before .args .buffer .now) _ (c .before .before .before .before .before .before .before .before .before .before .before .before .before .before .pre .1 .1) _ _ (c .before .before .before .before .before .before .write-text .ensures) _ _ (c .before .before .write-text2 .ensures) .1, c .before .before .before .before .before .before .before .before .before .before .before .before .before .before .good)
-
-write-text-same-length-3 : (t : ℕ) → write-text-lts.Need-same-length-3 (
-  is-constant-reads.Asked,
-  is-constant-reads.Learnt,
-  write-text-below t,
-  write-text.Post,
-) (write-text-at t) write-text.Post
-write-text-same-length-3 t c = pair-length-kept (c .before .before .before .before .before .before .before .before .before .before .before .before .before .before .args .row .now) _ _ (c .before .before .before .before .before .before .before .before .before .before .before .before .before .before .pre .1 .0) (c .before .before .before .before .before .before .before .before .before .before .before .is-constant .result) (c .before .before .before .before .before .before .before .before .before .is-constant2 .result) (c .before .before .before .before .before .before .before .before .before .before .before .is-constant .ensures) (c .before .before .before .before .before .before .before .before .before .is-constant2 .ensures) (c .before .before .before .before .before .before .before .before .before .before .if1 .left) (c .before .before .before .before .before .before .before .before .if2 .left) (c .before .before .before .before .before .before .before .before .before .before .before .before .before .before .args .buffer .now) _ (c .before .before .before .before .before .before .before .before .before .before .before .before .before .before .pre .1 .1) _ _ (c .before .before .before .before .before .before .write-text .ensures) _ _ (c .before .before .write-text2 .ensures)
-
-write-text-returns-3 : (t : ℕ) → write-text-lts.Need-returns-3 (
-  is-constant-reads.Asked,
-  is-constant-reads.Learnt,
-  write-text-below t,
-  write-text.Post,
-) (write-text-at t) write-text.Post
-write-text-returns-3 t c = pair-put (c .before .before .before .before .before .before .before .before .before .before .before .before .before .before .args .row .now) _ _ (c .before .before .before .before .before .before .before .before .before .before .before .before .before .before .pre .1 .0) (c .before .before .before .before .before .before .before .before .before .before .before .is-constant .result) (c .before .before .before .before .before .before .before .before .before .is-constant2 .result) (c .before .before .before .before .before .before .before .before .before .before .before .is-constant .ensures) (c .before .before .before .before .before .before .before .before .before .is-constant2 .ensures) (c .before .before .before .before .before .before .before .before .before .before .if1 .left) (c .before .before .before .before .before .before .before .before .if2 .left) (c .before .before .before .before .before .before .before .before .before .before .before .before .before .before .args .buffer .now) _ (c .before .before .before .before .before .before .before .before .before .before .before .before .before .before .pre .1 .1) _ _ (c .before .before .before .before .before .before .write-text .ensures) _ _ (c .before .before .write-text2 .ensures)
+  returns-2 : lts.Need-returns-2 claims here write-text.Post
+  returns-2 c =
+      let start = c .before .before .before .before .before .before .before .before .before .before .before .before in
+      pair-put (start .args .row .now) _ _ (start .pre .1 .0) _ (c .before .before .before .before .before .before .before .before .before .first-sign .ensures) (c .before .before .before .before .before .before .before .before .if1 .left) (start .args .buffer .now) _ (start .pre .1 .1) _ _ (c .before .before .before .before .before .before .write-text .ensures) _ _ (c .before .before .write-text2 .ensures)
 
 pub +write-text-spec : {M : Type 1} → statement M
-+write-text-spec = close μ-write-text λ t. write-text-lts.spec (
-  is-constant-reads.Asked,
-  is-constant-reads.Learnt,
-  write-text-below t,
-  write-text.Post,
-)
-    (write-text-at t)
-    write-text.Post
-    (write-text-is-constant-requires t)
-    (write-text-slice-write-buffer t)
-    (write-text-add-result t)
-    (write-text-same-length t)
-    (write-text-returns t)
-    (write-text-is-constant-requires-2 t)
-    (write-text-slice-write-buffer-2 t)
-    (write-text-add-result-2 t)
-    (write-text-same-length-2 t)
-    (write-text-returns-2 t)
-    (write-text-slice-write-buffer-3 t)
-    (write-text-sub-write-text t)
-    (write-text-mul-write-text t)
-    (write-text-add-write-text t)
-    (write-text-write-text-requires t)
-    (write-text-sub-write-text-2 t)
-    (write-text-mul-write-text-2 t)
-    (write-text-add-write-text-2 t)
-    (write-text-write-text-requires-2 t)
-    (write-text-slice-write-buffer-4 t)
-    (write-text-add-result-3 t)
-    (write-text-same-length-3 t)
-    (write-text-returns-3 t)
++write-text-spec = close μ λ t. lts.spec (claims t) (here t) write-text.Post
+    (first-sign-requires t)
+    (slice-write-buffer t)
+    (add-result t)
+    (same-length t)
+    (returns t)
+    (sub-below t)
+    (mul-write-text t)
+    (add-write-text t)
+    (write-text-requires t)
+    (mul-write-text-2 t)
+    (add-write-text-2 t)
+    (write-text-requires-2 t)
+    (slice-write-buffer-2 t)
+    (add-result-2 t)
+    (same-length-2 t)
+    (returns-2 t)
