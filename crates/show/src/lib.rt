@@ -129,7 +129,8 @@ fn write_block(row: &mut [u8], height: usize, q: usize, full: bool)
         return;
     }
     let size = power(height - 3);
-    fill(&mut row[q * size..q * size + size], whole(full));
+    let start = q * size;
+    fill(&mut row[start..start + size], whole(full));
 }
 
 // Whether every leaf of block q is the one asked for. It stops at the first byte that has another.
@@ -142,7 +143,8 @@ fn is_constant(row: &[u8], height: usize, q: usize, full: bool) -> bool
         return is_block(row[q / blocks], height, q % blocks, full);
     }
     let size = power(height - 3);
-    is_filled(&row[q * size..q * size + size], whole(full))
+    let start = q * size;
+    is_filled(&row[start..start + size], whole(full))
 }
 
 // ---- the rows of a shown solution

@@ -29,11 +29,8 @@ sub-power c = search needs
 power-requires-2 : tie.Need-power-requires-2
 power-requires-2 c κs = search needs
 
-mul-is-filled : tie.Need-mul-is-filled
-mul-is-filled c = omega (arith, part-fits (c .before .before .before .args .row .now) _ _ (c .before .before .before .pre) (c .before .if1 .left) _ (c .power2 .ensures))
-
-mul-is-filled-2 : tie.Need-mul-is-filled-2
-mul-is-filled-2 c = omega (arith, part-fits (c .before .before .before .args .row .now) _ _ (c .before .before .before .pre) (c .before .if1 .left) _ (c .power2 .ensures))
+mul-start : tie.Need-mul-start
+mul-start c = omega (arith, part-fits (c .before .before .before .args .row .now) _ _ (c .before .before .before .pre) (c .before .if1 .left) _ (c .power2 .ensures))
 
 add-is-filled : tie.Need-add-is-filled
 add-is-filled c = omega (arith, part-fits (c .before .before .before .args .row .now) _ _ (c .before .before .before .pre) (c .before .if1 .left) _ (c .power2 .ensures))
@@ -70,8 +67,7 @@ is-constant-spec =
     returns
     sub-power
     power-requires-2
-    mul-is-filled
-    mul-is-filled-2
+    mul-start
     add-is-filled
     sub-is-filled
     part-is-filled-start

@@ -35,11 +35,8 @@ sub-power c = search needs
 power-requires-2 : tie.Need-power-requires-2
 power-requires-2 c κs = search needs
 
-mul-fill : tie.Need-mul-fill
-mul-fill c = omega (arith, part-fits (c .before .before .before .args .row .now) _ _ (c .before .before .before .pre) (c .before .if1 .left) _ (c .power2 .ensures))
-
-mul-fill-2 : tie.Need-mul-fill-2
-mul-fill-2 c = omega (arith, part-fits (c .before .before .before .args .row .now) _ _ (c .before .before .before .pre) (c .before .if1 .left) _ (c .power2 .ensures))
+mul-start : tie.Need-mul-start
+mul-start c = omega (arith, part-fits (c .before .before .before .args .row .now) _ _ (c .before .before .before .pre) (c .before .if1 .left) _ (c .power2 .ensures))
 
 add-fill : tie.Need-add-fill
 add-fill c = omega (arith, part-fits (c .before .before .before .args .row .now) _ _ (c .before .before .before .pre) (c .before .if1 .left) _ (c .power2 .ensures))
@@ -81,8 +78,7 @@ write-block-spec =
     returns
     sub-power
     power-requires-2
-    mul-fill
-    mul-fill-2
+    mul-start
     add-fill
     sub-fill
     part-fill-start
