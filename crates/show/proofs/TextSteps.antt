@@ -63,7 +63,7 @@ sets-append : (l : List ℕ) (i : ℕ) (xs ys : List ℕ) → sets l i (xs ++ ys
 sets-append l i [] ys = let e : i + 0 ≡ i = omega arith in rw e
 sets-append l i (x ∷ xs) ys = let e : suc i + length xs ≡ i + suc (length xs) = omega arith in sets-append (set l i x) (suc i) xs ys ∙ rw e
 
-put-length : {t before after : List ℕ} {at next : ℕ} → Put t before at next after → length after ≡ length before
+pub put-length : {t before after : List ℕ} {at next : ℕ} → Put t before at next after → length after ≡ length before
 put-length {t} {before} {after} {at} w = ap length (w .bytes) ∙ length-sets before at t
 
 put-pair : (l r : Tree) (before mid after : List ℕ) (at m n : ℕ) → Put (text l) (set before at 0x28) (at + 1) m mid → Put (text r) mid m n after
@@ -159,16 +159,13 @@ module _ (row : List ℕ) (h q : ℕ) (inside : Inside h q (length row)) where
         right-room = omega (arith, mid-length, a .place, halves-length)
 
         module _ (n : ℕ) (after : List ℕ) (b : Put (text (blockTree row (h - 1) (2 * q + 1))) mid m n after) where
-          pub last-room : (n < length after) × (n < length buffer)
+          pub last-room : n < length after
           unfolding tree left right
-          last-room = (omega (arith, put-length b, mid-length, a .place, b .place, halves-length), omega (arith, a .place, b .place, halves-length))
+          last-room = omega (arith, put-length b, mid-length, a .place, b .place, halves-length)
 
           pub pair-put : Put (text (blockTree row h q)) buffer at (n + 1) (set after n 0x29)
           unfolding tree left right
           pair-put = rw (is-pair .1) (put-pair left right buffer mid after at m n (rw bracket at a) b)
-
-          pub pair-length-kept : length (set after n 0x29) ≡ length buffer
-          pair-length-kept = length-set after n 0x29 ∙ put-length b ∙ mid-length
 
 -- put at the start of a buffer: the text, and then what was past it
 pub put-first : (t buffer after : List ℕ) (n : ℕ) → length t ≤ length buffer → Put t buffer 0 n after → (n ≡ length t) × (after ≡ t ++ drop (length t) buffer)

@@ -46,9 +46,7 @@ module _ (t : ℕ) where
       (omega (arith, sub-below c, start .pre .0), insides (start .args .row .now) _ _ (start .pre .1) _ (c .before .first-sign .ensures) (c .if1 .left) .0)
 
   mul-text-length-2 : lts.Need-mul-text-length-2 claims here text-length.Post
-  mul-text-length-2 c =
-      let start = c .before .before .before .before in
-      omega (arith, number-small (start .args .row .now) _ _ (start .pre .1))
+  mul-text-length-2 c = mul-text-length (c .before)
 
   add-text-length : lts.Need-add-text-length claims here text-length.Post
   add-text-length c =
@@ -60,20 +58,16 @@ module _ (t : ℕ) where
       let start = c .before .before .before .before in
       (omega (arith, sub-below (c .before), start .pre .0), insides (start .args .row .now) _ _ (start .pre .1) _ (c .before .before .first-sign .ensures) (c .before .if1 .left) .1)
 
-  add-result : lts.Need-add-result claims here text-length.Post
-  add-result c =
-      let start = c .before .before .before .before .before in
-      omega (arith, power-small (start .pre .1 .low), pair-counted (start .args .row .now) _ _ (start .pre .1) _ (c .before .before .before .first-sign .ensures) (c .before .before .if1 .left) _ _ (c .before .text-length .ensures) (c .text-length2 .ensures) .1)
-
-  add-result-2 : lts.Need-add-result-2 claims here text-length.Post
-  add-result-2 c =
-      let start = c .before .before .before .before .before in
-      omega (arith, power-small (start .pre .1 .low), pair-counted (start .args .row .now) _ _ (start .pre .1) _ (c .before .before .before .first-sign .ensures) (c .before .before .if1 .left) _ _ (c .before .text-length .ensures) (c .text-length2 .ensures) .1)
-
   returns-2 : lts.Need-returns-2 claims here text-length.Post
   returns-2 c =
       let start = c .before .before .before .before .before in
       pair-counted (start .args .row .now) _ _ (start .pre .1) _ (c .before .before .before .first-sign .ensures) (c .before .before .if1 .left) _ _ (c .before .text-length .ensures) (c .text-length2 .ensures)
+
+  add-result : lts.Need-add-result claims here text-length.Post
+  add-result c = omega (arith, power-small (c .before .before .before .before .before .pre .1 .low), returns-2 c .1)
+
+  add-result-2 : lts.Need-add-result-2 claims here text-length.Post
+  add-result-2 c = omega (arith, power-small (c .before .before .before .before .before .pre .1 .low), returns-2 c .1)
 
 pub +text-length-spec : {M : Type 1} → statement M
 +text-length-spec = close μ λ t. lts.spec (claims t) (here t) text-length.Post

@@ -1,7 +1,6 @@
 -- `show::write_text` writes the text of the block. The height falls. Assumes nothing.
 use native.Mathlib.Omega.{arith}
-use lib.ListN.{length-set}
-use Rattle.show.proofs.TextSteps.{number-small, at-room, leaf-put, above, insides, left-room, right-room, last-room, pair-put, pair-length-kept}
+use Rattle.show.proofs.TextSteps.{put-length, number-small, at-room, leaf-put, above, insides, left-room, right-room, last-room, pair-put}
 use Prim.Native.Nat.{ℕ, _<_}
 use borrow.Fn.Kinds.{In}
 use borrow.Fn.PlainCycle.{Measures, is, falls, and}
@@ -31,17 +30,15 @@ module _ (t : ℕ) where
       at-room (start .args .row .now) _ _ (start .pre .1 .0) (start .args .at) (start .args .buffer .now) (start .pre .1 .1)
 
   add-result : lts.Need-add-result claims here write-text.Post
-  add-result c =
-      let start = c .before .before .before .before in
-      omega (arith, at-room (start .args .row .now) _ _ (start .pre .1 .0) (start .args .at) (start .args .buffer .now) (start .pre .1 .1), start .good)
-
-  same-length : lts.Need-same-length claims here write-text.Post
-  same-length c = simp length-set
+  add-result c = omega (arith, slice-write-buffer (c .before), c .before .before .before .before .good)
 
   returns : lts.Need-returns claims here write-text.Post
   returns c =
       let start = c .before .before .before .before in
       leaf-put (start .args .row .now) _ _ (start .pre .1 .0) _ (c .before .first-sign .ensures) (c .if1 .taken) _ _
+
+  same-length : lts.Need-same-length claims here write-text.Post
+  same-length c = put-length (returns c)
 
   sub-below : lts.Need-sub-below claims here write-text.Post
   sub-below c =
@@ -54,9 +51,7 @@ module _ (t : ℕ) where
       omega (arith, number-small (start .args .row .now) _ _ (start .pre .1 .0))
 
   add-write-text : lts.Need-add-write-text claims here write-text.Post
-  add-write-text c =
-      let start = c .before .before .before .before .before in
-      omega (arith, at-room (start .args .row .now) _ _ (start .pre .1 .0) (start .args .at) (start .args .buffer .now) (start .pre .1 .1), start .good)
+  add-write-text c = omega (arith, slice-write-buffer (c .before .before), c .before .before .before .before .before .good)
 
   write-text-requires : lts.Need-write-text-requires claims here write-text.Post
   write-text-requires c κs =
@@ -64,9 +59,7 @@ module _ (t : ℕ) where
       (omega (arith, sub-below (c .before), start .pre .0), (insides (start .args .row .now) _ _ (start .pre .1 .0) _ (c .before .before .first-sign .ensures) (c .before .if1 .left) .0, left-room (start .args .row .now) _ _ (start .pre .1 .0) _ (c .before .before .first-sign .ensures) (c .before .if1 .left) (start .args .buffer .now) _ (start .pre .1 .1)))
 
   mul-write-text-2 : lts.Need-mul-write-text-2 claims here write-text.Post
-  mul-write-text-2 c =
-      let start = c .before .before .before .before .before .before .before .before in
-      omega (arith, number-small (start .args .row .now) _ _ (start .pre .1 .0))
+  mul-write-text-2 c = mul-write-text (c .before .before .before .before)
 
   add-write-text-2 : lts.Need-add-write-text-2 claims here write-text.Post
   add-write-text-2 c =
@@ -81,22 +74,20 @@ module _ (t : ℕ) where
   slice-write-buffer-2 : lts.Need-slice-write-buffer-2 claims here write-text.Post
   slice-write-buffer-2 c =
       let start = c .before .before .before .before .before .before .before .before .before .before .before .before in
-      last-room (start .args .row .now) _ _ (start .pre .1 .0) _ (c .before .before .before .before .before .before .before .before .before .first-sign .ensures) (c .before .before .before .before .before .before .before .before .if1 .left) (start .args .buffer .now) _ (start .pre .1 .1) _ _ (c .before .before .before .before .before .before .write-text .ensures) _ _ (c .before .before .write-text2 .ensures) .0
-
-  add-result-2 : lts.Need-add-result-2 claims here write-text.Post
-  add-result-2 c =
-      let start = c .before .before .before .before .before .before .before .before .before .before .before .before in
-      omega (arith, last-room (start .args .row .now) _ _ (start .pre .1 .0) _ (c .before .before .before .before .before .before .before .before .before .first-sign .ensures) (c .before .before .before .before .before .before .before .before .if1 .left) (start .args .buffer .now) _ (start .pre .1 .1) _ _ (c .before .before .before .before .before .before .write-text .ensures) _ _ (c .before .before .write-text2 .ensures) .1, start .good)
-
-  same-length-2 : lts.Need-same-length-2 claims here write-text.Post
-  same-length-2 c =
-      let start = c .before .before .before .before .before .before .before .before .before .before .before .before in
-      pair-length-kept (start .args .row .now) _ _ (start .pre .1 .0) _ (c .before .before .before .before .before .before .before .before .before .first-sign .ensures) (c .before .before .before .before .before .before .before .before .if1 .left) (start .args .buffer .now) _ (start .pre .1 .1) _ _ (c .before .before .before .before .before .before .write-text .ensures) _ _ (c .before .before .write-text2 .ensures)
+      last-room (start .args .row .now) _ _ (start .pre .1 .0) _ (c .before .before .before .before .before .before .before .before .before .first-sign .ensures) (c .before .before .before .before .before .before .before .before .if1 .left) (start .args .buffer .now) _ (start .pre .1 .1) _ _ (c .before .before .before .before .before .before .write-text .ensures) _ _ (c .before .before .write-text2 .ensures)
 
   returns-2 : lts.Need-returns-2 claims here write-text.Post
   returns-2 c =
       let start = c .before .before .before .before .before .before .before .before .before .before .before .before in
       pair-put (start .args .row .now) _ _ (start .pre .1 .0) _ (c .before .before .before .before .before .before .before .before .before .first-sign .ensures) (c .before .before .before .before .before .before .before .before .if1 .left) (start .args .buffer .now) _ (start .pre .1 .1) _ _ (c .before .before .before .before .before .before .write-text .ensures) _ _ (c .before .before .write-text2 .ensures)
+
+  add-result-2 : lts.Need-add-result-2 claims here write-text.Post
+  add-result-2 c =
+      let start = c .before .before .before .before .before .before .before .before .before .before .before .before in
+      omega (arith, returns-2 c .place, start .pre .1 .1, start .good)
+
+  same-length-2 : lts.Need-same-length-2 claims here write-text.Post
+  same-length-2 c = put-length (returns-2 c)
 
 pub +write-text-spec : {M : Type 1} → statement M
 +write-text-spec = close μ λ t. lts.spec (claims t) (here t) write-text.Post
