@@ -403,14 +403,14 @@ fn fill_plan(
     true
 }
 
-// Whether each of the first `entries` entries has a place.
-fn all_placed(place: &[u16; 32], entries: usize) -> bool
-    requires { ⌜ entries ≤ 32 ⌝ }
-    ensures { λ r. ⌜ r ≡ everyBelow entries (isPlaced (now (place .entry))) ⌝ }
+// Whether each of the entries from `from`, so many, has a place.
+fn all_placed(place: &[u16; 32], from: usize, entries: usize) -> bool
+    requires { ⌜ from + entries ≤ 32 ⌝ }
+    ensures { λ r. ⌜ r ≡ everyBelow entries (λ j. isPlaced (now (place .entry)) (from + j)) ⌝ }
 {
     let mut j: usize = 0;
     while j < entries {
-        if place[j] == NOWHERE {
+        if place[from + j] == NOWHERE {
             return false;
         }
         j += 1;
@@ -418,9 +418,16 @@ fn all_placed(place: &[u16; 32], entries: usize) -> bool
     true
 }
 
-// Whether a search finds a solution, and the plan of the one it finds.
+fn both(a: bool, b: bool) -> bool
+    ensures { λ r. ⌜ r ≡ (a && b) ⌝ }
+{
+    a && b
+}
+
+// Whether a search finds a solution, whether it finds one without its extra disequation, and the plan of the first.
 pub struct Solved {
     pub found: bool,
+    pub plainly: bool,
     pub plan: Plan,
 }
 
@@ -443,7 +450,7 @@ pub fn solve(
     let mut place = [NOWHERE; 32];
     let mut choice = [0u16; 32];
     let d = count_of(counts, 1);
-    let count = extra_of(search) + d;
+    let extra = extra_of(search);
     let k = splits(room_of(search, d));
     let filled = fill_plan(
         clauses,
@@ -459,17 +466,19 @@ pub fn solve(
         &mut place,
         &mut choice,
     );
-    let placed = all_placed(&place, count);
+    let found = both(filled, all_placed(&place, 0, extra + d));
+    let plainly = both(filled, all_placed(&place, extra, d));
     let plan = Plan {
         low: h,
         high: h + k,
         plain,
-        count,
+        count: extra + d,
         place,
         choice,
     };
     Solved {
-        found: filled && placed,
+        found,
+        plainly,
         plan,
     }
 }
