@@ -32,7 +32,8 @@ fn main() {
 }
 
 fn print_line(family: &Family) {
-    let by_library = median_round(family, ask_library);
+    let mut buffers = Buffers::new();
+    let by_library = median_round(family, |bytes| buffers.ask(bytes));
     let (route_b, ratio) = match route_b(family) {
         Some(ns) => (format!("{ns:.0}"), format!("{:.1}", ns / by_library)),
         None => {
@@ -51,20 +52,34 @@ fn print_line(family: &Family) {
     );
 }
 
-fn ask_library(bytes: &[u8]) {
-    let mut answer = [0; ANSWER_BYTES];
-    let mut work = [0; ASK_WORK_BYTES];
-    black_box(library::ask(black_box(bytes), &mut answer, &mut work));
-    black_box((answer, work));
+/// What a caller lends, for one question after another.
+struct Buffers {
+    answer: [u8; ANSWER_BYTES],
+    work: [u8; ASK_WORK_BYTES],
+}
+
+impl Buffers {
+    fn new() -> Self {
+        Buffers {
+            answer: [0; ANSWER_BYTES],
+            work: [0; ASK_WORK_BYTES],
+        }
+    }
+
+    fn ask(&mut self, bytes: &[u8]) -> u64 {
+        black_box(library::ask(
+            black_box(bytes),
+            &mut self.answer,
+            &mut self.work,
+        ))
+    }
 }
 
 /// The verdict (1 yes, 2 no), the height, the reason and the disequation number.
 type Said = [u8; 4];
 
 fn library_says(bytes: &[u8]) -> Option<Said> {
-    let mut answer = [0; ANSWER_BYTES];
-    let mut work = [0; ASK_WORK_BYTES];
-    let fields = library::ask(bytes, &mut answer, &mut work).to_le_bytes();
+    let fields = Buffers::new().ask(bytes).to_le_bytes();
     (fields[0] > 0).then_some([fields[0], fields[4], fields[5], fields[6]])
 }
 
@@ -102,7 +117,7 @@ fn route_b(family: &Family) -> Option<f64> {
 }
 
 /// Asks all questions in rounds; gives the nanoseconds per question of the median round.
-fn median_round(family: &Family, ask: fn(&[u8])) -> f64 {
+fn median_round<T>(family: &Family, mut ask: impl FnMut(&[u8]) -> T) -> f64 {
     let mut rounds = Vec::new();
     let began = Instant::now();
     while rounds.is_empty() || (began.elapsed() < LONG_ENOUGH && rounds.len() < MOST_ROUNDS) {

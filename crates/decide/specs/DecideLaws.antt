@@ -36,7 +36,7 @@ use Rattle.plans.specs.StoredLaws.{row-digit}
 use Rattle.decide.specs.StandsLaws.{storedOf, Same, same-first, same-stuck, same-avoiding, count-same}
 use Rattle.plans.specs.ShownLaws.{plan-shows}
 use Rattle.plans.specs.Entries.{Made, SolvedAs}
-use Rattle.plans.specs.SolveLaws.{room-splits}
+use Rattle.plans.specs.SolveLaws.{stuck-plainly, room-splits}
 use Rattle.decide.specs.Decision.{Planned, Decided}
 use Rattle.plans.specs.declared.Search.{Search}
 use Rattle.plans.specs.declared.Search.the-variants.{First, Stuck, Avoiding}
@@ -123,83 +123,88 @@ module _ (x : Struct) (q : Question) (St : held.Stands x q) (low : questionHeigh
   unshown : (a : Answer) (plan : Plan) → shows a ≡ false → decide q ≡ a → T (shows (decide q)) → Planned q plan
   unshown a plan s d t = absurd (rw (d, s) at t)
 
-  module _ (first : Solved) (D : SolvedAs Q H First first) where
+  -- of satisfiability
+  module _ (first : Solved) (D : SolvedAs Q H First first) (kind : q .kind ≡ satisfiability) where
     can : first .found ≡ canSolve H q
     can = found-is x q St H low First (firstAt H q) (same-first x q St H) first D
 
-    module _ (kind : q .kind ≡ satisfiability) where
-      pub decided-satisfied : first .found ≡ true → Decided q (record { finding = Satisfied; plan = first .plan })
+    pub decided-satisfied : first .found ≡ true → Decided q (record { finding = Satisfied; plan = first .plan })
+    unfolding decideKind
+    decided-satisfied e =
+        let d : decide q ≡ satisfied = rw (kind, sym can ∙ e) in
+        record {
+          answer = sym d;
+          plan = λ _. planned satisfied (firstAt H q) (c (firstCount q)) (first .plan) d refl refl
+              (found-plan x q St H low First (firstAt H q) (same-first x q St H) first D (of-true e));
+        }
+
+    pub decided-unsatisfied : first .found ≡ false → (plan : Plan) → Decided q (record { finding = Unsatisfied; plan = plan })
+    unfolding decideKind
+    decided-unsatisfied e plan =
+        let d : decide q ≡ unsatisfied = rw (kind, sym can ∙ e) in
+        record { answer = sym d; plan = unshown unsatisfied plan refl d }
+
+  -- of an entailment: the search for a stuck leaf says of the first system too whether it has a solution
+  module _ (second : Solved) (E : SolvedAs Q H Stuck second) (kind : q .kind ≡ entailment) where
+    can-plainly : second .plainly ≡ canSolve H q
+    can-plainly =
+        E .plainly ∙ ap (λ R. solvable (least (q .free)) H (numbered (q .free) R)) (stuck-plainly Q H) ∙ sym (same-first x q St H .solvable-is)
+
+    pub decided-vacuous : second .plainly ≡ false → (plan : Plan) → Decided q (record { finding = Vacuous; plan = plan })
+    unfolding decideKind
+    decided-vacuous e plan =
+        let d : decide q ≡ vacuous = rw (kind, sym can-plainly ∙ e) in
+        record { answer = sym d; plan = unshown vacuous plan refl d }
+
+    module _ (e : second .plainly ≡ true) where
+      stuck-found : second .found ≡ solvable (least (q .free)) H (stuck (least (q .own)) (secondAt H q) (firstAt H q))
+      stuck-found = found-is x q St H low Stuck _ (same-stuck x q St H) second E
+
+      pub decided-unmet : second .found ≡ true → Decided q (record { finding = Unmet; plan = second .plan })
       unfolding decideKind
-      decided-satisfied e =
-          let d : decide q ≡ satisfied = rw (kind, sym can ∙ e) in
+      decided-unmet f =
+          let breaks : canBreak H q ≡ true = is-true _ (stuck-sticks H q (of-true (sym stuck-found ∙ f))) in
+          let d : decide q ≡ unmet = rw (kind, sym can-plainly ∙ e, breaks) in
           record {
             answer = sym d;
-            plan = λ _. planned satisfied (firstAt H q) (c (firstCount q)) (first .plan) d refl refl
-                (found-plan x q St H low First (firstAt H q) (same-first x q St H) first D (of-true e));
+            plan = λ _. planned unmet _ (c (firstCount q + 1)) (second .plan) d refl refl
+                (found-plan x q St H low Stuck _ (same-stuck x q St H) second E (of-true f));
           }
 
-      pub decided-unsatisfied : first .found ≡ false → (plan : Plan) → Decided q (record { finding = Unsatisfied; plan = plan })
-      unfolding decideKind
-      decided-unsatisfied e plan =
-          let d : decide q ≡ unsatisfied = rw (kind, sym can ∙ e) in
-          record { answer = sym d; plan = unshown unsatisfied plan refl d }
+      module _ (f : second .found ≡ false) (j : ℕ)
+          (lowest : j ≡ firstBelow (getD (x .counts) 3 0) (λ i. solvable (least (q .free)) H (numbered (q .free) (testsOf Q H (Avoiding i))))) where
+        holds-on : canBreak H q ≡ false
+        holds-on =
+            is-false (canBreak H q) (not-T (canBreak H q) (λ t.
+            T-not (solvable (least (q .free)) H (stuck (least (q .own)) (secondAt H q) (firstAt H q))) (of-false (sym stuck-found ∙ f))
+            (stuck-solvable (least (q .free)) (least (q .own)) H (firstAt H q) (secondAt H q) (of-true (sym can-plainly ∙ e)) t)))
 
-    module _ (kind : q .kind ≡ entailment) where
-      pub decided-vacuous : first .found ≡ false → (plan : Plan) → Decided q (record { finding = Vacuous; plan = plan })
-      unfolding decideKind
-      decided-vacuous e plan =
-          let d : decide q ≡ vacuous = rw (kind, sym can ∙ e) in
-          record { answer = sym d; plan = unshown vacuous plan refl d }
+        count : getD (x .counts) 3 0 ≡ secondCount q
+        count = sym (count-same x q St H SecondDisequation)
 
-      module _ (e : first .found ≡ true) (second : Solved) (E : SolvedAs Q H Stuck second) where
-        stuck-found : second .found ≡ solvable (least (q .free)) H (stuck (least (q .own)) (secondAt H q) (firstAt H q))
-        stuck-found = found-is x q St H low Stuck _ (same-stuck x q St H) second E
+        lowest-is : j ≡ lowestMissed H q
+        unfolding firstAvoided canAvoid
+        lowest-is =
+            lowest
+            ∙ first-ext (getD (x .counts) 3 0) _ _ (λ i l. sym (same-avoiding x q St H i l .solvable-is))
+            ∙ ap (λ n. firstBelow n (canAvoid (least (q .free)) (least (q .own)) H (firstAt H q) (secondAt H q))) count
 
-        pub decided-unmet : second .found ≡ true → Decided q (record { finding = Unmet; plan = second .plan })
+        pub decided-entailed : getD (x .counts) 3 0 ≤ j → (plan : Plan) → Decided q (record { finding = Entailed; plan = plan })
         unfolding decideKind
-        decided-unmet f =
-            let breaks : canBreak H q ≡ true = is-true _ (stuck-sticks H q (of-true (sym stuck-found ∙ f))) in
-            let d : decide q ≡ unmet = rw (kind, sym can ∙ e, breaks) in
+        decided-entailed l plan =
+            let d : decide q ≡ entailed = rw (kind, sym can-plainly ∙ e, holds-on, ← lowest-is, ← count, le-ltb j (getD (x .counts) 3 0) l) in
+            record { answer = sym d; plan = unshown entailed plan refl d }
+
+        pub decided-missed : j < getD (x .counts) 3 0 → (third : Solved) → SolvedAs Q H (Avoiding j) third → Decided q (record { finding = Missed j; plan = third .plan })
+        unfolding decideKind
+        decided-missed l third G =
+            let d : decide q ≡ missed j = rw (kind, sym can-plainly ∙ e, holds-on, ← lowest-is, ← count, lt-ltb j (getD (x .counts) 3 0) l) in
+            let t : T (third .found) = rw (G .found) (avoided l) in
             record {
               answer = sym d;
-              plan = λ _. planned unmet _ (c (firstCount q + 1)) (second .plan) d refl refl
-                  (found-plan x q St H low Stuck _ (same-stuck x q St H) second E (of-true f));
+              plan = λ _. planned (missed j) _ (c (firstCount q + 1)) (third .plan) d refl refl
+                  (found-plan x q St H low (Avoiding j) _ (same-avoiding x q St H j l) third G t);
             }
-
-        module _ (f : second .found ≡ false) (j : ℕ)
-            (lowest : j ≡ firstBelow (getD (x .counts) 3 0) (λ i. solvable (least (q .free)) H (numbered (q .free) (testsOf Q H (Avoiding i))))) where
-          holds-on : canBreak H q ≡ false
-          holds-on =
-              is-false (canBreak H q) (not-T (canBreak H q) (λ t.
-              T-not (solvable (least (q .free)) H (stuck (least (q .own)) (secondAt H q) (firstAt H q))) (of-false (sym stuck-found ∙ f))
-              (stuck-solvable (least (q .free)) (least (q .own)) H (firstAt H q) (secondAt H q) (of-true (sym can ∙ e)) t)))
-
-          count : getD (x .counts) 3 0 ≡ secondCount q
-          count = sym (count-same x q St H SecondDisequation)
-
-          lowest-is : j ≡ lowestMissed H q
-          unfolding firstAvoided canAvoid
-          lowest-is =
-              lowest
-              ∙ first-ext (getD (x .counts) 3 0) _ _ (λ i l. sym (same-avoiding x q St H i l .solvable-is))
-              ∙ ap (λ n. firstBelow n (canAvoid (least (q .free)) (least (q .own)) H (firstAt H q) (secondAt H q))) count
-
-          pub decided-entailed : getD (x .counts) 3 0 ≤ j → (plan : Plan) → Decided q (record { finding = Entailed; plan = plan })
-          unfolding decideKind
-          decided-entailed l plan =
-              let d : decide q ≡ entailed = rw (kind, sym can ∙ e, holds-on, ← lowest-is, ← count, le-ltb j (getD (x .counts) 3 0) l) in
-              record { answer = sym d; plan = unshown entailed plan refl d }
-
-          pub decided-missed : j < getD (x .counts) 3 0 → (third : Solved) → SolvedAs Q H (Avoiding j) third → Decided q (record { finding = Missed j; plan = third .plan })
-          unfolding decideKind
-          decided-missed l third G =
-              let d : decide q ≡ missed j = rw (kind, sym can ∙ e, holds-on, ← lowest-is, ← count, lt-ltb j (getD (x .counts) 3 0) l) in
-              let t : T (third .found) = rw (G .found) (avoided l) in
-              record {
-                answer = sym d;
-                plan = λ _. planned (missed j) _ (c (firstCount q + 1)) (third .plan) d refl refl
-                    (found-plan x q St H low (Avoiding j) _ (same-avoiding x q St H j l) third G t);
-              }
-            where
-              avoided : j < getD (x .counts) 3 0 → T (solvable (least (q .free)) H (numbered (q .free) (testsOf Q H (Avoiding j))))
-              avoided l = rw (← lowest) at (first-below (getD (x .counts) 3 0) (λ i. solvable (least (q .free)) H (numbered (q .free) (testsOf Q H (Avoiding i)))) (rw (← lowest) l))
+          where
+            avoided : j < getD (x .counts) 3 0 → T (solvable (least (q .free)) H (numbered (q .free) (testsOf Q H (Avoiding j))))
+            avoided l = rw (← lowest) at (first-below (getD (x .counts) 3 0) (λ i. solvable (least (q .free)) H (numbered (q .free) (testsOf Q H (Avoiding i)))) (rw (← lowest) l))

@@ -77,24 +77,7 @@ fn decide_entailment(
     requires { ⌜ Readable (now clauses) (now counts) free own × (defined ≤ 32) × (h ≤ 5) ⌝ }
     ensures { λ r. ⌜ DecidedParts (now (clauses .entry)) (now (counts .entry)) (now (constants .entry)) defined free own h r ⌝ }
 {
-    let first = plans::solve(
-        clauses,
-        counts,
-        constants,
-        defined,
-        free,
-        own,
-        h,
-        Search::First,
-    );
-    let none = first.plan;
-    if !first.found {
-        return Decision {
-            finding: Finding::Vacuous,
-            plan: none,
-        };
-    }
-    let second = plans::solve(
+    let stuck = plans::solve(
         clauses,
         counts,
         constants,
@@ -104,8 +87,14 @@ fn decide_entailment(
         h,
         Search::Stuck,
     );
-    if second.found {
-        let plan = second.plan;
+    let plan = stuck.plan;
+    if !stuck.plainly {
+        return Decision {
+            finding: Finding::Vacuous,
+            plan,
+        };
+    }
+    if stuck.found {
         return Decision {
             finding: Finding::Unmet,
             plan,
@@ -113,7 +102,7 @@ fn decide_entailment(
     }
     let j = missed::lowest_missed(clauses, counts, constants, defined, free, own, h);
     if j < counts[3] {
-        let third = plans::solve(
+        let avoiding = plans::solve(
             clauses,
             counts,
             constants,
@@ -123,15 +112,15 @@ fn decide_entailment(
             h,
             Search::Avoiding(j),
         );
-        let plan = third.plan;
+        let shown = avoiding.plan;
         return Decision {
             finding: Finding::Missed(j),
-            plan,
+            plan: shown,
         };
     }
     Decision {
         finding: Finding::Entailed,
-        plan: none,
+        plan,
     }
 }
 

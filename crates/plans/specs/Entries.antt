@@ -14,7 +14,7 @@ use Rattle.plans.specs.Tests.{Stored, leafValues, secondMeets, extraOf, 
 use Rattle.plans.specs.declared.Search.{Search}
 use Rattle.show.specs.declared.Plan.{Plan}
 use Rattle.plans.specs.declared.Solved.{Solved}
-use Rattle.plans.specs.Numbers.{numbered}
+use Rattle.plans.specs.Numbers.{numbered, withoutFirst}
 use Rattle.plans.specs.Plan.{homeOf, rankOf, plainChoice, specialChoice, placeAfter, choiceAfter}
 
 -- the tests at leaf b are those of the problem R, over choices of n variables
@@ -66,17 +66,17 @@ pub record Plains (n h : ℕ) (R : Problem ℕ) (done : ℕ) (plain : List ℕ) 
   pub found : (b : ℕ) → b < done → plainChoice n h R b < 2 ^ n
   pub stored : (b : ℕ) → b < done → getD plain b 0 ≡ plainChoice n h R b
 
--- leaf b planned, if it has a choice; if not, the problem is not solvable
+-- leaf b planned, if it has a choice; if not, the problem is not solvable, whatever disequations it is without
 pub record Turn (n h : ℕ) (R : Problem ℕ) (k b : ℕ) (r : Bool) (plain place choice plain′ place′ choice′ : List ℕ) : Type 0 where
   pub leaves : T r → Plains n h R b plain → Plains n h R (b + 1) plain′
   pub entries : After n h R k b place choice → After n h R k (b + 1) place′ choice′
-  pub none : T (not r) → T (not (solvable (least n) h (numbered n R)))
+  pub none : T (not r) → (m : ℕ) → T (not (solvable (least n) h (numbered n (withoutFirst m R))))
 
 -- all leaves gone through, if each has a choice; if not, the problem is not solvable
 pub record Filled (n h : ℕ) (R : Problem ℕ) (k : ℕ) (r : Bool) (plain place choice : List ℕ) : Type 0 where
   pub leaves : T r → Plains n h R (2 ^ h) plain
   pub entries : T r → After n h R k (2 ^ h) place choice
-  pub none : T (not r) → T (not (solvable (least n) h (numbered n R)))
+  pub none : T (not r) → (m : ℕ) → T (not (solvable (least n) h (numbered n (withoutFirst m R))))
 
 -- the plan's entries are those of the problem, with each leaf split k times
 pub record Made (n h : ℕ) (R : Problem ℕ) (k : ℕ) (plan : Plan) : Type 0 where
@@ -87,7 +87,9 @@ pub record Made (n h : ℕ) (R : Problem ℕ) (k : ℕ) (plan : Plan) : Type 0 w
   pub places : (j : ℕ) → j < R .count → getD (plan .place) j 0 ≡ homeOf n h R j * 2 ^ k + rankOf n h R j
   pub choices : (j : ℕ) → j < R .count → getD (plan .choice) j 0 ≡ specialChoice n h R j (homeOf n h R j)
 
--- what a search gives: whether its problem is solvable, and then the plan of the problem's fixed solution
+-- what a search gives: whether its problem is solvable, whether it is without the extra disequation, and if it is, the plan of the
+-- problem's fixed solution
 pub record SolvedAs (S : Stored) (h : ℕ) (search : Search) (r : Solved) : Type 0 where
   pub found : r .found ≡ solvable (least (S .free)) h (numbered (S .free) (testsOf S h search))
+  pub plainly : r .plainly ≡ solvable (least (S .free)) h (numbered (S .free) (withoutFirst (extraOf search) (testsOf S h search)))
   pub made : T (r .found) → Made (S .free) h (testsOf S h search) (c (roomOf search (getD (S .counts) 1 0))) (r .plan)

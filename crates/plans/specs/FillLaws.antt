@@ -1,6 +1,6 @@
 -- One leaf more of a plan, and all of them. Assumes nothing.
 use mathlib.Core.Path.{_≡_, sym, ap, _∙_}
-use mathlib.Core.Bool.{true, false}
+use mathlib.Core.Bool.{Bool, true, false}
 use mathlib.Core.List.{List}
 use Prim.Native.Nat.{ℕ, _+_, _-_, _*_, _^_, _≤_, _<_}
 use native.Mathlib.Decide.{decLt}
@@ -19,6 +19,7 @@ use Rattle.leaves.specs.HeightLaws.{c-enough, c-least}
 use Rattle.leaves.specs.Choices.{least}
 use Rattle.leaves.specs.Problem.{Problem}
 use Rattle.words.specs.Sets.{wordCount}
+use Rattle.plans.specs.Numbers.{withoutFirst}
 use Rattle.plans.specs.Plan.{nowhere, isPlaced, plainChoice}
 use Rattle.plans.specs.PlanLaws.{place-nowhere, choice-nowhere, unsolvable-plain}
 use Rattle.plans.specs.Tests.{Stored, leafValues, allowedIn, testsOf}
@@ -84,7 +85,7 @@ module _ (S : Stored) (h : ℕ) (search : Search) where
     turn-none l = record {
       leaves = λ f. absurd f;
       entries = Vi .entries h k b F bl at ft;
-      none = λ _. unsolvable-plain n h R b bl (words-none n (R .pos b) (allowed-periodic S search (leafValues S h b)) (rw (← least-is) l));
+      none = λ _ m. unsolvable-plain n h (withoutFirst m R) b bl (words-none n (R .pos b) (allowed-periodic S search (leafValues S h b)) (rw (← least-is) l));
     }
 
   -- the tables before the first leaf
@@ -131,21 +132,24 @@ row-room {h} {k} {b} l m u =
     let p : 2 ^ (h + k) ≤ 2 ^ 10 = pow-mono {j = 10} (omega arith) in
     omega (arith, leaf-lt h k u (pow-pos k))
 
--- ---- whether every entry has a place
+-- ---- whether every entry from `from` has a place
 
-module _ (place : List ℕ) where
-  pub placed-none : T (everyBelow 0 (isPlaced place))
-  placed-none = every-intro 0 (isPlaced place) (λ j l. absurd (omega arith))
+module _ (place : List ℕ) (from : ℕ) where
+  abbrev there : ℕ → Bool
+  there j = isPlaced place (from + j)
 
-  pub placed-more : (j : ℕ) → T (everyBelow j (isPlaced place)) → (getD place j 0 ≡ nowhere → ⊥) → T (everyBelow (j + 1) (isPlaced place))
+  pub placed-none : T (everyBelow 0 there)
+  placed-none = every-intro 0 there (λ j l. absurd (omega arith))
+
+  pub placed-more : (j : ℕ) → T (everyBelow j there) → (getD place (from + j) 0 ≡ nowhere → ⊥) → T (everyBelow (j + 1) there)
   placed-more j t f =
-      every-intro (j + 1) (isPlaced place) (λ i l. go i l (decLt i j))
+      every-intro (j + 1) there (λ i l. go i l (decLt i j))
     where
-      go : (i : ℕ) → i < j + 1 → Dec (i < j) → T (isPlaced place i)
-      go i l (yes m) = every-at j (isPlaced place) t i m
-      go i l (no m) = let q : i ≡ j = omega arith in rw (q, ne-eqb (getD place j 0) nowhere f) tt
+      go : (i : ℕ) → i < j + 1 → Dec (i < j) → T (there i)
+      go i l (yes m) = every-at j there t i m
+      go i l (no m) = let q : i ≡ j = omega arith in rw (q, ne-eqb (getD place (from + j) 0) nowhere f) tt
 
-  pub placed-not : (entries j : ℕ) → j < entries → getD place j 0 ≡ nowhere → false ≡ everyBelow entries (isPlaced place)
+  pub placed-not : (entries j : ℕ) → j < entries → getD place (from + j) 0 ≡ nowhere → false ≡ everyBelow entries there
   placed-not entries j l e =
-      sym (is-false (everyBelow entries (isPlaced place))
-      (not-T (everyBelow entries (isPlaced place)) (λ t. rw (eq-eqb (getD place j 0) nowhere e) at (every-at entries (isPlaced place) t j l))))
+      sym (is-false (everyBelow entries there)
+      (not-T (everyBelow entries there) (λ t. rw (eq-eqb (getD place (from + j) 0) nowhere e) at (every-at entries there t j l))))

@@ -1,32 +1,41 @@
 -- After the last leaf: the problem is solvable exactly if every entry has a place, and then the plan is the problem's. Assumes nothing.
-use mathlib.Core.Path.{_≡_, refl, sym, ap, _∙_}
-use mathlib.Core.Bool.{Bool, true, false, not}
+use mathlib.Core.Path.{_≡_, refl, sym, ap, ap₂, _∙_, subst, fun-ext}
+use mathlib.Core.Bool.{Bool, true, false, not, _&&_}
 use mathlib.Core.List.{List}
 use mathlib.Core.Logic.{_⊎_, inl, inr}
-use Prim.Native.Nat.{ℕ, _+_, _*_, _^_, _≤_, _<_}
-use native.Mathlib.Nat.{le-trans}
+use Prim.Native.Nat.{ℕ, _+_, _-_, _*_, _^_, _≤_, _<_}
+use native.Mathlib.Nat.{le-trans, zero-add, sub-zero}
 use native.Mathlib.Decide.{decLt}
 use native.Mathlib.Omega.{arith}
 use lib.Dec.{T, T-not, eqb, eqb-refl, eqb→eq}
 use lib.ListN.{getD}
-use Rattle.shares.specs.Test.{is-true, is-false, of-false, holds}
+use Rattle.shares.specs.Test.{is-true, is-false, holds}
 use Rattle.shares.specs.Below.{everyBelow}
-use Rattle.shares.specs.BelowLaws.{Below, every-intro, every-or}
+use Rattle.shares.specs.BelowLaws.{Below, every-at, every-intro, every-or}
 use Rattle.shares.specs.Blocks.{leaf-lt}
 use Rattle.leaves.specs.Heights.{c}
 use Rattle.leaves.specs.HeightLaws.{c-enough}
 use Rattle.leaves.specs.Choices.{least}
-use Rattle.leaves.specs.Problem.{Problem, solvable}
+use Rattle.leaves.specs.Problem.{Problem, home, specialAt, solvable}
 use Rattle.leaves.specs.ProblemLaws.{place-lt}
+use borrow.Author.Tests.{le-ltb}
+use Rattle.words.specs.Sets.{clauseFails}
 use Rattle.show.specs.declared.Plan.{Plan}
-use Rattle.plans.specs.Numbers.{numbered}
+use Rattle.plans.specs.Numbers.{numbered, withoutFirst}
 use Rattle.plans.specs.Plan.{nowhere, isPlaced, homeOf, rankOf}
 use Rattle.plans.specs.PlanLaws.{place-there, place-nowhere, choice-there, solvable-of, unsolvable-special}
-use Rattle.plans.specs.Tests.{Stored, extraOf, roomOf, testsOf}
+use Rattle.plans.specs.Tests.{Stored, leafValues, firstMeets, specialIn, extraOf, roomOf, testsOf}
 use Rattle.plans.specs.Entries.{Fits, After, Plains, Filled, Made, SolvedAs}
 use Rattle.plans.specs.FillLaws.{c-most, placed-not}
 use Rattle.plans.specs.declared.Search.{Search}
 use Rattle.plans.specs.declared.Search.the-variants.{First, Stuck, Avoiding}
+
+-- an entry that has a place is somewhere, one that has none is nowhere
+is-placed : (place : List ℕ) (j : ℕ) → T (isPlaced place j) → getD place j 0 ≡ nowhere → ⊥
+is-placed place j t q = T-not (eqb (getD place j 0) nowhere) t (rw q (eqb-refl nowhere))
+
+not-placed : (place : List ℕ) (j : ℕ) → T (not (isPlaced place j)) → getD place j 0 ≡ nowhere
+not-placed place j t = eqb→eq (getD place j 0) nowhere (holds (eqb (getD place j 0) nowhere) (T-not (not (eqb (getD place j 0) nowhere)) t))
 
 module _ (n h : ℕ) (R : Problem ℕ) (k : ℕ) (plan : Plan) (A : After n h R k (2 ^ h) (plan .place) (plan .choice)) where
   -- an entry that has a place has a leaf
@@ -38,8 +47,8 @@ module _ (n h : ℕ) (R : Problem ℕ) (k : ℕ) (plan : Plan) (A : After n h R 
       go (no m) = absurd (p (A .places j l ∙ place-nowhere n h R k j (2 ^ h) (omega arith)))
 
   -- one that has none has no leaf
-  pub not-placed : Fits h k R → (j : ℕ) → j < R .count → getD (plan .place) j 0 ≡ nowhere → T (not (solvable (least n) h (numbered n R)))
-  not-placed F j l p = unsolvable-special n h R j l (go (decLt (homeOf n h R j) (2 ^ h)))
+  no-home : Fits h k R → (j : ℕ) → j < R .count → getD (plan .place) j 0 ≡ nowhere → 2 ^ h ≤ homeOf n h R j
+  no-home F j l p = go (decLt (homeOf n h R j) (2 ^ h))
     where
       go : Dec (homeOf n h R j < 2 ^ h) → 2 ^ h ≤ homeOf n h R j
       go (no m) = omega arith
@@ -47,11 +56,27 @@ module _ (n h : ℕ) (R : Problem ℕ) (k : ℕ) (plan : Plan) (A : After n h R 
           let u : homeOf n h R j * 2 ^ k + rankOf n h R j < 2 ^ (h + k) = leaf-lt h k m (place-lt (least n) h (numbered n R) k j (F .few) l) in
           absurd (omega (arith, sym (place-there n h R k j (2 ^ h) m) ∙ sym (A .places j l) ∙ p, F .low))
 
+  -- without its first m disequations the problem is solvable exactly if the others have a place
+  pub part-solvable : Plains n h R (2 ^ h) (plan .plain) → Fits h k R → (m d : ℕ) → R .count ≡ m + d
+      → everyBelow d (λ e. isPlaced (plan .place) (m + e)) ≡ solvable (least n) h (numbered n (withoutFirst m R))
+  unfolding home specialAt
+  part-solvable P F m d count = go (every-or d there)
+    where
+      there : ℕ → Bool
+      there e = isPlaced (plan .place) (m + e)
+
+      go : ((e : ℕ) → e < d → T (there e)) ⊎ Below d (λ e. not (there e))
+          → everyBelow d there ≡ solvable (least n) h (numbered n (withoutFirst m R))
+      go (inl all) =
+          is-true (everyBelow d there) (every-intro d there all)
+          ∙ sym (is-true _ (solvable-of n h (withoutFirst m R) (P .found) (λ e l. home-of (m + e) (omega arith) (is-placed (plan .place) (m + e) (all e (omega arith))))))
+      go (inr (e, l, t)) =
+          let here : getD (plan .place) (m + e) 0 ≡ nowhere = not-placed (plan .place) (m + e) t in
+          sym (placed-not (plan .place) m d e l here)
+          ∙ sym (is-false _ (unsolvable-special n h (withoutFirst m R) e (omega arith) (no-home F (m + e) (omega arith) here)))
+
   -- all have one
   module _ (P : Plains n h R (2 ^ h) (plan .plain)) (all : (j : ℕ) → j < R .count → getD (plan .place) j 0 ≡ nowhere → ⊥) where
-    pub all-placed : T (solvable (least n) h (numbered n R))
-    all-placed = solvable-of n h R (P .found) (λ j l. home-of j l (all j l))
-
     pub made : plan .low ≡ h → plan .high ≡ h + k → plan .count ≡ R .count → Made n h R k plan
     made low high count = record {
       low = low;
@@ -63,6 +88,19 @@ module _ (n h : ℕ) (R : Problem ℕ) (k : ℕ) (plan : Plan) (A : After n h R 
     }
 
 -- ---- what a search gives
+
+-- without its first 0 disequations a problem is itself
+without-none : (R : Problem ℕ) → withoutFirst 0 R ≡ R
+without-none R = ap₂ (λ count dis. record { pos = R .pos; count = count; dis = dis }) (sub-zero (R .count)) (fun-ext (λ e. ap (R .dis) (zero-add e)))
+
+-- without its extra disequation a search for a stuck leaf is one for a solution of the first system
+pub stuck-plainly : (S : Stored) (h : ℕ) → withoutFirst 1 (testsOf S h Stuck) ≡ testsOf S h First
+unfolding specialIn
+stuck-plainly S h =
+    ap₂ (λ count dis. record { pos = λ b. firstMeets S (leafValues S h b); count = count; dis = dis }) (omega arith)
+    (fun-ext (λ e. fun-ext (λ b. fun-ext (λ z.
+    let q : 1 + e - 1 ≡ e - 0 = omega arith in
+    rw (le-ltb (1 + e) 1 (omega arith), le-ltb e 0 (omega arith)) (ap (λ i. clauseFails (S .clauses) (256 + 4 * i) (S .free) 0 (leafValues S h b) z) q)))))
 
 -- a search has room for its disequations, and for at most one more than the stored ones
 pub room-enough : (search : Search) (d : ℕ) → (extraOf search + d ≤ roomOf search d) × (roomOf search d ≤ d + 1)
@@ -78,40 +116,35 @@ room-splits search d k l e =
     let (enough, few) = room-enough search d in
     (rw e (c-most (roomOf search d) 5 (omega arith)), rw e (le-trans enough (c-enough (roomOf search d))))
 
-module _ (S : Stored) (h : ℕ) (search : Search) (k count : ℕ) (F : Fits h k (testsOf S h search)) (e : k ≡ c (roomOf search (getD (S .counts) 1 0)))
-    (entries : count ≡ testsOf S h search .count) (plain place choice : List ℕ) where
+module _ (S : Stored) (h : ℕ) (search : Search) (k extra d : ℕ) (F : Fits h k (testsOf S h search)) (room : k ≡ c (roomOf search (getD (S .counts) 1 0)))
+    (extra-is : extra ≡ extraOf search) (d-is : d ≡ getD (S .counts) 1 0) (plain place choice : List ℕ) where
   abbrev planOf : Plan
-  planOf = record { low = h; high = h + k; plain = plain; count = count; place = place; choice = choice }
+  planOf = record { low = h; high = h + k; plain = plain; count = extra + d; place = place; choice = choice }
 
-  -- all leaves have a choice
-  pub solved-filled : (filled placed : Bool) → filled ≡ true → placed ≡ everyBelow count (isPlaced place)
-      → Filled (S .free) h (testsOf S h search) k filled plain place choice → SolvedAs S h search (record { found = placed; plan = planOf })
-  solved-filled filled placed all-leaves p filling = go (every-or count (isPlaced place))
+  count-is : testsOf S h search .count ≡ extra + d
+  count-is = sym (ap₂ _+_ extra-is d-is)
+
+  pub solved : (filled found plainly : Bool) → Filled (S .free) h (testsOf S h search) k filled plain place choice
+      → found ≡ (filled && everyBelow (extra + d) (λ j. isPlaced place (0 + j))) → plainly ≡ (filled && everyBelow d (λ j. isPlaced place (extra + j)))
+      → SolvedAs S h search (record { found = found; plainly = plainly; plan = planOf })
+  -- some leaf has no choice
+  solved false found plainly f u v = record {
+    found = u ∙ sym (is-false _ (subst (λ R. T (not (solvable (least (S .free)) h (numbered (S .free) R)))) (without-none (testsOf S h search)) (f .none tt 0)));
+    plainly = v ∙ sym (is-false _ (f .none tt (extraOf search)));
+    made = λ t. absurd (rw u at t);
+  }
+  -- all have one
+  solved true found plainly f u v = record {
+    found = u ∙ part-solvable (S .free) h (testsOf S h search) k planOf A P F 0 (extra + d) (rw (zero-add (extra + d)) count-is) ∙ ap (λ R. solvable (least (S .free)) h (numbered (S .free) R)) (without-none (testsOf S h search));
+    plainly =
+        v
+        ∙ subst (λ m. everyBelow d (λ j. isPlaced place (extra + j)) ≡ solvable (least (S .free)) h (numbered (S .free) (withoutFirst m (testsOf S h search)))) extra-is
+        (part-solvable (S .free) h (testsOf S h search) k planOf A P F extra d count-is);
+    made = λ t. rw (← room) (made (S .free) h (testsOf S h search) k planOf A P (λ j l. is-placed place j (rw (zero-add j) at (every-at (extra + d) (λ j. isPlaced place (0 + j)) (rw u at t) j (rw (← count-is) l)))) refl refl (sym count-is));
+  }
     where
-      f : Filled (S .free) h (testsOf S h search) k true plain place choice
-      f = rw all-leaves at filling
-
       A : After (S .free) h (testsOf S h search) k (2 ^ h) place choice
       A = f .entries tt
 
-      go : ((j : ℕ) → j < count → T (isPlaced place j)) ⊎ Below count (λ j. not (isPlaced place j)) → SolvedAs S h search (record { found = placed; plan = planOf })
-      go (inl all) =
-          let each : (j : ℕ) → j < testsOf S h search .count → getD place j 0 ≡ nowhere → ⊥ =
-          λ j l q. T-not (eqb (getD place j 0) nowhere) (all j (rw entries l)) (rw q (eqb-refl nowhere)) in
-          let yes : placed ≡ true = p ∙ is-true (everyBelow count (isPlaced place)) (every-intro count (isPlaced place) all) in
-          record {
-            found = yes ∙ sym (is-true _ (all-placed (S .free) h (testsOf S h search) k planOf A (f .leaves tt) each));
-            made = λ _. rw (← e) (made (S .free) h (testsOf S h search) k planOf A (f .leaves tt) each refl refl entries);
-          }
-      go (inr (j, l, t)) =
-          let here : getD place j 0 ≡ nowhere = eqb→eq (getD place j 0) nowhere (holds (eqb (getD place j 0) nowhere) (T-not (not (eqb (getD place j 0) nowhere)) t)) in
-          let no : placed ≡ false = p ∙ sym (placed-not place count j l here) in
-          record {
-            found = no ∙ sym (is-false _ (not-placed (S .free) h (testsOf S h search) k planOf A F j (rw (← entries) l) here));
-            made = λ t. absurd (rw no at t);
-          }
-
-  -- some leaf has none
-  pub solved-none : (filled : Bool) → filled ≡ false → Filled (S .free) h (testsOf S h search) k filled plain place choice
-      → SolvedAs S h search (record { found = filled; plan = planOf })
-  solved-none filled e f = record { found = e ∙ sym (is-false _ (f .none (of-false e))); made = λ t. absurd (rw e at t) }
+      P : Plains (S .free) h (testsOf S h search) (2 ^ h) plain
+      P = f .leaves tt

@@ -19,7 +19,7 @@ use Rattle.leaves.specs.Choices.{Row, nil, cons, at, value}
 use Rattle.leaves.specs.ChoiceLaws.{value-lt}
 use Rattle.systems.specs.Clauses.{variable, constant, Atom, Constants}
 use Rattle.systems.specs.AtLeaves.{termAt, atomAt, allAt}
-use Rattle.words.specs.Clause.{clauseTest, allClauses, termValue}
+use Rattle.words.specs.Clause.{testValue, clauseTest, allClauses, termValue}
 use Rattle.shares.specs.BitParts.{bit-low, bit-high}
 use Rattle.shares.specs.BelowLaws.{every-more}
 use Rattle.words.specs.TermLaws.{value-constant}
@@ -82,7 +82,7 @@ module _ (S : Stored) (h b : ℕ) (few : S .defined ≤ 32) where
     -- a stored clause has the test of its atom
     pub atom-same : (at : ℕ) → held.StoredClause k (S .defined) (getD (S .clauses) at 0) (getD (S .clauses) (at + 1) 0) (getD (S .clauses) (at + 2) 0) (getD (S .clauses) (at + 3) 0)
         → atomAt h (storedConstants S) b X (held.storedAtom (S .clauses) at) ≡ clauseTest (S .clauses) (termValue n m (leafValues S h b) z) at
-    unfolding held.storedAtom clauseTest atomAt
+    unfolding held.storedAtom clauseTest testValue atomAt
     atom-same at C = go (eqb (getD (S .clauses) at 0) 0) refl (C .named)
       where
         A : ℕ

@@ -6,6 +6,7 @@ ghost use mathlib.Core.List.{List};
 ghost use Prim.Native.Nat.{ℕ, _+_, _*_, _-_, _^_, _<_, _≤_};
 ghost use lib.ListN.{length, getD};
 ghost use Rattle.shares.specs.Below.{everyBelow, firstBelow};
+ghost use Rattle.shares.specs.Constant.{bit};
 ghost use Rattle.leaves.specs.Heights.{c};
 ghost use Rattle.words.specs.Clause.{Clauses};
 ghost use Rattle.words.specs.Sets.{wordCount, inSet};
@@ -26,6 +27,27 @@ pub enum Search {
 // The place of an entry that has none yet: past every sub-leaf.
 const NOWHERE: u16 = 2048;
 
+// The choices of word w of the set in which disequation e holds.
+fn special_word(
+    clauses: &[u8; 768],
+    free: usize,
+    leaf: u64,
+    extra: usize,
+    set: &[u64; 64],
+    other: &[u64; 64],
+    e: usize,
+    w: usize,
+) -> u64
+    requires { ⌜ (w < 64) × (free ≤ 12) × (e < 32) ⌝ }
+    requires { ⌜ Clauses (now clauses) 256 (e + 1 - extra) ⌝ }
+    ensures { λ r. ⌜ ((i : ℕ) → i < 64 → bit r i ≡ (inSet (now (set .entry)) (64 * w + i) && specialIn (now (clauses .entry)) free leaf (inSet (now (other .entry))) extra e (64 * w + i))) ⌝ }
+{
+    if e < extra {
+        return words::outside_word(set, other, w);
+    }
+    words::failing_word(set, clauses, 256 + 4 * (e - extra), free, leaf, w)
+}
+
 // The least choice of the set in which disequation e holds, or 64 * count.
 fn least_special(
     clauses: &[u8; 768],
@@ -41,10 +63,15 @@ fn least_special(
     requires { ⌜ Clauses (now clauses) 256 (e + 1 - extra) ⌝ }
     ensures { λ r. ⌜ r ≡ firstBelow (64 * count) (λ z. inSet (now (set .entry)) z && specialIn (now (clauses .entry)) free leaf (inSet (now (other .entry))) extra e z) ⌝ }
 {
-    if e < extra {
-        return words::least_outside(set, other, count);
+    let mut w: usize = 0;
+    while w < count {
+        let x = special_word(clauses, free, leaf, extra, set, other, e, w);
+        if x != 0 {
+            return 64 * w + words::lowest(x);
+        }
+        w += 1;
     }
-    words::least_failing(set, count, clauses, 256 + 4 * (e - extra), free, leaf)
+    64 * count
 }
 
 // Gives disequation e a place and a choice, if it has none yet and the leaf has a choice for it. The result is the next free place.
@@ -376,14 +403,14 @@ fn fill_plan(
     true
 }
 
-// Whether each of the first `entries` entries has a place.
-fn all_placed(place: &[u16; 32], entries: usize) -> bool
-    requires { ⌜ entries ≤ 32 ⌝ }
-    ensures { λ r. ⌜ r ≡ everyBelow entries (isPlaced (now (place .entry))) ⌝ }
+// Whether each of the entries from `from`, so many, has a place.
+fn all_placed(place: &[u16; 32], from: usize, entries: usize) -> bool
+    requires { ⌜ from + entries ≤ 32 ⌝ }
+    ensures { λ r. ⌜ r ≡ everyBelow entries (λ j. isPlaced (now (place .entry)) (from + j)) ⌝ }
 {
     let mut j: usize = 0;
     while j < entries {
-        if place[j] == NOWHERE {
+        if place[from + j] == NOWHERE {
             return false;
         }
         j += 1;
@@ -391,9 +418,16 @@ fn all_placed(place: &[u16; 32], entries: usize) -> bool
     true
 }
 
-// Whether a search finds a solution, and the plan of the one it finds.
+fn both(a: bool, b: bool) -> bool
+    ensures { λ r. ⌜ r ≡ (a && b) ⌝ }
+{
+    a && b
+}
+
+// Whether a search finds a solution, whether it finds one without its extra disequation, and the plan of the first.
 pub struct Solved {
     pub found: bool,
+    pub plainly: bool,
     pub plan: Plan,
 }
 
@@ -416,7 +450,7 @@ pub fn solve(
     let mut place = [NOWHERE; 32];
     let mut choice = [0u16; 32];
     let d = count_of(counts, 1);
-    let count = extra_of(search) + d;
+    let extra = extra_of(search);
     let k = splits(room_of(search, d));
     let filled = fill_plan(
         clauses,
@@ -432,17 +466,19 @@ pub fn solve(
         &mut place,
         &mut choice,
     );
-    let placed = all_placed(&place, count);
+    let found = both(filled, all_placed(&place, 0, extra + d));
+    let plainly = both(filled, all_placed(&place, extra, d));
     let plan = Plan {
         low: h,
         high: h + k,
         plain,
-        count,
+        count: extra + d,
         place,
         choice,
     };
     Solved {
-        found: filled && placed,
+        found,
+        plainly,
         plan,
     }
 }

@@ -8,12 +8,14 @@ use Rattle.shares.specs.Below.{everyBelow}
 use Rattle.shares.specs.Constant.{bit}
 use Rattle.shares.specs.Tree.{joins}
 
--- the test of the clause at byte `at`, where term t has the value x t: test byte 0 is a join, any other an equality
+-- the test with number n of three values: 0 is a join, any other an equality
+unfoldable pub testValue : ℕ → Bool → Bool → Bool → Bool
+testValue n a b c = cond (eqb n 0) (joins a b c) (Bool·beq a b)
+
+-- the test of the clause at byte `at`, where term t has the value x t: its number and its three terms are four bytes
 unfoldable pub clauseTest : List ℕ → (ℕ → Bool) → ℕ → Bool
 clauseTest clauses x at =
-    cond (eqb (getD clauses at 0) 0)
-    (joins (x (getD clauses (at + 1) 0)) (x (getD clauses (at + 2) 0)) (x (getD clauses (at + 3) 0)))
-    (Bool·beq (x (getD clauses (at + 1) 0)) (x (getD clauses (at + 2) 0)))
+    testValue (getD clauses at 0) (x (getD clauses (at + 1) 0)) (x (getD clauses (at + 2) 0)) (x (getD clauses (at + 3) 0))
 
 -- all clauses of a section pass: `count` clauses of four bytes from byte `start`
 unfoldable pub allClauses : List ℕ → (ℕ → Bool) → ℕ → ℕ → Bool

@@ -43,13 +43,11 @@ pub clause-ext : (x y : ℕ → Bool) {clauses : List ℕ} {at : ℕ} → Clause
     → clauseTest clauses x at ≡ clauseTest clauses y at
 unfolding clauseTest
 clause-ext x y {clauses} {at} c h =
-    let a = h (getD clauses (at + 1) 0) (c .terms 1 (omega arith)) in
-    let b = h (getD clauses (at + 2) 0) (c .terms 2 (omega arith)) in
-    ap₂ (cond (eqb (getD clauses at 0) 0))
-    (ap (λ f. f (x (getD clauses (at + 2) 0)) (x (getD clauses (at + 3) 0))) (ap joins a)
-    ∙ ap (λ v. joins (y (getD clauses (at + 1) 0)) v (x (getD clauses (at + 3) 0))) b
-    ∙ ap (joins (y (getD clauses (at + 1) 0)) (y (getD clauses (at + 2) 0))) (h (getD clauses (at + 3) 0) (c .terms 3 (omega arith))))
-    (ap₂ Bool·beq a b)
+    rw (
+      h (getD clauses (at + 1) 0) (c .terms 1 (omega arith)),
+      h (getD clauses (at + 2) 0) (c .terms 2 (omega arith)),
+      h (getD clauses (at + 3) 0) (c .terms 3 (omega arith)),
+    )
 
 pub section-ext : (x y : ℕ → Bool) {clauses : List ℕ} {start count : ℕ} → Clauses clauses start count → ((t : ℕ) → t < 64 → x t ≡ y t)
     → allClauses clauses x start count ≡ allClauses clauses y start count

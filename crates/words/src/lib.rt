@@ -7,9 +7,9 @@ ghost use lib.ListN.{length, getD};
 ghost use Rattle.shares.specs.Below.{firstBelow};
 ghost use Rattle.shares.specs.Constant.{bit};
 ghost use Rattle.shares.specs.Tree.{joins};
-ghost use Rattle.words.specs.Clause.{clauseTest, allClauses, position, Clauses};
+ghost use Rattle.words.specs.Clause.{testValue, clauseTest, allClauses, position, Clauses};
 ghost use Rattle.words.specs.Sets.{wordCount, inSet, Words, allPass, clauseFails, allPassBut, someOwn, Gathered, Merged};
-ghost use Rattle.words.specs.Table.{Terms, Changed, ConstantWords};
+ghost use Rattle.words.specs.Table.{Right, Terms, Changed, ConstantWords};
 
 // Bit i of the result is the test of a join at the bits i of a, b and c.
 fn join_word(a: u64, b: u64, c: u64) -> u64
@@ -40,24 +40,31 @@ fn term_word(terms: &[u64; 64], clauses: &[u8; 768], at: usize) -> u64
     terms[t]
 }
 
+// Bit i of the result is the test with this number at the bits i of a, b and c.
+fn test_word(test: u8, a: u64, b: u64, c: u64) -> u64
+    ensures { λ r. ⌜ ((i : ℕ) → i < 64 → bit r i ≡ testValue test (bit a i) (bit b i) (bit c i)) ⌝ }
+{
+    let joined = join_word(a, b, c);
+    let equal = equal_word(a, b);
+    if test == 0 {
+        return joined;
+    }
+    equal
+}
+
 // Bit i of the result is the test of the clause at byte `at`, where term t has bit i of terms[t] for its value.
-pub fn clause_word(terms: &[u64; 64], clauses: &[u8; 768], at: usize) -> u64
+fn clause_word(terms: &[u64; 64], clauses: &[u8; 768], at: usize) -> u64
     requires { ⌜ Clauses (now clauses) at 1 ⌝ }
     ensures { λ r. ⌜ ((i : ℕ) → i < 64 → bit r i ≡ clauseTest (now (clauses .entry)) (λ t. bit (getD (now (terms .entry)) t 0) i) at) ⌝ }
 {
     let a = term_word(terms, clauses, at + 1);
     let b = term_word(terms, clauses, at + 2);
     let c = term_word(terms, clauses, at + 3);
-    let joined = join_word(a, b, c);
-    let equal = equal_word(a, b);
-    if clauses[at] == 0 {
-        return joined;
-    }
-    equal
+    test_word(clauses[at], a, b, c)
 }
 
 // Bit i of the result says whether all clauses of the section pass, where term t has bit i of terms[t] for its value.
-pub fn section_word(terms: &[u64; 64], clauses: &[u8; 768], start: usize, count: usize) -> u64
+fn section_word(terms: &[u64; 64], clauses: &[u8; 768], start: usize, count: usize) -> u64
     requires { ⌜ Clauses (now clauses) start count ⌝ }
     ensures { λ r. ⌜ ((i : ℕ) → i < 64 → bit r i ≡ allClauses (now (clauses .entry)) (λ t. bit (getD (now (terms .entry)) t 0) i) start count) ⌝ }
 {
@@ -123,6 +130,21 @@ fn digit_word(p: usize, w: usize) -> u64
     spread(digit(w as u64, p - 6))
 }
 
+// The word at w of the term whose number is byte `at`, where there are no own variables.
+fn value_word(clauses: &[u8; 768], at: usize, n: usize, leaf: u64, w: usize) -> u64
+    requires { ⌜ (n ≤ 12) × (at < 768) × (getD (now clauses) at 0 < 64) ⌝ }
+    ensures { λ r. ⌜ Right n 0 leaf w (getD (now (clauses .entry)) at 0) r ⌝ }
+{
+    let t = wide(clauses[at]);
+    if t < n {
+        return digit_word(n - 1 - t, w);
+    }
+    if t < 32 {
+        return 0;
+    }
+    spread(digit(leaf, t - 32))
+}
+
 // The digit that a variable has, and the variable that has a digit.
 fn place_of(n: usize, m: usize, t: usize) -> usize
     requires { ⌜ (n + m ≤ 12) × (t < n + m) ⌝ }
@@ -134,13 +156,16 @@ fn place_of(n: usize, m: usize, t: usize) -> usize
     2 * n + m - 1 - t
 }
 
-// Puts the words of the constants into the table, from term 32.
+// Puts the words of the constants into a table that is empty there, from term 32 to the last that is not 0.
 fn set_constants(leaf: u64, terms: &mut [u64])
-    requires { ⌜ length (now terms) ≡ 64 ⌝ }
+    requires { ⌜ (length (now terms) ≡ 64) × ((t : ℕ) → 32 ≤ t → t < 64 → getD (now terms) t 0 ≡ 0) ⌝ }
     ensures { λ r. ⌜ ConstantWords leaf (now (terms .entry)) (now (terms .exit)) ⌝ }
 {
     let mut t: usize = 32;
     while t < 64 {
+        if leaf >> (t - 32) == 0 {
+            return;
+        }
         terms[t] = spread(digit(leaf, t - 32));
         t += 1;
     }
@@ -159,15 +184,13 @@ fn set_variables(n: usize, m: usize, from: usize, w: usize, terms: &mut [u64])
     }
 }
 
-// The table of terms at word 0.
-fn start_terms(n: usize, m: usize, leaf: u64) -> [u64; 64]
-    requires { ⌜ n + m ≤ 12 ⌝ }
-    ensures { λ r. ⌜ Terms n m leaf 0 r ⌝ }
+// Makes the table of terms at word 0 of a table that is empty.
+fn start_terms(n: usize, m: usize, leaf: u64, terms: &mut [u64])
+    requires { ⌜ (n + m ≤ 12) × (length (now terms) ≡ 64) × ((t : ℕ) → t < 64 → getD (now terms) t 0 ≡ 0) ⌝ }
+    ensures { λ r. ⌜ Terms n m leaf 0 (now (terms .exit)) ⌝ }
 {
-    let mut terms = [0u64; 64];
-    set_constants(leaf, &mut terms);
-    set_variables(n, m, 0, 0, &mut terms);
-    terms
+    set_constants(leaf, terms);
+    set_variables(n, m, 0, 0, terms);
 }
 
 // Takes the table of terms from any word to word w: only the digits above the sixth change.
@@ -210,27 +233,11 @@ pub fn least(set: &[u64; 64], count: usize) -> usize
 }
 
 // The choices of word w of a set that are not in another.
-fn outside_word(set: &[u64; 64], other: &[u64; 64], w: usize) -> u64
+pub fn outside_word(set: &[u64; 64], other: &[u64; 64], w: usize) -> u64
     requires { ⌜ w < 64 ⌝ }
     ensures { λ r. ⌜ ((i : ℕ) → i < 64 → bit r i ≡ (inSet (now (set .entry)) (64 * w + i) && not (inSet (now (other .entry)) (64 * w + i)))) ⌝ }
 {
     word_at(set, w) & !word_at(other, w)
-}
-
-// The least choice of a set that is not in another, or 64 * count.
-pub fn least_outside(set: &[u64; 64], other: &[u64; 64], count: usize) -> usize
-    requires { ⌜ count ≤ 64 ⌝ }
-    ensures { λ r. ⌜ r ≡ firstBelow (64 * count) (λ z. inSet (now (set .entry)) z && not (inSet (now (other .entry)) z)) ⌝ }
-{
-    let mut w: usize = 0;
-    while w < count {
-        let x = outside_word(set, other, w);
-        if x != 0 {
-            return 64 * w + lowest(x);
-        }
-        w += 1;
-    }
-    64 * count
 }
 
 // Takes the choices of another set out of a set of so many words.
@@ -246,39 +253,32 @@ pub fn remove(set: &mut [u64], other: &[u64; 64], count: usize)
     }
 }
 
-// The choices of word w of the set in which the clause at byte `at` fails.
-fn failing_word(set: &[u64; 64], w: usize, terms: &[u64; 64], clauses: &[u8; 768], at: usize) -> u64
-    requires { ⌜ w < 64 ⌝ }
+// The choices of word w in which the clause at byte `at` fails, where there are no own variables.
+fn fails_word(clauses: &[u8; 768], at: usize, n: usize, leaf: u64, w: usize) -> u64
+    requires { ⌜ n ≤ 12 ⌝ }
     requires { ⌜ Clauses (now clauses) at 1 ⌝ }
-    ensures { λ r. ⌜ ((i : ℕ) → i < 64 → bit r i ≡ (bit (getD (now (set .entry)) w 0) i && not (clauseTest (now (clauses .entry)) (λ t. bit (getD (now (terms .entry)) t 0) i) at))) ⌝ }
+    ensures { λ r. ⌜ ((i : ℕ) → i < 64 → bit r i ≡ clauseFails (now (clauses .entry)) at n 0 leaf (64 * w + i)) ⌝ }
 {
-    word_at(set, w) & !clause_word(terms, clauses, at)
+    let a = value_word(clauses, at + 1, n, leaf, w);
+    let b = value_word(clauses, at + 2, n, leaf, w);
+    let c = value_word(clauses, at + 3, n, leaf, w);
+    !test_word(clauses[at], a, b, c)
 }
 
-// The least choice in the set in which the clause at byte `at` fails, or 64 * count.
-pub fn least_failing(
+// The choices of word w of a set in which the clause at byte `at` fails.
+pub fn failing_word(
     set: &[u64; 64],
-    count: usize,
     clauses: &[u8; 768],
     at: usize,
     n: usize,
     leaf: u64,
-) -> usize
-    requires { ⌜ (count ≤ 64) × (n ≤ 12) ⌝ }
+    w: usize,
+) -> u64
+    requires { ⌜ (w < 64) × (n ≤ 12) ⌝ }
     requires { ⌜ Clauses (now clauses) at 1 ⌝ }
-    ensures { λ r. ⌜ r ≡ firstBelow (64 * count) (λ z. inSet (now (set .entry)) z && clauseFails (now (clauses .entry)) at n 0 leaf z) ⌝ }
+    ensures { λ r. ⌜ ((i : ℕ) → i < 64 → bit r i ≡ (inSet (now (set .entry)) (64 * w + i) && clauseFails (now (clauses .entry)) at n 0 leaf (64 * w + i))) ⌝ }
 {
-    let mut terms = start_terms(n, 0, leaf);
-    let mut w: usize = 0;
-    while w < count {
-        move_terms(n, 0, w, &mut terms);
-        let x = failing_word(set, w, &terms, clauses, at);
-        if x != 0 {
-            return 64 * w + lowest(x);
-        }
-        w += 1;
-    }
-    64 * count
+    word_at(set, w) & fails_word(clauses, at, n, leaf, w)
 }
 
 // How many words hold 2^d choices.
@@ -439,7 +439,8 @@ fn gather(
 {
     let words = word_count(n);
     let total = word_count(n + m);
-    let mut terms = start_terms(n, m, leaf);
+    let mut terms = [0u64; 64];
+    start_terms(n, m, leaf, &mut terms);
     let mut v: usize = 0;
     while v < total {
         move_terms(n, m, v, &mut terms);

@@ -1,6 +1,6 @@
 -- `plans::all_placed` meets its contract. The loop's invariant: the first j entries have a place. Assumes nothing.
 use mathlib.Core.Path.{sym}
-use Prim.Native.Nat.{_-_, _≤_}
+use Prim.Native.Nat.{_+_, _-_, _≤_}
 use native.Mathlib.Nat.{le-antisymm}
 use native.Mathlib.Omega.{arith}
 use lib.Dec.{T}
@@ -13,13 +13,16 @@ use Rattle.plans.proofs.all_placed.Statement.{statement}
 use Rattle.plans.proofs.all_placed.Tie as tie
 
 abbrev Inv-loop : tie.InvT-loop
-Inv-loop place entries j₀ j = (j ≤ entries) × T (everyBelow j (isPlaced place))
+Inv-loop place from entries j₀ j = (j ≤ entries) × T (everyBelow j (λ i. isPlaced place (from + i)))
 
 abbrev μ-loop : tie.MeasureT-loop
-μ-loop place entries j₀ j = entries - j
+μ-loop place from entries j₀ j = entries - j
 
 loop-holds : tie.Need-loop-holds Inv-loop μ-loop
-loop-holds c = (omega arith, placed-none (c .args .place .now))
+loop-holds c = (omega arith, placed-none (c .args .place .now) (c .args .from))
+
+add-if1 : tie.Need-add-if1 Inv-loop μ-loop
+add-if1 c = search needs
 
 mul-if1 : tie.Need-mul-if1 Inv-loop μ-loop
 mul-if1 c = search needs
@@ -28,7 +31,7 @@ element-copy-out-if1 : tie.Need-element-copy-out-if1 Inv-loop μ-loop
 element-copy-out-if1 c = search needs
 
 returns : tie.Need-returns Inv-loop μ-loop
-returns c = placed-not (c .before .before .before .before .args .place .now) _ _ (c .before .before .loop-test .taken) (c .if1 .taken)
+returns c = let a = c .before .before .before .before .args in placed-not (a .place .now) (a .from) _ _ (c .before .before .loop-test .taken) (c .if1 .taken)
 
 add-j : tie.Need-add-j Inv-loop μ-loop
 add-j c = search needs
@@ -37,7 +40,9 @@ loop-less : tie.Need-loop-less Inv-loop μ-loop
 loop-less c = search needs
 
 loop-again : tie.Need-loop-again Inv-loop μ-loop
-loop-again c = (omega (arith, c .before .before .loop-test .taken), placed-more (c .before .before .before .before .args .place .now) _ (c .before .before .before .loop .inv .1) (c .if1 .left))
+loop-again c =
+    let a = c .before .before .before .before .args in
+    (omega (arith, c .before .before .loop-test .taken), placed-more (a .place .now) (a .from) _ (c .before .before .before .loop .inv .1) (c .if1 .left))
 
 returns-2 : tie.Need-returns-2 Inv-loop μ-loop
 returns-2 c =
@@ -52,6 +57,7 @@ all-placed-spec =
     Inv-loop
     μ-loop
     loop-holds
+    add-if1
     mul-if1
     element-copy-out-if1
     returns

@@ -1,24 +1,37 @@
--- `plans::solve` meets its contract: some leaf has no choice, some entry has no place, or the plan is the solution. Assumes nothing.
-use mathlib.Core.Path.{ap₂}
-use Prim.Native.Nat.{_+_}
+-- `plans::solve` meets its contract. Assumes nothing.
+use mathlib.Core.Path.{_≡_, ap, _∙_}
+use mathlib.Core.Bool.{_&&_}
+use Prim.Native.Nat.{_+_, _^_, _≤_}
 use native.Mathlib.Omega.{arith}
-use lib.ListN.{getD-replicate}
+use lib.ListN.{getD, getD-replicate}
 use borrow.Author.Needs.{needs}
-use Rattle.plans.specs.SolveLaws.{room-enough, splits-is, room-splits, solved-filled, solved-none}
+use Rattle.leaves.specs.Heights.{c}
+use Rattle.plans.specs.SolveLaws.{room-enough, splits-is, room-splits, solved}
 use Rattle.plans.specs.FillLaws.{fits, after-none}
 use Rattle.plans.specs.LeafLaws.{extra-le}
-use Rattle.plans.specs.Tests.{stored}
+use Rattle.plans.specs.Tests.{stored, extraOf, roomOf}
 use Rattle.plans.proofs.solve.Statement.{statement}
 use Rattle.plans.proofs.solve.Tie as tie
+
+-- how often leaves are split, and that there is room for the entries
+splits : (s : tie.After-splits)
+    → (let a = s .before .before .before .before .args in
+    let d = getD (a .counts .now) 1 0 in
+    (s .splits .result ≡ c (roomOf (a .search) d)) × (s .splits .result ≤ 5) × (extraOf (a .search) + d ≤ 2 ^ s .splits .result))
+splits s =
+    let a = s .before .before .before .before .args in
+    let e = splits-is (a .search) (s .splits .ensures) (s .before .room-of .ensures) (s .before .before .before .count-of .ensures) in
+    let k = room-splits (a .search) _ _ (s .before .before .before .before .pre .0 .few .0) e in
+    (e, k .0, k .1)
+
+few : (s : tie.After-splits) → s .before .before .extra-of .result + s .before .before .before .count-of .result ≤ 32
+few s = omega (arith, s .before .before .extra-of .ensures, s .before .before .before .count-of .ensures, s .before .before .before .before .pre .0 .few, extra-le (s .before .before .before .before .args .search))
 
 count-of-requires : tie.Need-count-of-requires
 count-of-requires c κs = search needs
 
 extra-of-requires : tie.Need-extra-of-requires
 extra-of-requires c κs = search needs
-
-add-count : tie.Need-add-count
-add-count c = omega (arith, c .extra-of .ensures, c .before .count-of .ensures, c .before .before .pre .0 .few, extra-le (c .before .before .args .search))
 
 room-of-requires : tie.Need-room-of-requires
 room-of-requires c κs = search needs
@@ -43,46 +56,48 @@ fill-plan-requires c κs =
     let a = s .args in
     let R = s .pre .0 in
     let S = stored (a .clauses .now) (a .counts .now) (a .constants .now) (a .defined) (a .free) (a .own) in
-    let k = room-splits (a .search) _ _ (R .few .0) (splits-is (a .search) (c .before .before .before .splits .ensures) (c .before .before .before .before .room-of .ensures) (c .before .before .before .before .before .before .count-of .ensures)) in
-    let few = extra-le (a .search) in (
+    let k = splits (c .before .before .before) in
+    let small = extra-le (a .search) in (
       R,
       (
-        (s .pre .1 .0, s .pre .1 .1, s .pre .1 .2, k .0, k .1),
+        (s .pre .1 .0, s .pre .1 .1, s .pre .1 .2, k .1, k .2),
         (
           (search needs, search needs, search needs),
-          after-none S (a .h) (a .search) _ _ _ (λ j l. getD-replicate 32 j _ 0 (omega (arith, R .few, few))) (λ j l. getD-replicate 32 j _ 0 (omega (arith, R .few, few))),
+          after-none S (a .h) (a .search) _ _ _ (λ j l. getD-replicate 32 j _ 0 (omega (arith, R .few, small))) (λ j l. getD-replicate 32 j _ 0 (omega (arith, R .few, small))),
         ),
       ),
     )
 
-all-placed-requires : tie.Need-all-placed-requires
-all-placed-requires c κs = omega (arith, c .before .before .before .before .before .before .before .before .before .before .extra-of .ensures, c .before .before .before .before .before .before .before .before .before .before .before .count-of .ensures, c .before .before .before .before .before .before .before .before .before .before .before .before .pre .0 .few, extra-le (c .before .before .before .before .before .before .before .before .before .before .before .before .args .search))
+add-all-placed : tie.Need-add-all-placed
+add-all-placed c = omega (arith, few (c .before .before .before .before .before .before .before .before))
 
-add-t45 : tie.Need-add-t45
-add-t45 c =
-    let s = c .before .before .before .before .before .before .before .before .before .before .before .before .before in
-    let k = room-splits (s .args .search) _ _ (s .pre .0 .few .0) (splits-is (s .args .search) (c .before .before .before .before .before .before .before .before .before .splits .ensures) (c .before .before .before .before .before .before .before .before .before .before .room-of .ensures) (c .before .before .before .before .before .before .before .before .before .before .before .before .count-of .ensures)) in
-    omega (arith, k .0, s .pre .1)
+all-placed-requires : tie.Need-all-placed-requires
+all-placed-requires c κs = omega (arith, few (c .before .before .before .before .before .before .before .before))
+
+both-requires : tie.Need-both-requires
+both-requires c κs = search needs
+
+all-placed-requires-2 : tie.Need-all-placed-requires-2
+all-placed-requires-2 c κs = few (c .before .before .before .before .before .before .before .before .before .before .before)
+
+both-requires-2 : tie.Need-both-requires-2
+both-requires-2 c κs = search needs
+
+add-t19 : tie.Need-add-t19
+add-t19 c = omega (arith, splits (c .before .before .before .before .before .before .before .before .before .before .before .before .before) .1, c .before .before .before .before .before .before .before .before .before .before .before .before .before .before .before .before .before .pre .1)
+
+add-t30 : tie.Need-add-t30
+add-t30 c = omega (arith, few (c .before .before .before .before .before .before .before .before .before .before .before .before .before))
 
 returns : tie.Need-returns
 returns c =
-    let s = c .before .before .before .before .before .before .before .before .before .before .before .before .before .before in
+    let s = c .before .before .before .before .before .before .before .before .before .before .before .before .before .before .before .before .before in
     let a = s .args in
     let S = stored (a .clauses .now) (a .counts .now) (a .constants .now) (a .defined) (a .free) (a .own) in
-    let e = splits-is (a .search) (c .before .before .before .before .before .before .before .before .before .before .splits .ensures) (c .before .before .before .before .before .before .before .before .before .before .before .room-of .ensures) (c .before .before .before .before .before .before .before .before .before .before .before .before .before .count-of .ensures) in
-    let k = room-splits (a .search) _ _ (s .pre .0 .few .0) e in
-    solved-filled S (a .h) (a .search) _ _ (fits S (a .h) (a .search) (s .pre .1 .2) (k .0) (k .1)) e (ap₂ _+_ (c .before .before .before .before .before .before .before .before .before .before .before .before .extra-of .ensures) (c .before .before .before .before .before .before .before .before .before .before .before .before .before .count-of .ensures)) _ _ _ _ _
-    (c .if1 .taken) (c .before .all-placed .ensures) (c .before .before .before .before .before .before .fill-plan .ensures)
-
-returns-2 : tie.Need-returns-2
-returns-2 c =
-    let s = c .before .before .before .before .before .before .before .before .before .before .before .before .before .before in
-    let a = s .args in
-    let S = stored (a .clauses .now) (a .counts .now) (a .constants .now) (a .defined) (a .free) (a .own) in
-    let e = splits-is (a .search) (c .before .before .before .before .before .before .before .before .before .before .splits .ensures) (c .before .before .before .before .before .before .before .before .before .before .before .room-of .ensures) (c .before .before .before .before .before .before .before .before .before .before .before .before .before .count-of .ensures) in
-    let k = room-splits (a .search) _ _ (s .pre .0 .few .0) e in
-    solved-none S (a .h) (a .search) _ _ (fits S (a .h) (a .search) (s .pre .1 .2) (k .0) (k .1)) e (ap₂ _+_ (c .before .before .before .before .before .before .before .before .before .before .before .before .extra-of .ensures) (c .before .before .before .before .before .before .before .before .before .before .before .before .before .count-of .ensures)) _ _ _ _
-    (c .if1 .left) (c .before .before .before .before .before .before .fill-plan .ensures)
+    let k = splits (c .before .before .before .before .before .before .before .before .before .before .before .before .before) in
+    let filled = c .before .before .before .before .before .before .before .before .before .fill-plan .result in
+    solved S (a .h) (a .search) _ _ _ (fits S (a .h) (a .search) (s .pre .1 .2) (k .1) (k .2)) (k .0) (c .before .before .before .before .before .before .before .before .before .before .before .before .before .before .before .extra-of .ensures) (c .before .before .before .before .before .before .before .before .before .before .before .before .before .before .before .before .count-of .ensures) _ _ _ filled _ _
+    (c .before .before .before .before .before .before .before .before .before .fill-plan .ensures) (c .before .before .before .both .ensures ∙ ap (_&&_ filled) (c .before .before .before .before .all-placed .ensures)) (c .both2 .ensures ∙ ap (_&&_ filled) (c .before .all-placed2 .ensures))
 
 pub solve-spec : {M : Type 1} → statement M
 solve-spec =
@@ -90,14 +105,17 @@ solve-spec =
     (tie.spec
     count-of-requires
     extra-of-requires
-    add-count
     room-of-requires
     splits-requires
     slice-aggregate-fill-plan
     slice-aggregate-fill-plan-2
     slice-aggregate-fill-plan-3
     fill-plan-requires
+    add-all-placed
     all-placed-requires
-    add-t45
-    returns
-    returns-2)
+    both-requires
+    all-placed-requires-2
+    both-requires-2
+    add-t19
+    add-t30
+    returns)

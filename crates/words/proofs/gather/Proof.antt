@@ -5,7 +5,7 @@ use Prim.Native.Nat.{ℕ, _+_, _-_, _*_, _%_, _≤_, _<_}
 use native.Mathlib.Nat.{mod-lt}
 use native.Mathlib.Omega.{arith}
 use lib.Bits.{bitAnd}
-use lib.ListN.{length, getD}
+use lib.ListN.{length, getD, getD-replicate}
 use Rattle.shares.specs.Constant.{bit}
 use Rattle.words.specs.Sets.{wordCount, allPass, allPassBut, Gathered}
 use Rattle.words.specs.Table.{Terms}
@@ -34,19 +34,19 @@ passing-but s j = let a = s .args in allPassBut (a .clauses .now) (a .start) (a 
 
 -- the table is right at word v
 right : (c : tie.After-move-terms Inv-loop μ-loop)
-    → (let a = c .before .before .before .before .before .before .before .before .before .args in
+    → (let a = c .before .before .before .before .before .before .before .before .before .before .before .args in
     Terms (a .n) (a .m) (a .leaf) (c .before .before .before .loop .v) (c .move-terms .last .1 .1 .1 .0))
 right c = let l = c .before .before .before .loop in c .move-terms .ensures _ (l .inv .2 .0) (l .inv .2 .1)
 
 -- the word that the choices of word v are added to
 place : (c : tie.At-loop Inv-loop μ-loop)
-    → (let n = c .before .before .before .before .before .before .args .n in
-    bitAnd (c .loop .v) (c .before .before .before .word-count .result - 1) ≡ c .loop .v % wordCount n)
-place c = rw (c .before .before .before .word-count .ensures) (word-place (c .loop .v) _)
+    → (let n = c .before .before .before .before .before .before .before .before .args .n in
+    bitAnd (c .loop .v) (c .before .before .before .before .before .word-count .result - 1) ≡ c .loop .v % wordCount n)
+place c = rw (c .before .before .before .before .before .word-count .ensures) (word-place (c .loop .v) _)
 
-place-lt : (c : tie.At-loop Inv-loop μ-loop) → bitAnd (c .loop .v) (c .before .before .before .word-count .result - 1) < 64
+place-lt : (c : tie.At-loop Inv-loop μ-loop) → bitAnd (c .loop .v) (c .before .before .before .before .before .word-count .result - 1) < 64
 place-lt c =
-    let s = c .before .before .before .before .before .before in
+    let s = c .before .before .before .before .before .before .before .before in
     rw (place c) (omega (arith, mod-lt (c .loop .v) (words-pos (s .args .n)), words-le (s .args .n) (omega (arith, s .pre .0))))
 
 word-count-requires : tie.Need-word-count-requires Inv-loop μ-loop
@@ -58,15 +58,18 @@ add-word-count c = omega arith
 word-count-requires-2 : tie.Need-word-count-requires-2 Inv-loop μ-loop
 word-count-requires-2 c κs = omega arith
 
+slice-aggregate-start-terms : tie.Need-slice-aggregate-start-terms Inv-loop μ-loop
+slice-aggregate-start-terms c = omega arith
+
 start-terms-requires : tie.Need-start-terms-requires Inv-loop μ-loop
-start-terms-requires c κs = omega arith
+start-terms-requires c κs = (omega arith, refl, λ t l. getD-replicate 64 t 0 0 l)
 
 loop-holds : tie.Need-loop-holds Inv-loop μ-loop
 loop-holds c =
-    let s = c .before .before .before .before .before in (
+    let s = c .before .before .before .before .before .before .before in (
       omega arith,
-      c .start-terms .ok .1 .0 .1,
-      (0, c .start-terms .ensures),
+      c .before .start-terms .kept .1 .1 .1 .0,
+      (0, c .before .start-terms .ensures),
       omega arith,
       refl,
       gathered-none (s .args .n) (passing s) _ (s .pre .1 .1 .1 .0),
@@ -83,11 +86,11 @@ move-terms-requires c κs = omega arith
 sub-add-choices : tie.Need-sub-add-choices Inv-loop μ-loop
 sub-add-choices c =
     let at-loop = c .before .before .before .before .before in
-    omega (arith, at-loop .before .before .before .word-count .ensures, words-pos (at-loop .before .before .before .before .before .before .args .n))
+    omega (arith, at-loop .before .before .before .before .before .word-count .ensures, words-pos (at-loop .before .before .before .before .before .before .before .before .args .n))
 
 add-choices-requires : tie.Need-add-choices-requires Inv-loop μ-loop
 add-choices-requires c κs =
-    let s = c .before .before .before .before .before .before .before .before .before .before .before .before .before in
+    let s = c .before .before .before .before .before .before .before .before .before .before .before .before .before .before .before in
     ((place-lt (c .before .before .before .before .before .before .before), omega arith, omega arith), (s .pre .1 .0, s .pre .1 .1 .0))
 
 add-v : tie.Need-add-v Inv-loop μ-loop
@@ -99,12 +102,12 @@ loop-less c = omega arith
 loop-again : tie.Need-loop-again Inv-loop μ-loop
 loop-again c =
     let at-loop = c .before .before .before .before .before .before .before .before .before .before .before .before in
-    let s = at-loop .before .before .before .before .before .before in
+    let s = at-loop .before .before .before .before .before .before .before .before in
     let l = at-loop .loop in
     let a = s .args in
     let moved = c .before .before .before .before .before .before .before .before .before in
     let r = c .before .before .before .before .add-choices in
-    let at = bitAnd (l .v) (at-loop .before .before .before .word-count .result - 1) in
+    let at = bitAnd (l .v) (at-loop .before .before .before .before .before .word-count .result - 1) in
     let terms = moved .move-terms .last .1 .1 .1 .0 in (
       omega arith,
       omega (arith, moved .move-terms .kept .1 .1 .1 .0),
@@ -126,7 +129,7 @@ loop-again c =
     )
 
 same-length : tie.Need-same-length Inv-loop μ-loop
-same-length c = omega (arith, c .before .before .before .before .before .before .before .pre .0)
+same-length c = omega (arith, c .before .before .before .before .before .before .before .before .before .pre .0)
 
 same-length-2 : tie.Need-same-length-2 Inv-loop μ-loop
 same-length-2 c = omega arith
@@ -134,9 +137,9 @@ same-length-2 c = omega arith
 returns : tie.Need-returns Inv-loop μ-loop
 returns c =
     let at-loop = c .before in
-    let s = at-loop .before .before .before .before .before .before in
+    let s = at-loop .before .before .before .before .before .before .before .before in
     let l = at-loop .loop in
-    let e : l .v ≡ wordCount (s .args .n + s .args .m) = omega (arith, at-loop .before .before .word-count2 .ensures) in (
+    let e : l .v ≡ wordCount (s .args .n + s .args .m) = omega (arith, at-loop .before .before .before .before .word-count2 .ensures) in (
       subst (λ v. Gathered (s .args .n) (passing s) v (λ w. getD (l .meets) w 0)) e (l .inv .5),
       (λ j k. subst (λ v. Gathered (s .args .n) (passing-but s j) v (λ w. getD (l .with) (64 * j + w) 0)) e (l .inv .6 j k), l .inv .7),
     )
@@ -150,6 +153,7 @@ gather-spec =
     word-count-requires
     add-word-count
     word-count-requires-2
+    slice-aggregate-start-terms
     start-terms-requires
     loop-holds
     slice-aggregate-move-terms
