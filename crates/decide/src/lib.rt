@@ -2,7 +2,7 @@
 use plans::Search;
 use show::Plan;
 ghost use mathlib.Core.Path.{_≡_};
-ghost use Prim.Native.Nat.{ℕ, _+_, _^_, _<_, _≤_, max};
+ghost use Prim.Native.Nat.{ℕ, _^_, _<_, _≤_, max};
 ghost use lib.ListN.{length, getD, take};
 ghost use Rattle.shares.specs.Constant.{constantLevels};
 ghost use Rattle.systems.specs.Questions.{Question as Asked, WellFormed, tallestConstant};

@@ -1,6 +1,6 @@
 // The reader of questions: a byte string becomes a question, or is refused with a number and a place.
 ghost use mathlib.Core.Path.{_≡_};
-ghost use Prim.Native.Nat.{ℕ, _+_, _≤_, _<_};
+ghost use Prim.Native.Nat.{_+_, _≤_, _<_};
 ghost use mathlib.Core.Bool.{true};
 ghost use lib.ListN.{length, getD, take, drop};
 ghost use Rattle.shares.specs.Constant.{number};
@@ -517,7 +517,7 @@ fn is_end(command: Command) -> bool
     }
 }
 
-// The commands after a head that fits. The arrays are working space, lent as slices.
+// The commands after a head that fits. The arrays are working space.
 fn read_commands(
     bytes: &[u8],
     kind: u8,

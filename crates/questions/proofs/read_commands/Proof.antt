@@ -41,14 +41,10 @@ refused-requires : tie.Need-refused-requires Inv-loop μ-loop
 refused-requires c κs = search needs
 
 same-length : tie.Need-same-length Inv-loop μ-loop
-same-length c =
-    let turn = c .before .before .before .before .before .before in
-    omega (arith, turn .loop .inv .stands .sizes .0, turn .before .before .before .before .before .pre .1 .1 .0)
+same-length c = search needs
 
 same-length-2 : tie.Need-same-length-2 Inv-loop μ-loop
-same-length-2 c =
-    let turn = c .before .before .before .before .before .before in
-    omega (arith, turn .loop .inv .stands .sizes .1, turn .before .before .before .before .before .pre .1 .1 .1)
+same-length-2 c = search needs
 
 returns : tie.Need-returns Inv-loop μ-loop
 returns c =
@@ -59,14 +55,10 @@ is-end-requires : tie.Need-is-end-requires Inv-loop μ-loop
 is-end-requires c κs = search needs
 
 same-length-3 : tie.Need-same-length-3 Inv-loop μ-loop
-same-length-3 c =
-    let turn = c .before .before .before .before .before .before .before .before in
-    omega (arith, turn .loop .inv .stands .sizes .0, turn .before .before .before .before .before .pre .1 .1 .0)
+same-length-3 c = search needs
 
 same-length-4 : tie.Need-same-length-4 Inv-loop μ-loop
-same-length-4 c =
-    let turn = c .before .before .before .before .before .before .before .before in
-    omega (arith, turn .loop .inv .stands .sizes .1, turn .before .before .before .before .before .pre .1 .1 .1)
+same-length-4 c = search needs
 
 returns-2 : tie.Need-returns-2 Inv-loop μ-loop
 returns-2 c =
@@ -77,14 +69,10 @@ refused-requires-2 : tie.Need-refused-requires-2 Inv-loop μ-loop
 refused-requires-2 c κs = search needs
 
 same-length-5 : tie.Need-same-length-5 Inv-loop μ-loop
-same-length-5 c =
-    let turn = c .before .before .before .before .before .before .before .before .before in
-    omega (arith, turn .loop .inv .stands .sizes .0, turn .before .before .before .before .before .pre .1 .1 .0)
+same-length-5 c = search needs
 
 same-length-6 : tie.Need-same-length-6 Inv-loop μ-loop
-same-length-6 c =
-    let turn = c .before .before .before .before .before .before .before .before .before in
-    omega (arith, turn .loop .inv .stands .sizes .1, turn .before .before .before .before .before .pre .1 .1 .1)
+same-length-6 c = search needs
 
 returns-3 : tie.Need-returns-3 Inv-loop μ-loop
 returns-3 c =
