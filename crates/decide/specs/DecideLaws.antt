@@ -26,7 +26,6 @@ use Rattle.systems.specs.Answers.{Answer, satisfied, unsatisfied, vacuous, enta
 use Rattle.systems.specs.AtLeaves.{firstAt, secondAt}
 use Rattle.systems.specs.Decide.{canSolve, canBreak, lowestMissed, decideKind, decide, sharesOf, fixed, shownWith}
 use Rattle.questions.specs.Held as held
-use Rattle.questions.specs.declared.Question.{Question as Struct}
 use Rattle.questions.specs.declared.Section.the-variants.{FirstDisequation, SecondDisequation}
 use Rattle.show.specs.declared.Plan.{Plan}
 use Rattle.show.specs.Plans as shown
@@ -55,7 +54,7 @@ stuck-sticks h q t =
     every-at _ (λ j. someBelow (2 ^ h) (specialAt (least (q .free)) (stuck (least (q .own)) (secondAt h q) (firstAt h q)) j))
     (and-right (everyBelow (2 ^ h) (plainAt (least (q .free)) (stuck (least (q .own)) (secondAt h q) (firstAt h q)))) _ t) 0 (suc-le-suc zero-le)
 
-module _ (x : Struct) (q : Question) (St : held.Stands x q) (h : ℕ) (low : h ≤ 5) where
+module _ (x : held.Held) (q : Question) (St : held.Stands x q) (h : ℕ) (low : h ≤ 5) where
   abbrev S : Stored
   S = storedOf x (q .free) (q .own)
 
@@ -103,7 +102,7 @@ module _ (x : Struct) (q : Question) (St : held.Stands x q) (h : ℕ) (low : h �
 
 -- ---- the six findings
 
-module _ (x : Struct) (q : Question) (St : held.Stands x q) (low : questionHeight q ≤ 5) where
+module _ (x : held.Held) (q : Question) (St : held.Stands x q) (low : questionHeight q ≤ 5) where
   abbrev H : ℕ
   H = questionHeight q
 

@@ -6,16 +6,15 @@ use lib.Dec.{T}
 use Rattle.systems.specs.Questions.{entailment, Question, WellFormed, questionHeight}
 use Rattle.systems.specs.Answers.{Answer, satisfied, unsatisfied, vacuous, entailed, unmet, missed, shows, heightGiven}
 use Rattle.systems.specs.Decide.{decide, shownAt}
-use Rattle.questions.specs.Held.{Stands}
-use Rattle.questions.specs.declared.Question.{Question as Struct}
+use Rattle.questions.specs.Held.{Held, heldOf, Stands}
 use Rattle.show.specs.declared.Plan.{Plan}
 use Rattle.show.specs.Plans as shown
 use Rattle.decide.specs.declared.Finding.{Finding}
 use Rattle.decide.specs.declared.Finding.the-variants.{Satisfied, Unsatisfied, Vacuous, Entailed, Unmet, Missed}
 use Rattle.decide.specs.declared.Decision.{Decision}
 
--- a struct stands for some well-formed question
-abbrev pub Standing : Struct → Type 0
+-- what is held stands for some well-formed question
+abbrev pub Standing : Held → Type 0
 Standing x = (q : Question) × Stands x q × WellFormed q
 
 -- the answer that each finding is
@@ -38,9 +37,7 @@ pub record Decided (q : Question) (r : Decision) : Type 0 where
   pub answer : answerOf (r .finding) ≡ decide q
   pub plan : T (shows (decide q)) → Planned q (r .plan)
 
--- the same for the parts of a struct that stands for an entailment, at its 2 ^ h leaves
+-- the same for parts that stand for an entailment, at its 2 ^ h leaves
 abbrev pub DecidedParts : List ℕ → List ℕ → List ℕ → ℕ → ℕ → ℕ → ℕ → Decision → Type 0
 DecidedParts clauses counts constants defined free own h r =
-    (kind : ℕ) (q : Question)
-    → Stands (record { kind = kind; free = free; own = own; constants = constants; defined = defined; clauses = clauses; counts = counts }) q
-    → q .kind ≡ entailment → h ≡ questionHeight q → Decided q r
+    (kind : ℕ) (q : Question) → Stands (heldOf kind clauses counts constants defined free own) q → q .kind ≡ entailment → h ≡ questionHeight q → Decided q r

@@ -1,4 +1,4 @@
--- A struct that stands for a question can be read, and has the question's height. Assumes nothing.
+-- What stands for a question can be read, and has the question's height. Assumes nothing.
 use mathlib.Core.Path.{_≡_, sym, ap}
 use mathlib.Core.List.{List}
 use Prim.Native.Nat.{ℕ, _+_, _*_, _/_, _%_, _≤_, _<_}
@@ -14,7 +14,6 @@ use Rattle.words.specs.Clause.{Clauses}
 use Rattle.questions.specs.Format.{mostOf, variablesFor}
 use Rattle.questions.specs.Held as held
 use Rattle.questions.specs.Callers.{bytes-small}
-use Rattle.questions.specs.declared.Question.{Question as Struct}
 use Rattle.questions.specs.declared.Section.{Section}
 use Rattle.questions.specs.declared.Section.the-variants.{FirstPositive, FirstDisequation, SecondPositive, SecondDisequation}
 use Rattle.plans.specs.Tests.{Readable, stored}
@@ -34,7 +33,7 @@ four l p r m b₀ b₁ b₂ b₃ = pick (ℕ-discrete r 0) (ℕ-discrete r 1) (�
     pick (no _) (no _) (yes e) = rw e b₂
     pick (no u) (no v) (no w) = let e : r ≡ 3 = omega arith in rw e b₃
 
-module _ (x : Struct) (q : Question) (St : held.Stands x q) where
+module _ (x : held.Held) (q : Question) (St : held.Stands x q) where
   -- no section names more variables than there may be
   variables-le : (σ : Section) → variablesFor (x .free) (x .own) σ ≤ 12
   variables-le FirstPositive = omega (arith, St .variables)
@@ -77,7 +76,7 @@ module _ (x : Struct) (q : Question) (St : held.Stands x q) where
   pub height-low : questionHeight q ≤ 5
   height-low = rw (← height-is) (tallest-low constantLevels (take (x .defined) (x .constants)))
 
-  -- ---- what was found of the struct's parts is found of the question
+  -- ---- what was found of the parts is found of the question
 
   pub solved-at : {h : ℕ} {search : Search} {r : Solved} → h ≡ questionHeight q
       → SolvedAs (stored (x .clauses) (x .counts) (x .constants) (x .defined) (x .free) (x .own)) h search r

@@ -1,4 +1,4 @@
--- A struct that stands for a question poses, in each search, the problem that the question does. Assumes nothing.
+-- What stands for a question poses, in each search, the problem that the question does. Assumes nothing.
 use mathlib.Core.Path.{_≡_, refl, sym, ap, ap₂, _∙_, fun-ext}
 use mathlib.Core.Bool.{Bool, true, false, not, cond, _&&_}
 use Prim.Native.Nat.{ℕ, zero, suc, _+_, _-_, _*_, _^_, _≤_, _<_}
@@ -22,7 +22,6 @@ use Rattle.questions.specs.Format.{inSection, variablesFor}
 use Rattle.questions.specs.Held as held
 use Rattle.questions.specs.HeldLaws.{atoms-length}
 use Rattle.questions.specs.Callers.{atoms-at}
-use Rattle.questions.specs.declared.Question.{Question as Struct}
 use Rattle.questions.specs.declared.Section.{Section}
 use Rattle.questions.specs.declared.Section.the-variants.{FirstPositive, FirstDisequation, SecondPositive, SecondDisequation}
 use Rattle.plans.specs.Numbers.{numbered}
@@ -31,11 +30,11 @@ use Rattle.plans.specs.Tests.{Stored, leafValues, firstMeets, firstDiffers, sec
 use Rattle.plans.specs.StoredLaws.{row-digit, atom-same, section-same}
 use Rattle.plans.specs.declared.Search.the-variants.{First, Stuck, Avoiding}
 
--- what a struct holds, with n free and m own variables
-abbrev pub storedOf : Struct → ℕ → ℕ → Stored
+-- what is held, with n free and m own variables
+abbrev pub storedOf : held.Held → ℕ → ℕ → Stored
 storedOf x n m = record { clauses = x .clauses; counts = x .counts; constants = x .constants; defined = x .defined; free = n; own = m }
 
-module _ (x : Struct) (q : Question) (St : held.Stands x q) (h : ℕ) where
+module _ (x : held.Held) (q : Question) (St : held.Stands x q) (h : ℕ) where
   abbrev S : Stored
   S = storedOf x (q .free) (q .own)
 

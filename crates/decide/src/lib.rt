@@ -1,13 +1,12 @@
 // Deciding a question that was read: which searches have a solution, and the plan of the one to show.
 use plans::Search;
-use questions::Question;
 use show::Plan;
 ghost use mathlib.Core.Path.{_≡_};
-ghost use Prim.Native.Nat.{ℕ, _+_, _^_, _<_, _≤_, max};
+ghost use Prim.Native.Nat.{ℕ, _^_, _<_, _≤_, max};
 ghost use lib.ListN.{length, getD, take};
 ghost use Rattle.shares.specs.Constant.{constantLevels};
 ghost use Rattle.systems.specs.Questions.{Question as Asked, WellFormed, tallestConstant};
-ghost use Rattle.questions.specs.Held.{Stands};
+ghost use Rattle.questions.specs.Held.{heldOf, Stands};
 ghost use Rattle.plans.specs.Tests.{Readable};
 ghost use Rattle.decide.specs.Decision.{Standing, Decided, DecidedParts};
 
@@ -124,23 +123,28 @@ fn decide_entailment(
     }
 }
 
-// Decides a question.
-pub fn decide(question: Question) -> Decision
-    requires { ⌜ Standing question ⌝ }
-    ensures { λ r. ⌜ ((q : Asked) → Stands question q → WellFormed q → Decided q r) ⌝ }
+// Decides a question whose parts are lent.
+pub fn decide(
+    kind: u8,
+    clauses: &[u8; 768],
+    counts: &[usize; 4],
+    constants: &[u64; 32],
+    defined: usize,
+    free: usize,
+    own: usize,
+) -> Decision
+    requires { ⌜ Standing (heldOf kind (now clauses) (now counts) (now constants) defined free own) ⌝ }
+    ensures { λ r. ⌜ ((q : Asked) → Stands (heldOf kind (now (clauses .entry)) (now (counts .entry)) (now (constants .entry)) defined free own) q → WellFormed q → Decided q r) ⌝ }
 {
-    let clauses = question.clauses;
-    let counts = question.counts;
-    let constants = question.constants;
-    let h = height_of(&constants, question.defined);
-    if question.kind == 0 {
+    let h = height_of(constants, defined);
+    if kind == 0 {
         let first = plans::solve(
-            &clauses,
-            &counts,
-            &constants,
-            question.defined,
-            question.free,
-            question.own,
+            clauses,
+            counts,
+            constants,
+            defined,
+            free,
+            own,
             h,
             Search::First,
         );
@@ -156,13 +160,5 @@ pub fn decide(question: Question) -> Decision
             plan,
         };
     }
-    decide_entailment(
-        &clauses,
-        &counts,
-        &constants,
-        question.defined,
-        question.free,
-        question.own,
-        h,
-    )
+    decide_entailment(clauses, counts, constants, defined, free, own, h)
 }

@@ -6,7 +6,7 @@ use Prim.Native.Nat.{ℕ, zero, suc, _+_, _≤_, _<_}
 use native.Mathlib.Omega.{arith}
 use borrow.Author.Tests.{eqb-true, eqb-false, eq-eqb, ne-eqb}
 use lib.Dec.{eqb}
-use lib.ListN.{length, replicate, length-replicate}
+use lib.ListN.{length, replicate}
 use Rattle.systems.specs.Clauses.{positives, disequations}
 use Rattle.systems.specs.Questions.{Question, satisfiability, entailment}
 use Rattle.questions.specs.declared.Section.{Section}
@@ -16,20 +16,19 @@ use Rattle.questions.specs.declared.Head.{Head}
 use Rattle.questions.specs.declared.Head.the-variants.{Fits, Wrong}
 use Rattle.questions.specs.declared.Step.{Step}
 use Rattle.questions.specs.declared.Step.the-variants.{Take, Refused}
-use Rattle.questions.specs.declared.Question.{Question as Struct}
 use Rattle.questions.specs.declared.Reading.{Reading}
 use Rattle.questions.specs.Format.{Result, refused, accepted, readAt, fault, judged, taken, ended, go, stop, onward, turn, following, run, headFits, kindFrom, mostOf, inSection, opened, headOf, read}
-use Rattle.questions.specs.Held.{kindNumber, sectionStart, atomsOf, countOf, keptConstants, constantCount, keptClauses, clauseCounts, judgedOf, refusalOf, isEnd, wrongOf, Stands, refusedAs, acceptedAs, HandsBack}
+use Rattle.questions.specs.Held.{kindNumber, sectionStart, atomsOf, countOf, keptConstants, constantCount, keptClauses, clauseCounts, judgedOf, refusalOf, isEnd, wrongOf, Held, heldOf, Stands, refusedAs, HandsBack}
 use Rattle.questions.specs.FormatLaws.{judged-take, size-some, Whole, read-whole, branch, Sound, Stay, Kept, turn-kept, head-fits, opened-sound, HeadRight, head-right}
 use Rattle.questions.specs.HeldLaws.{Bytes, ProperStep, read-proper, judged-same, kept, stands-taken}
 
 -- ---- where the reading stands: some turns from here give what the whole reading gives
 
 -- nothing held but the head
-abbrev pub opening : ℕ → ℕ → ℕ → Struct
-opening kind free own = record { kind = kind; free = free; own = own; constants = replicate 32 0; defined = 0; clauses = replicate 768 0; counts = replicate 4 0 }
+abbrev pub opening : ℕ → ℕ → ℕ → List ℕ → List ℕ → Held
+opening kind free own constants clauses = heldOf kind clauses (replicate 4 0) constants 0 free own
 
-pub record Going (s : List ℕ) (x : Struct) (q₀ : Question) (at : ℕ) : Type 0 where
+pub record Going (s : List ℕ) (x : Held) (q₀ : Question) (at : ℕ) : Type 0 where
   pub q : Question
   pub stands : Stands x q
   pub sound : Sound q at
@@ -43,9 +42,10 @@ kind-number kind h =
     branch (λ k. kind ≡ kindNumber k) (eqb kind 0) satisfiability entailment (λ e. eqb-true kind 0 e)
     (λ e. let f = eqb-false kind 0 e in omega arith)
 
-stands-opened : (kind n m : ℕ) → headFits kind n m ≡ true → Stands (opening kind n m) (opened kind n m)
+stands-opened : (kind n m : ℕ) (constants clauses : List ℕ) → length constants ≡ 32 → length clauses ≡ 768 → headFits kind n m ≡ true
+    → Stands (opening kind n m constants clauses) (opened kind n m)
 unfolding opened atomsOf positives disequations
-stands-opened kind n m e =
+stands-opened kind n m constants clauses lk lc e =
     let h = head-fits kind n m e in
     record {
       kind = kind-number kind (h .kinds);
@@ -58,7 +58,7 @@ stands-opened kind n m e =
       constantCounted = omega arith;
       small = λ i l. absurd (omega arith);
       clauses = λ σ i l. absurd (omega (arith, empty σ));
-      sizes = (refl, length-replicate {A = ℕ} 768 0, refl);
+      sizes = (lk, lc, refl);
     }
   where
     empty : (σ : Section) → countOf (replicate 4 0) σ ≡ 0
@@ -70,16 +70,17 @@ stands-opened kind n m e =
     counted : (σ : Section) → countOf (replicate 4 0) σ ≤ mostOf σ
     counted σ = omega (arith, empty σ)
 
-    none : (σ : Section) → atomsOf (replicate 768 0) (sectionStart σ) (countOf (replicate 4 0) σ) ≡ inSection (opened kind n m) σ
+    none : (σ : Section) → atomsOf clauses (sectionStart σ) (countOf (replicate 4 0) σ) ≡ inSection (opened kind n m) σ
     none FirstPositive = refl
     none FirstDisequation = refl
     none SecondPositive = refl
     none SecondDisequation = refl
 
-pub begins : (s : List ℕ) (kind n m : ℕ) → 4 ≤ length s → headFits kind n m ≡ true → Going s (opening kind n m) (opened kind n m) 4
-begins s kind n m h e = record {
+pub begins : (s : List ℕ) (kind n m : ℕ) (constants clauses : List ℕ) → length constants ≡ 32 → length clauses ≡ 768 → 4 ≤ length s
+    → headFits kind n m ≡ true → Going s (opening kind n m constants clauses) (opened kind n m) 4
+begins s kind n m constants clauses lk lc h e = record {
   q = opened kind n m;
-  stands = stands-opened kind n m e;
+  stands = stands-opened kind n m constants clauses lk lc e;
   sound = opened-sound kind n m e;
   within = h;
   turns = length s;
@@ -101,7 +102,7 @@ goes-on s at q Command.Head next e = refl
 goes-on s at q (Command.Constant x) next e = refl
 goes-on s at q (Command.Clause σ t a b c) next e = refl
 
-module _ (s : List ℕ) (x : Struct) (q₀ : Question) (at : ℕ) (g : Going s x q₀ at) (r : Step)
+module _ (s : List ℕ) (x : Held) (q₀ : Question) (at : ℕ) (g : Going s x q₀ at) (r : Step)
     (e : r ≡ judgedOf (x .kind) (x .free) (x .own) (x .defined) (x .counts) (readAt s at)) where
   judged-is : r ≡ judged (g .q) (readAt s at)
   judged-is = e ∙ judged-same x (g .q) (g .stands) (readAt s at)
@@ -118,9 +119,12 @@ module _ (s : List ℕ) (x : Struct) (q₀ : Question) (at : ℕ) (g : Going s x
       by zero h z = absurd (omega (arith, g .within))
       by (suc k) h z = sym z ∙ ap (following (λ q′ at′. run k s at′ q′)) (turn-is ∙ f)
 
-  pub refused-turn : (n m : ℕ) (out : Reading) → r ≡ Refused n → m ≡ refusalOf r → out ≡ refusedAs m at → HandsBack (run (length s) s 4 q₀) out
-  refused-turn n m out t h o =
-      rw (stops (refused n at) (ap (onward s at (g .q)) t), o, h, t) (refl, refl, refl)
+  -- what the whole reading gives
+  abbrev Gives : Reading → Type 0
+  Gives out = HandsBack (run (length s) s 4 q₀) out (x .constants) (x .clauses) (x .counts)
+
+  pub refused-turn : (n m : ℕ) (out : Reading) → r ≡ Refused n → m ≡ refusalOf r → out ≡ refusedAs m at → Gives out
+  refused-turn n m out t h o = rw (stops (refused n at) (ap (onward s at (g .q)) t), o, h, t) refl
 
   module _ (c : Command) (next : ℕ) (t : r ≡ Take c next) where
     taken-is : (readAt s at ≡ Take c next) × (fault (g .q) c ≡ 0)
@@ -135,17 +139,18 @@ module _ (s : List ℕ) (x : Struct) (q₀ : Question) (at : ℕ) (g : Going s x
     end-is : isEnd c ≡ true → onward s at (g .q) r ≡ stop (ended s next (g .q))
     end-is h = ap (onward s at (g .q)) (t ∙ ap (λ k. Take k next) (is-end c h))
 
-    pub accepted-turn : (out : Reading) → isEnd c ≡ true → next ≡ length s → out ≡ acceptedAs x → HandsBack (run (length s) s 4 q₀) out
+    pub accepted-turn : isEnd c ≡ true → next ≡ length s
+        → Gives (record { refusal = 0; place = 0; kind = x .kind; free = x .free; own = x .own; defined = x .defined })
     unfolding ended
-    accepted-turn out h l o =
+    accepted-turn h l =
         let a : ended s next (g .q) ≡ accepted (g .q) = simp (eq-eqb next (length s) l) in
-        rw (stops (accepted (g .q)) (end-is h ∙ ap stop a), o) (refl, refl, g .stands)
+        rw (stops (accepted (g .q)) (end-is h ∙ ap stop a)) (refl, refl, g .stands)
 
-    pub after-end : (out : Reading) → isEnd c ≡ true → (next ≡ length s → ⊥) → out ≡ refusedAs 10 next → HandsBack (run (length s) s 4 q₀) out
+    pub after-end : (out : Reading) → isEnd c ≡ true → (next ≡ length s → ⊥) → out ≡ refusedAs 10 next → Gives out
     unfolding ended
     after-end out h l o =
         let a : ended s next (g .q) ≡ refused 10 next = simp (ne-eqb next (length s) l) in
-        rw (stops (refused 10 next) (end-is h ∙ ap stop a), o) (refl, refl, refl)
+        rw (stops (refused 10 next) (end-is h ∙ ap stop a), o) refl
 
     pub goes : Bytes s → isEnd c ≡ false → Going s (kept x c) q₀ next
     unfolding run
@@ -166,24 +171,26 @@ module _ (s : List ℕ) (x : Struct) (q₀ : Question) (at : ℕ) (g : Going s x
           same = sym (ap (following (λ q′ at′. run k s at′ q′)) on) ∙ z;
         }
 
--- the struct of the next turn, field by field
-pub going-kept : (s : List ℕ) (x : Struct) (q₀ : Question) (next : ℕ) (c : Command) (constants : List ℕ) (defined : ℕ) (clauses counts : List ℕ)
+-- what is held at the next turn, field by field
+pub going-kept : (s : List ℕ) (x : Held) (q₀ : Question) (next : ℕ) (c : Command) (constants : List ℕ) (defined : ℕ) (clauses counts : List ℕ)
     → constants ≡ keptConstants (x .constants) (x .defined) c → defined ≡ constantCount (x .defined) c
     → clauses ≡ keptClauses (x .clauses) (x .counts) c → counts ≡ clauseCounts (x .counts) c → Going s (kept x c) q₀ next
-    → Going s (record { kind = x .kind; free = x .free; own = x .own; constants = constants; defined = defined; clauses = clauses; counts = counts }) q₀ next
+    → Going s (heldOf (x .kind) clauses counts constants defined (x .free) (x .own)) q₀ next
 going-kept s x q₀ next c constants defined clauses counts e f g h k = rw (e, f, g, h) k
 
 -- ---- the whole
 
 module _ (s : List ℕ) (h : Head) (e : h ≡ headOf s) where
-  pub refused-head : (n m : ℕ) (out : Reading) → h ≡ Wrong n → m ≡ wrongOf h → out ≡ refusedAs m 0 → HandsBack (read s) out
+  pub refused-head : (n m : ℕ) (out : Reading) (constants clauses counts : List ℕ) → h ≡ Wrong n → m ≡ wrongOf h → out ≡ refusedAs m 0
+      → HandsBack (read s) out constants clauses counts
   unfolding read
-  refused-head n m out t k o = rw (← e, t, o, k, t) (refl, refl, refl)
+  refused-head n m out constants clauses counts t k o = rw (← e, t, o, k, t) refl
 
   module _ (kind free own : ℕ) (t : h ≡ Fits kind free own) where
     pub head-taken : (4 ≤ length s) × (headFits kind free own ≡ true)
     head-taken = subst (HeadRight s) (sym e ∙ t) (head-right s)
 
-    pub read-on : (out : Reading) → HandsBack (run (length s) s 4 (opened kind free own)) out → HandsBack (read s) out
+    pub read-on : (out : Reading) (constants clauses counts : List ℕ) → HandsBack (run (length s) s 4 (opened kind free own)) out constants clauses counts
+        → HandsBack (read s) out constants clauses counts
     unfolding read
-    read-on out a = rw (← e, t) a
+    read-on out constants clauses counts a = rw (← e, t) a

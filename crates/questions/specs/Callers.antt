@@ -1,4 +1,4 @@
--- What a caller of the reader may rely on: its answer, and the struct that it hands over. Assumes nothing.
+-- What a caller of the reader may rely on: its answer, and what it holds of the question. Assumes nothing.
 use mathlib.Core.Path.{_≡_, refl, sym, ap, _∙_}
 use mathlib.Core.List.{List, [], _∷_, _++_}
 use mathlib.Core.Logic.{_⊎_, inl, inr}
@@ -14,17 +14,16 @@ use Rattle.shares.specs.Test.{and-left, and-right}
 use Rattle.systems.specs.Clauses.{variable, constant, Atom, positives, disequations}
 use Rattle.systems.specs.Questions.{Kind, satisfiability, entailment, Question, WellFormed}
 use Rattle.questions.specs.declared.Section.the-variants.{FirstPositive, FirstDisequation, SecondPositive, SecondDisequation}
-use Rattle.questions.specs.declared.Question.{Question as Struct}
 use Rattle.questions.specs.declared.Reading.{Reading}
 use Rattle.questions.specs.Format.{Result, refused, accepted, termOf, names, thirdNamed, read}
-use Rattle.questions.specs.Held.{kindNumber, testOf, storedAtom, atomsOf, StoredClause, Stands, nothingHeld, HandsBack}
+use Rattle.questions.specs.Held.{kindNumber, testOf, storedAtom, atomsOf, Held, StoredClause, Stands, refusedAs, heldBy, HandsBack}
 use Rattle.questions.specs.FormatLaws.{longest, Limited, accepted-formed, accepted-limited, refusal-number, refusal-place}
 use Rattle.questions.specs.HeldLaws.{atoms-length, named-small}
 
 -- ---- the answer
 
--- refusal 0: the bytes are those of a question, and the struct stands for it
-pub record Taken (s : List ℕ) (x : Struct) : Type 0 where
+-- refusal 0: the bytes are those of a question, and what is held stands for it
+pub record Taken (s : List ℕ) (x : Held) : Type 0 where
   pub question : Question
   pub read : read s ≡ accepted question
   pub stands : Stands x question
@@ -36,31 +35,26 @@ pub record TurnedAway (s : List ℕ) (r : Reading) : Type 0 where
   pub read : read s ≡ refused (r .refusal) (r .place)
   pub number : (1 ≤ r .refusal) × (r .refusal ≤ 10)
   pub place : r .place ≤ longest
-  pub nothing : r .question ≡ nothingHeld
+  pub nothing : r ≡ refusedAs (r .refusal) (r .place)
 
-module _ (s : List ℕ) (r : Reading) (a : HandsBack (read s) r) where
-  pub answer-taken : r .refusal ≡ 0 → Taken s (r .question)
+module _ (s : List ℕ) (r : Reading) (constants clauses counts : List ℕ) (a : HandsBack (read s) r constants clauses counts) where
+  pub answer-taken : r .refusal ≡ 0 → Taken s (heldBy r constants clauses counts)
   answer-taken e = pick (read s) refl a
     where
-      pick : (o : Result) → read s ≡ o → HandsBack o r → Taken s (r .question)
+      pick : (o : Result) → read s ≡ o → HandsBack o r constants clauses counts → Taken s (heldBy r constants clauses counts)
       pick (accepted q) h b = record { question = q; read = h; stands = b .2; formed = accepted-formed s q h; limited = accepted-limited s q h }
-      pick (refused n p) h b = absurd (omega (arith, refusal-number s n p h .0, b .0))
+      pick (refused n p) h b = absurd (omega (arith, refusal-number s n p h .0, ap (λ r. r .refusal) b))
 
   pub answer-refused : (r .refusal ≡ 0 → ⊥) → TurnedAway s r
   answer-refused e = pick (read s) refl a
     where
-      pick : (o : Result) → read s ≡ o → HandsBack o r → TurnedAway s r
+      pick : (o : Result) → read s ≡ o → HandsBack o r constants clauses counts → TurnedAway s r
       pick (accepted q) h b = absurd (e (b .0))
-      pick (refused n p) h b = record {
-        read = rw (b .0, b .1) h;
-        number = rw (b .0) (refusal-number s n p h);
-        place = rw (b .1) (refusal-place s n p h);
-        nothing = b .2;
-      }
+      pick (refused n p) h b = rw b (record { read = h; number = refusal-number s n p h; place = refusal-place s n p h; nothing = refl })
 
--- ---- the struct
+-- ---- what is held
 
-module _ (x : Struct) (q : Question) (d : Stands x q) where
+module _ (x : Held) (q : Question) (d : Stands x q) where
   pub kind-satisfiability : x .kind ≡ 0 → q .kind ≡ satisfiability
   kind-satisfiability e = pick (q .kind) (sym (d .kind) ∙ e)
     where

@@ -1,10 +1,10 @@
--- How the code holds a question, and when a struct stands for a question of the model. Assumes nothing.
+-- How the code holds a question, and when what is held stands for a question of the model. Assumes nothing.
 use mathlib.Core.Path.{_≡_}
 use mathlib.Core.Bool.{Bool, true, false, cond, _&&_}
 use mathlib.Core.List.{List, [], _∷_, _++_}
 use Prim.Native.Nat.{ℕ, zero, suc, _+_, _*_, _^_, _≤_, _<_}
 use lib.Dec.{T, eqb, ltb, leb}
-use lib.ListN.{length, getD, set, take, replicate}
+use lib.ListN.{length, getD, set, take}
 use Rattle.shares.specs.Constant.{constantLevels}
 use Rattle.systems.specs.Clauses.{Atom}
 use Rattle.systems.specs.Questions.{Kind, satisfiability, entailment, Question}
@@ -17,7 +17,6 @@ use Rattle.questions.specs.declared.Step.{Step}
 use Rattle.questions.specs.declared.Step.the-variants.{Take, Refused}
 use Rattle.questions.specs.declared.Head.{Head}
 use Rattle.questions.specs.declared.Head.the-variants.{Fits, Wrong}
-use Rattle.questions.specs.declared.Question.{Question as Struct}
 use Rattle.questions.specs.declared.Reading.{Reading}
 use Rattle.questions.specs.Format.{Result, refused, accepted, mostVariables, mostConstants, constantBytes, isSecond, mostOf, inSection, allNamed, variablesFor, atomOf, clauseFault, constantFault}
 
@@ -143,7 +142,22 @@ abbrev pub wrongOf : Head → ℕ
 wrongOf (Fits kind free own) = 0
 wrongOf (Wrong n) = n
 
--- ---- the struct
+-- ---- a question that was read
+
+-- what is held of a question: the head, the constants of which so many are defined, the clauses' bytes, and how many each section has
+pub record Held : Type 0 where
+  pub kind : ℕ
+  pub free : ℕ
+  pub own : ℕ
+  pub constants : List ℕ
+  pub defined : ℕ
+  pub clauses : List ℕ
+  pub counts : List ℕ
+
+-- the same from its parts, in the order in which they are lent
+abbrev pub heldOf : ℕ → List ℕ → List ℕ → List ℕ → ℕ → ℕ → ℕ → Held
+heldOf kind clauses counts constants defined free own =
+    record { kind = kind; free = free; own = own; constants = constants; defined = defined; clauses = clauses; counts = counts }
 
 -- a stored clause: a test that there is, and terms that each name something defined (the third byte of an equality is 0)
 pub record StoredClause (n k t a b c : ℕ) : Type 0 where
@@ -151,14 +165,14 @@ pub record StoredClause (n k t a b c : ℕ) : Type 0 where
   pub named : T (allNamed n k (testOf t) a b c)
   pub third : c < 64
 
--- the four bytes at an offset of the struct's clauses are such a clause, of a section
-abbrev pub StoredAt : Struct → Section → ℕ → Type 0
+-- the four bytes at an offset of the clauses are such a clause, of a section
+abbrev pub StoredAt : Held → Section → ℕ → Type 0
 StoredAt x σ i =
     StoredClause (variablesFor (x .free) (x .own) σ) (x .defined) (getD (x .clauses) i 0) (getD (x .clauses) (i + 1) 0)
     (getD (x .clauses) (i + 2) 0) (getD (x .clauses) (i + 3) 0)
 
--- the struct x stands for the question q, and what is safe to rely on in it
-pub record Stands (x : Struct) (q : Question) : Type 0 where
+-- what is held stands for the question q, and what is safe to rely on in it
+pub record Stands (x : Held) (q : Question) : Type 0 where
   pub kind : x .kind ≡ kindNumber (q .kind)
   pub free : x .free ≡ q .free
   pub own : x .own ≡ q .own
@@ -171,17 +185,14 @@ pub record Stands (x : Struct) (q : Question) : Type 0 where
   pub clauses : (σ : Section) (i : ℕ) → i < countOf (x .counts) σ → StoredAt x σ (sectionStart σ + 4 * i)
   pub sizes : (length (x .constants) ≡ mostConstants) × (length (x .clauses) ≡ 768) × (length (x .counts) ≡ 4)
 
--- nothing is held
-unfoldable pub nothingHeld : Struct
-nothingHeld = record { kind = 0; free = 0; own = 0; constants = replicate 32 0; defined = 0; clauses = replicate 768 0; counts = replicate 4 0 }
-
 abbrev pub refusedAs : ℕ → ℕ → Reading
-refusedAs n place = record { refusal = n; place = place; question = nothingHeld }
+refusedAs n place = record { refusal = n; place = place; kind = 0; free = 0; own = 0; defined = 0 }
 
-abbrev pub acceptedAs : Struct → Reading
-acceptedAs x = record { refusal = 0; place = 0; question = x }
+-- what the reader's answer and its arrays hold
+abbrev pub heldBy : Reading → List ℕ → List ℕ → List ℕ → Held
+heldBy r constants clauses counts = heldOf (r .kind) clauses counts constants (r .defined) (r .free) (r .own)
 
 -- what the code hands back for what the definition gives
-abbrev pub HandsBack : Result → Reading → Type 0
-HandsBack (refused n place) r = (r .refusal ≡ n) × (r .place ≡ place) × (r .question ≡ nothingHeld)
-HandsBack (accepted q) r = (r .refusal ≡ 0) × (r .place ≡ 0) × Stands (r .question) q
+abbrev pub HandsBack : Result → Reading → List ℕ → List ℕ → List ℕ → Type 0
+HandsBack (refused n place) r constants clauses counts = r ≡ refusedAs n place
+HandsBack (accepted q) r constants clauses counts = (r .refusal ≡ 0) × (r .place ≡ 0) × Stands (heldBy r constants clauses counts) q

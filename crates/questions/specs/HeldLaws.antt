@@ -1,4 +1,4 @@
--- Laws of the struct that stands for a question: its counts, its faults, and one command more. Assumes nothing.
+-- Laws of what is held of a question: its counts, its faults, and one command more. Assumes nothing.
 use mathlib.Core.Path.{_≡_, refl, sym, ap, ap₂, subst, _∙_}
 use mathlib.Core.Bool.{Bool, true, false, cond}
 use mathlib.Core.List.{List, [], _∷_, _++_}
@@ -26,9 +26,8 @@ use Rattle.questions.specs.declared.Head.{Head}
 use Rattle.questions.specs.declared.Head.the-variants.{Fits, Wrong}
 use Rattle.questions.specs.declared.Step.{Step}
 use Rattle.questions.specs.declared.Step.the-variants.{Take, Refused}
-use Rattle.questions.specs.declared.Question.{Question as Struct}
 use Rattle.questions.specs.Format.{Result, refused, accepted, mostConstants, constantBytes, entryOf, operands, commandOf, wholeAt, readAt, mostOf, inSection, names, variablesFor, allNamed, atomOf, isForeign, constantFault, fault, judged, withClause, withConstant, taken, ended, onward, turn, opened, headOf, afterHead, read}
-use Rattle.questions.specs.Held.{kindNumber, sectionNumber, testNumber, testOf, sectionStart, storedAtom, atomsOf, stored, countOf, nextSlot, keptConstants, constantCount, keptClauses, clauseCounts, Slot, Counted, clauseTotal, foreignTo, faultOf, judgedOf, StoredClause, Stands}
+use Rattle.questions.specs.Held.{kindNumber, sectionNumber, testNumber, testOf, sectionStart, storedAtom, atomsOf, stored, countOf, nextSlot, keptConstants, constantCount, keptClauses, clauseCounts, Slot, Counted, clauseTotal, foreignTo, faultOf, judgedOf, Held, StoredClause, Stands}
 use Rattle.questions.specs.SectionLaws.{both-counts, added, Apart, Alike, same, other, alike, constant-sections, clause-keeps, section-below, slot-fits}
 use Rattle.questions.specs.FormatLaws.{branch, Stay, run-law, ClauseFits, clause-fits, ConstantFits, constant-fits}
 
@@ -194,9 +193,9 @@ variables-small free own FirstDisequation h = omega arith
 variables-small free own SecondPositive h = omega arith
 variables-small free own SecondDisequation h = omega arith
 
--- ---- the struct with one command more
+-- ---- what is held with one command more
 
-abbrev pub kept : Struct → Command → Struct
+abbrev pub kept : Held → Command → Held
 kept x c = record {
   kind = x .kind;
   free = x .free;
@@ -207,7 +206,7 @@ kept x c = record {
   counts = clauseCounts (x .counts) c;
 }
 
-module _ (x : Struct) (q : Question) (d : Stands x q) where
+module _ (x : Held) (q : Question) (d : Stands x q) where
   pub defined-count : length (q .constants .numbers) ≡ x .defined
   defined-count =
       ap (λ cs. length (cs .numbers)) (d .constants) ∙ length-take-le (x .defined) (x .constants) (omega (arith, d .constantCounted, d .sizes .0))
@@ -403,11 +402,11 @@ module _ (x : Struct) (q : Question) (d : Stands x q) where
         }
 
   -- there is room for a command with no fault
-  pub room-constant : (c : Command) → fault q c ≡ 0 → constantCount (x .defined) c ≤ mostConstants
-  room-constant Command.End e = d .constantCounted
-  room-constant Command.Head e = d .constantCounted
-  room-constant (Command.Constant v) e = omega (arith, constant-fits q v e .room, defined-count)
-  room-constant (Command.Clause σ t a b c) e = d .constantCounted
+  pub room-constant : (c : Command) → fault q c ≡ 0 → constantCount (x .defined) c ≤ length (x .constants)
+  room-constant Command.End e = omega (arith, d .constantCounted, d .sizes .0)
+  room-constant Command.Head e = omega (arith, d .constantCounted, d .sizes .0)
+  room-constant (Command.Constant v) e = omega (arith, constant-fits q v e .room, defined-count, d .sizes .0)
+  room-constant (Command.Clause σ t a b c) e = omega (arith, d .constantCounted, d .sizes .0)
 
   pub room-clause : (c : Command) → fault q c ≡ 0 → Slot (x .counts) c
   room-clause Command.End e = tt

@@ -1,11 +1,11 @@
 // The reader of questions: a byte string becomes a question, or is refused with a number and a place.
 ghost use mathlib.Core.Path.{_≡_};
-ghost use Prim.Native.Nat.{ℕ, _+_, _≤_, _<_};
+ghost use Prim.Native.Nat.{_+_, _≤_, _<_};
 ghost use mathlib.Core.Bool.{true};
 ghost use lib.ListN.{length, getD, take, drop};
 ghost use Rattle.shares.specs.Constant.{number};
 ghost use Rattle.questions.specs.Format.{entryOf, termCount, operands, thirdAt, commandOf, readAt, isSecond, mostOf, names, variablesFor, allNamed, clauseFault, constantFault, headFits, opened, run, headOf, read};
-ghost use Rattle.questions.specs.Held.{sectionNumber, testNumber, sectionStart, countOf, keptConstants, constantCount, keptClauses, clauseCounts, Slot, stored, Counted, clauseTotal, foreignTo, faultOf, judgedOf, refusalOf, isEnd, wrongOf, nothingHeld, refusedAs, acceptedAs, HandsBack};
+ghost use Rattle.questions.specs.Held.{sectionNumber, testNumber, sectionStart, countOf, keptConstants, constantCount, keptClauses, clauseCounts, Slot, stored, Counted, clauseTotal, foreignTo, faultOf, judgedOf, refusalOf, isEnd, wrongOf, refusedAs, HandsBack};
 
 // The positive clauses and the disequations of each system.
 pub enum Section {
@@ -59,23 +59,16 @@ pub enum Head {
     Wrong(u8),
 }
 
-// A question that was read. A clause is four bytes: its test (0 join, 1 equality) and its terms (the third is 0 for an equality).
+// What reading gives: refusal 0 and the head of the question with its number of constants, or a refusal with its place. The constants, clauses
+// and counts are in the lent arrays. A clause is four bytes: its test (0 join, 1 equality) and its terms (the third is 0 for an equality).
 // Sections: 0 first positive, from byte 0; 1 first disequations, from 256; 2 second positive, from 384; 3 second disequations, from 640.
-pub struct Question {
-    pub kind: u8,
-    pub free: usize,
-    pub own: usize,
-    pub constants: [u64; 32],
-    pub defined: usize,
-    pub clauses: [u8; 768],
-    pub counts: [usize; 4],
-}
-
-// What reading gives: refusal 0 and the question, or a refusal with its place and a question that is all zero.
 pub struct Reading {
     pub refusal: u8,
     pub place: usize,
-    pub question: Question,
+    pub kind: u8,
+    pub free: usize,
+    pub own: usize,
+    pub defined: usize,
 }
 
 // ---- the table of commands
@@ -418,8 +411,8 @@ fn refusal_of(r: Step) -> u8
 
 // ---- a command kept
 
-fn keep_constant(constants: &mut [u64; 32], count: usize, command: Command) -> usize
-    requires { ⌜ constantCount count command ≤ 32 ⌝ }
+fn keep_constant(constants: &mut [u64], count: usize, command: Command) -> usize
+    requires { ⌜ constantCount count command ≤ length (now constants) ⌝ }
     ensures { λ r. ⌜ (now (constants .exit) ≡ keptConstants (now (constants .entry)) count command) × (r ≡ constantCount count command) ⌝ }
 {
     match command {
@@ -439,8 +432,8 @@ fn keep_constant(constants: &mut [u64; 32], count: usize, command: Command) -> u
     }
 }
 
-fn store(clauses: &mut [u8; 768], i: usize, t: u8, a: u8, b: u8, c: u8)
-    requires { ⌜ i + 4 ≤ 768 ⌝ }
+fn store(clauses: &mut [u8], i: usize, t: u8, a: u8, b: u8, c: u8)
+    requires { ⌜ i + 4 ≤ length (now clauses) ⌝ }
     ensures { λ _. ⌜ now (clauses .exit) ≡ stored (now (clauses .entry)) i t a b c ⌝ }
 {
     clauses[i] = t;
@@ -449,7 +442,8 @@ fn store(clauses: &mut [u8; 768], i: usize, t: u8, a: u8, b: u8, c: u8)
     clauses[i + 3] = c;
 }
 
-fn keep_clause(clauses: &mut [u8; 768], counts: &[usize; 4], command: Command)
+fn keep_clause(clauses: &mut [u8], counts: &[usize; 4], command: Command)
+    requires { ⌜ length (now clauses) ≡ 768 ⌝ }
     requires { ⌜ Slot (now counts) command ⌝ }
     ensures { λ _. ⌜ now (clauses .exit) ≡ keptClauses (now (clauses .entry)) (now (counts .entry)) command ⌝ }
 {
@@ -499,25 +493,10 @@ fn refused(refusal: u8, place: usize) -> Reading
     Reading {
         refusal,
         place,
-        question: Question {
-            kind: 0,
-            free: 0,
-            own: 0,
-            constants: [0; 32],
-            defined: 0,
-            clauses: [0; 768],
-            counts: [0; 4],
-        },
-    }
-}
-
-fn accepted(question: Question) -> Reading
-    ensures { λ r. ⌜ r ≡ acceptedAs question ⌝ }
-{
-    Reading {
-        refusal: 0,
-        place: 0,
-        question,
+        kind: 0,
+        free: 0,
+        own: 0,
+        defined: 0,
     }
 }
 
@@ -538,39 +517,45 @@ fn is_end(command: Command) -> bool
     }
 }
 
-// The commands after a head that fits.
-fn read_commands(bytes: &[u8], kind: u8, free: usize, own: usize) -> Reading
+// The commands after a head that fits. The arrays are working space.
+fn read_commands(
+    bytes: &[u8],
+    kind: u8,
+    free: usize,
+    own: usize,
+    constants: &mut [u64],
+    clauses: &mut [u8],
+    counts: &mut [usize; 4],
+) -> Reading
     requires { ⌜ 4 ≤ length (now bytes) ⌝ }
     requires { ⌜ headFits kind free own ≡ true ⌝ }
-    ensures { λ r. ⌜ HandsBack (run (length (now (bytes .entry))) (now (bytes .entry)) 4 (opened kind free own)) r ⌝ }
+    requires { ⌜ (length (now constants) ≡ 32) × (length (now clauses) ≡ 768) ⌝ }
+    ensures { λ r. ⌜ HandsBack (run (length (now (bytes .entry))) (now (bytes .entry)) 4 (opened kind free own)) r (now (constants .exit)) (now (clauses .exit)) (now (counts .exit)) ⌝ }
 {
-    let mut constants = [0u64; 32];
+    *counts = [0; 4];
     let mut defined: usize = 0;
-    let mut clauses = [0u8; 768];
-    let mut counts = [0usize; 4];
     let mut at: usize = 4;
     loop {
-        let r = read_command(bytes, at, kind, free, own, defined, &counts);
+        let r = read_command(bytes, at, kind, free, own, defined, counts);
         let Step::Take { command, next } = r else {
             return refused(refusal_of(r), at);
         };
         if is_end(command) {
             if next == bytes.len() {
-                return accepted(Question {
+                return Reading {
+                    refusal: 0,
+                    place: 0,
                     kind,
                     free,
                     own,
-                    constants,
                     defined,
-                    clauses,
-                    counts,
-                });
+                };
             }
             return refused(10, next);
         }
-        defined = keep_constant(&mut constants, defined, command);
-        keep_clause(&mut clauses, &counts, command);
-        count_clause(&mut counts, command);
+        defined = keep_constant(constants, defined, command);
+        keep_clause(clauses, counts, command);
+        count_clause(counts, command);
         at = next;
     }
 }
@@ -631,13 +616,18 @@ fn wrong_of(h: Head) -> u8
     }
 }
 
-// The reading of a byte string of any length.
-pub fn read(bytes: &[u8]) -> Reading
-    ensures { λ r. ⌜ HandsBack (read (now (bytes .entry))) r ⌝ }
+// The reading of a byte string of any length. The arrays are working space: what they held before does not matter.
+pub fn read(
+    bytes: &[u8],
+    constants: &mut [u64; 32],
+    clauses: &mut [u8; 768],
+    counts: &mut [usize; 4],
+) -> Reading
+    ensures { λ r. ⌜ HandsBack (read (now (bytes .entry))) r (now (constants .exit)) (now (clauses .exit)) (now (counts .exit)) ⌝ }
 {
     let h = read_head(bytes);
     let Head::Fits { kind, free, own } = h else {
         return refused(wrong_of(h), 0);
     };
-    read_commands(bytes, kind, free, own)
+    read_commands(bytes, kind, free, own, constants, clauses, counts)
 }

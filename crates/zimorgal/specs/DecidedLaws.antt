@@ -12,9 +12,8 @@ use Rattle.shares.specs.Test.{of-true}
 use Rattle.systems.specs.Questions.{Question, WellFormed, questionHeight}
 use Rattle.systems.specs.Answers.{Answer, satisfied, unsatisfied, vacuous, entailed, unmet, missed, shows, heightGiven}
 use Rattle.systems.specs.Decide.{decide}
-use Rattle.questions.specs.Held.{Stands}
+use Rattle.questions.specs.Held.{Held, Stands}
 use Rattle.questions.specs.Callers.{Taken}
-use Rattle.questions.specs.declared.Question.{Question as Struct}
 use Rattle.show.specs.Rows.{rowLevels, rowCount, answerBytes, rowOf, rowsOf}
 use Rattle.show.specs.Plans as shown
 use Rattle.decide.specs.declared.Decision.{Decision}
@@ -71,7 +70,7 @@ module _ (q : Question) (d : Decision) (D : Decided q d) where
       go false u = refl
 
 -- asking, once a question was read that both buffers are long enough for, and decided
-pub given-answer : (s answer work : List ℕ) (x : Struct) (T : Taken s x) → answerBytes ≤ length answer → workBytes ≤ length work
+pub given-answer : (s answer work : List ℕ) (x : Held) (T : Taken s x) → answerBytes ≤ length answer → workBytes ≤ length work
     → (d : Decision) → ((q : Question) → Stands x q → WellFormed q → Decided q d)
     → (r : Outcome) → r ≡ answerOutcome (answerOf (d .finding)) (cond (shows (answerOf (d .finding))) (d .plan .high) 0)
     → (answer′ : List ℕ) → answer′ ≡ cond (shows (answerOf (d .finding))) (shown.shownAnswer (x .free) (d .plan) answer) answer

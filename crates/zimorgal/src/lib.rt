@@ -151,7 +151,10 @@ pub fn ask(question: &[u8], answer: &mut [u8], work: &mut [u8]) -> Outcome
     ensures work { λ _. ⌜ now (work .exit) ≡ workAfter (askedWith (now (question .entry)) (now (answer .entry)) (now (work .entry))) (now (work .entry)) ⌝ }
     ensures model { λ r. ⌜ ((q : model.Question) → askedWith (now (question .entry)) (now (answer .entry)) (now (work .entry)) ≡ answered q → Exact q r × Demand3 q r (now (answer .exit))) ⌝ }
 {
-    let reading = questions::read(question);
+    let mut constants = [0u64; 32];
+    let mut clauses = [0u8; 768];
+    let mut counts = [0usize; 4];
+    let reading = questions::read(question, &mut constants, &mut clauses, &mut counts);
     if reading.refusal != 0 {
         return refused(reading.refusal, reading.place);
     }
@@ -161,9 +164,16 @@ pub fn ask(question: &[u8], answer: &mut [u8], work: &mut [u8]) -> Outcome
     if work.len() < WORK_BYTES {
         return refused(12, 0);
     }
-    let taken = reading.question;
-    let decision = decide::decide(taken);
-    show_solution(answer, taken.free, decision);
+    let decision = decide::decide(
+        reading.kind,
+        &clauses,
+        &counts,
+        &constants,
+        reading.defined,
+        reading.free,
+        reading.own,
+    );
+    show_solution(answer, reading.free, decision);
     clear(work);
     found(decision)
 }

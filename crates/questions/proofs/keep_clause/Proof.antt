@@ -26,18 +26,21 @@ section-count-requires c κs = search needs
 
 mul-i : tie.Need-mul-i
 mul-i c =
-    omega (arith, subst (Slot (c .before .before .before .before .before .args .counts .now)) (c .before .before .before .command .given .1) (c .before .before .before .before .before .pre), c .section-count .ensures, c .before .section-start .ensures)
+    let start = c .before .before .before .before .before .before in
+    omega (arith, subst (Slot (start .args .counts .now)) (c .before .before .before .command .given .1) (start .pre .1), c .section-count .ensures, c .before .section-start .ensures)
 
 add-i : tie.Need-add-i
 add-i c =
-    omega (arith, subst (Slot (c .before .before .before .before .before .args .counts .now)) (c .before .before .before .command .given .1) (c .before .before .before .before .before .pre), c .section-count .ensures, c .before .section-start .ensures)
+    let start = c .before .before .before .before .before .before in
+    omega (arith, subst (Slot (start .args .counts .now)) (c .before .before .before .command .given .1) (start .pre .1), c .section-count .ensures, c .before .section-start .ensures)
 
 test-number-requires : tie.Need-test-number-requires
 test-number-requires c κs = search needs
 
 store-requires : tie.Need-store-requires
 store-requires c κs =
-    omega (arith, subst (Slot (c .before .before .before .before .before .before .before .args .counts .now)) (c .before .before .before .before .before .command .given .1) (c .before .before .before .before .before .before .before .pre), c .before .before .section-count .ensures, c .before .before .before .section-start .ensures)
+    let start = c .before .before .before .before .before .before .before .before in
+    omega (arith, start .pre .0, subst (Slot (start .args .counts .now)) (c .before .before .before .before .before .command .given .1) (start .pre .1), c .before .before .section-count .ensures, c .before .before .before .section-start .ensures)
 
 returns : tie.Need-returns
 returns c = simp (c .enum-told .given .1)
@@ -48,9 +51,12 @@ returns-2 c = simp (c .enum-told2 .given .1)
 returns-3 : tie.Need-returns-3
 returns-3 c = simp (c .enum-told3 .given .1)
 
+same-length : tie.Need-same-length
+same-length c = search needs
+
 returns-4 : tie.Need-returns-4
 returns-4 c =
-    simp (c .before .before .before .before .before .before .command .given .1, c .store .ensures, c .before .test-number .ensures, c .before .before .before .section-count .ensures, c .before .before .before .before .section-start .ensures)
+    simp (c .before .before .before .before .before .before .before .before .command .given .1, c .before .before .store .ensures, c .before .before .before .test-number .ensures, c .before .before .before .before .before .section-count .ensures, c .before .before .before .before .before .before .section-start .ensures)
 
 pub keep-clause-spec : {M : Type 1} → statement M
 keep-clause-spec =
@@ -69,4 +75,5 @@ keep-clause-spec =
     returns
     returns-2
     returns-3
+    same-length
     returns-4)

@@ -16,10 +16,10 @@ enum-known-command : tie.Need-enum-known-command
 enum-known-command c = search needs
 
 mul-constants : tie.Need-mul-constants
-mul-constants c = omega (arith, ap (constantCount (c .before .before .before .args .count)) (c .before .command .given .1))
+mul-constants c = omega (arith, ap (constantCount (c .before .before .before .args .count)) (c .before .command .given .1), c .before .before .before .good)
 
-element-write-constants : tie.Need-element-write-constants
-element-write-constants c = omega (arith, ap (constantCount (c .before .before .before .args .count)) (c .before .command .given .1))
+slice-write-constants : tie.Need-slice-write-constants
+slice-write-constants c = omega (arith, ap (constantCount (c .before .before .before .args .count)) (c .before .command .given .1))
 
 add-result : tie.Need-add-result
 add-result c = omega (arith, ap (constantCount (c .before .before .before .args .count)) (c .before .command .given .1))
@@ -32,6 +32,9 @@ returns c = simp (c .enum-told .given .1) (refl, refl)
 
 returns-2 : tie.Need-returns-2
 returns-2 c = simp (c .enum-told2 .given .1) (refl, refl)
+
+same-length : tie.Need-same-length
+same-length c = search needs
 
 returns-3 : tie.Need-returns-3
 returns-3 c = simp (c .before .command .given .1) (refl, refl)
@@ -47,10 +50,11 @@ keep-constant-spec =
     enum-told-2
     enum-known-command
     mul-constants
-    element-write-constants
+    slice-write-constants
     add-result
     enum-told-3
     returns
     returns-2
+    same-length
     returns-3
     returns-4)
