@@ -418,6 +418,7 @@ fn all_placed(place: &[u16; 32], from: usize, entries: usize) -> bool
     true
 }
 
+// Whether both hold.
 fn both(a: bool, b: bool) -> bool
     ensures { λ r. ⌜ r ≡ (a && b) ⌝ }
 {
