@@ -78,7 +78,7 @@ both-requires : tie.Need-both-requires
 both-requires c κs = search needs
 
 all-placed-requires-2 : tie.Need-all-placed-requires-2
-all-placed-requires-2 c κs = few (c .before .before .before .before .before .before .before .before .before .before .before)
+all-placed-requires-2 c κs = omega (arith, few (c .before .before .before .before .before .before .before .before .before .before .before))
 
 both-requires-2 : tie.Need-both-requires-2
 both-requires-2 c κs = search needs
