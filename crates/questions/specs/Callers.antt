@@ -5,18 +5,15 @@ use mathlib.Core.Logic.{_⊎_, inl, inr}
 use Prim.Native.Nat.{ℕ, zero, suc, _+_, _-_, _*_, _≤_, _<_}
 use native.Mathlib.Nat.{eq-or-lt-of-le, le-of-suc-le-suc, not-suc-le-zero}
 use native.Mathlib.Omega.{arith}
-use borrow.Author.Tests.{lt-ltb, le-ltb}
-use lib.Dec.{T, ltb→lt}
+use lib.Dec.{T}
 use lib.ListN.{getD, List·getD-append}
-use lib.Seq.{getD-take, getD-at}
-use Rattle.shares.specs.Constant.{constantLevels}
+use lib.Seq.{getD-at}
 use Rattle.shares.specs.Test.{and-left, and-right}
-use Rattle.systems.specs.Clauses.{variable, constant, Atom, positives, disequations}
+use Rattle.systems.specs.Clauses.{Atom}
 use Rattle.systems.specs.Questions.{Kind, satisfiability, entailment, Question, WellFormed}
-use Rattle.questions.specs.declared.Section.the-variants.{FirstPositive, FirstDisequation, SecondPositive, SecondDisequation}
 use Rattle.questions.specs.declared.Reading.{Reading}
-use Rattle.questions.specs.Format.{Result, refused, accepted, termOf, names, thirdNamed, read}
-use Rattle.questions.specs.Held.{kindNumber, testOf, storedAtom, atomsOf, Held, StoredClause, Stands, refusedAs, heldBy, HandsBack}
+use Rattle.questions.specs.Format.{Result, refused, accepted, names, read}
+use Rattle.questions.specs.Held.{kindNumber, storedAtom, atomsOf, Held, StoredClause, Stands, refusedAs, heldBy, HandsBack}
 use Rattle.questions.specs.FormatLaws.{longest, Limited, accepted-formed, accepted-limited, refusal-number, refusal-place}
 use Rattle.questions.specs.HeldLaws.{atoms-length, named-small}
 
@@ -69,26 +66,7 @@ module _ (x : Held) (q : Question) (d : Stands x q) where
       pick satisfiability f = absurd (e f)
       pick entailment f = refl
 
-  pub constant-levels : q .constants .levels ≡ constantLevels
-  constant-levels = ap (λ cs. cs .levels) (d .constants)
-
-  pub constant-number : (i : ℕ) → i < x .defined → getD (q .constants .numbers) i 0 ≡ getD (x .constants) i 0
-  constant-number i h = ap (λ cs. getD (cs .numbers) i 0) (d .constants) ∙ getD-take (x .defined) (x .constants) i 0 h
-
-  -- each section holds its list of clauses
-  pub first-positives : atomsOf (x .clauses) 0 (getD (x .counts) 0 0) ≡ positives (q .first)
-  first-positives = d .sections FirstPositive
-
-  pub first-disequations : atomsOf (x .clauses) 256 (getD (x .counts) 1 0) ≡ disequations (q .first)
-  first-disequations = d .sections FirstDisequation
-
-  pub second-positives : atomsOf (x .clauses) 384 (getD (x .counts) 2 0) ≡ positives (q .second)
-  second-positives = d .sections SecondPositive
-
-  pub second-disequations : atomsOf (x .clauses) 640 (getD (x .counts) 3 0) ≡ disequations (q .second)
-  second-disequations = d .sections SecondDisequation
-
--- ---- clauses and terms in bytes
+-- ---- clauses in bytes
 
 -- clause number i of n that start at an offset
 pub atoms-at : (l : List ℕ) (start n i : ℕ) (a : Atom) → i < n → getD (atomsOf l start n) i a ≡ storedAtom l (start + 4 * i)
@@ -101,33 +79,13 @@ atoms-at l start (suc n) i a h = pick (eq-or-lt-of-le (le-of-suc-le-suc h)) (ato
     pick (inl e) ih = getD-at (atomsOf l start n) (storedAtom l (start + 4 * n)) [] a i (atoms-length l start n ∙ sym e) ∙ ap (λ j. storedAtom l (start + 4 * j)) (sym e)
     pick (inr k) ih = List·getD-append (atomsOf l start n) (storedAtom l (start + 4 * n) ∷ []) a i (rw atoms-length k) ∙ ih k
 
--- a term's byte below 20 is a variable, one from 20 on a constant; each is there if the byte names something
-pub term-variable : (t : ℕ) → t < 0x20 → termOf t ≡ variable t
-unfolding termOf
-term-variable t h = simp (lt-ltb t 0x20 h)
-
-pub term-constant : (t : ℕ) → 0x20 ≤ t → termOf t ≡ constant (t - 0x20)
-unfolding termOf
-term-constant t h = simp (le-ltb t 0x20 h)
-
-pub variable-there : (n k t : ℕ) → T (names n k t) → t < 0x20 → t < n
-unfolding names
-variable-there n k t u h = ltb→lt t n (rw (lt-ltb t 0x20 h) at u)
-
-pub constant-there : (n k t : ℕ) → T (names n k t) → 0x20 ≤ t → t - 0x20 < k
-unfolding names
-constant-there n k t u h = ltb→lt (t - 0x20) k (rw (le-ltb t 0x20 h) at u)
-
 -- the terms of a stored clause
 module _ (n k t a b c : ℕ) (d : StoredClause n k t a b c) where
-  pub first-named : T (names n k a)
+  first-named : T (names n k a)
   first-named = and-left (names n k a) _ (d .named)
 
-  pub second-named : T (names n k b)
+  second-named : T (names n k b)
   second-named = and-left (names n k b) _ (and-right (names n k a) _ (d .named))
-
-  pub third-named : T (thirdNamed n k (testOf t) c)
-  third-named = and-right (names n k b) _ (and-right (names n k a) _ (d .named))
 
   pub bytes-small : n ≤ 32 → k ≤ 32 → (a < 64) × (b < 64) × (c < 64)
   bytes-small hn hk = (named-small n k a hn hk first-named, named-small n k b hn hk second-named, d .third)

@@ -1,5 +1,5 @@
 -- Laws of what is held of a question: its counts, its faults, and one command more. Assumes nothing.
-use mathlib.Core.Path.{_≡_, refl, sym, ap, ap₂, subst, _∙_}
+use mathlib.Core.Path.{_≡_, refl, sym, ap, ap₂, _∙_}
 use mathlib.Core.Bool.{Bool, true, false, cond}
 use mathlib.Core.List.{List, [], _∷_, _++_}
 use mathlib.Core.Logic.{_⊎_, inl, inr, _≢_}
@@ -23,13 +23,12 @@ use Rattle.questions.specs.declared.Entry.{Entry}
 use Rattle.questions.specs.declared.Entry.the-variants.{Known, Unknown}
 use Rattle.questions.specs.declared.Command.{Command}
 use Rattle.questions.specs.declared.Head.{Head}
-use Rattle.questions.specs.declared.Head.the-variants.{Fits, Wrong}
 use Rattle.questions.specs.declared.Step.{Step}
 use Rattle.questions.specs.declared.Step.the-variants.{Take, Refused}
-use Rattle.questions.specs.Format.{Result, refused, accepted, mostConstants, constantBytes, entryOf, operands, commandOf, wholeAt, readAt, mostOf, inSection, names, variablesFor, allNamed, atomOf, isForeign, constantFault, fault, judged, withClause, withConstant, taken, ended, onward, turn, opened, headOf, afterHead, read}
+use Rattle.questions.specs.Format.{mostConstants, constantBytes, entryOf, operands, commandOf, wholeAt, readAt, mostOf, inSection, names, variablesFor, allNamed, atomOf, isForeign, constantFault, fault, judged, withClause, withConstant, taken}
 use Rattle.questions.specs.Held.{kindNumber, sectionNumber, testNumber, testOf, sectionStart, storedAtom, atomsOf, stored, countOf, nextSlot, keptConstants, constantCount, keptClauses, clauseCounts, Slot, Counted, clauseTotal, foreignTo, faultOf, judgedOf, Held, StoredClause, Stands}
 use Rattle.questions.specs.SectionLaws.{both-counts, added, Apart, Alike, same, other, alike, constant-sections, clause-keeps, section-below, slot-fits}
-use Rattle.questions.specs.FormatLaws.{branch, Stay, run-law, ClauseFits, clause-fits, ConstantFits, constant-fits}
+use Rattle.questions.specs.FormatLaws.{branch, ClauseFits, clause-fits, ConstantFits, constant-fits}
 
 -- ---- what a command of bytes holds
 
@@ -421,42 +420,3 @@ module _ (x : Held) (q : Question) (d : Stands x q) where
   stands-taken Command.Head e p = d
   stands-taken (Command.Constant v) e p = stands-constant v p (constant-fits q v e)
   stands-taken (Command.Clause σ t a b c) e p = stands-clause σ t a b c (clause-fits q σ t a b c e) p
-
--- ---- the constants of an accepted question fit their bytes
-
-abbrev pub Small : Question → Type 0
-Small q = (i : ℕ) → getD (q .constants .numbers) i 0 < 2 ^ (8 * constantBytes)
-
-abbrev SmallResult : Result → Type 0
-SmallResult (refused n place) = Unit {0}
-SmallResult (accepted q) = Small q
-
-one-more : (m x : ℕ) → 0 < m → x < m → (l : List ℕ) → ((i : ℕ) → getD l i 0 < m) → (i : ℕ) → getD (l ++ (x ∷ [])) i 0 < m
-one-more m x z h [] f zero = h
-one-more m x z h [] f (suc i) = z
-one-more m x z h (a ∷ l) f zero = f zero
-one-more m x z h (a ∷ l) f (suc i) = one-more m x z h l (λ j. f (suc j)) i
-
-turn-small : (s : List ℕ) → Bytes s → (q : Question) (at : ℕ) → Small q → Stay (λ r _. Small r) SmallResult (turn s at q)
-unfolding turn taken ended
-turn-small s b q at h = judge (readAt s at) (read-proper s b at)
-  where
-    on : (c : Command) (next : ℕ) → Proper c → Stay (λ r _. Small r) SmallResult (onward s at q (Take c next))
-    on Command.End next p = branch SmallResult (eqb next (length s)) (accepted q) (refused 10 next) (λ _. h) (λ _. tt)
-    on Command.Head next p = h
-    on (Command.Constant x) next p = one-more (2 ^ (8 * constantBytes)) x (omega arith) p (q .constants .numbers) h
-    on (Command.Clause σ t a b c) next p = rw (clause-keeps q σ (atomOf t a b c) .constants) h
-
-    judge : (r : Step) → ProperStep r → Stay (λ r _. Small r) SmallResult (onward s at q (judged q r))
-    judge (Refused n) p = tt
-    judge (Take c next) p =
-        branch (λ r. Stay (λ r _. Small r) SmallResult (onward s at q r)) (eqb (fault q c) 0) (Take c next) (Refused (fault q c)) (λ _. on c next p) (λ _. tt)
-
-pub accepted-small : (s : List ℕ) → Bytes s → (q : Question) → read s ≡ accepted q → Small q
-unfolding read opened
-accepted-small s b q e = subst SmallResult e (pick (headOf s))
-  where
-    pick : (h : Head) → SmallResult (afterHead s h)
-    pick (Fits kind n m) =
-        run-law (λ r _. Small r) SmallResult s (turn-small s b) (λ _ _ _. tt) (length s) 4 (opened kind n m) (λ i. omega arith)
-    pick (Wrong n) = tt

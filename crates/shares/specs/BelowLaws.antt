@@ -6,7 +6,7 @@ use Prim.Native.Nat.{ℕ, zero, suc, _+_, _-_, _≤_, _<_, zero-le, suc-le-suc}
 use native.Mathlib.Nat.{le-of-suc-le-suc, not-suc-le-zero, eq-or-lt-of-le, le-antisymm, lt-of-lt-of-le}
 use native.Mathlib.Decide.{decLt}
 use native.Mathlib.Omega.{arith}
-use lib.Dec.{T, T-not, not-T, ltb, ltb→lt, lt→ltb}
+use lib.Dec.{T, T-not, not-T}
 use Rattle.shares.specs.Below.{everyBelow, someBelow, firstBelow, one, countBelow}
 use Rattle.shares.specs.Test.{is-true, is-false, of-true, of-false, passes, holds, same-test, and-intro, and-left, and-right, or-left, or-right, or-cases}
 
@@ -174,12 +174,6 @@ first-min n p i t = let f : ¬ (i < firstBelow n p) = λ l. T-not (p i) (first-l
 -- if any number below n passes, the first is below n, and passes
 pub first-passes : (n : ℕ) (p : ℕ → Bool) (i : ℕ) → i < n → T (p i) → (firstBelow n p < n) × T (p (firstBelow n p))
 first-passes n p i h t = let l : firstBelow n p < n = omega (arith, first-min n p i t) in (l, first-below n p l)
-
-pub first-some : (n : ℕ) (p : ℕ → Bool) → ltb (firstBelow n p) n ≡ someBelow n p
-first-some n p =
-    same-test (ltb (firstBelow n p) n) (someBelow n p)
-    (λ t. let l = ltb→lt (firstBelow n p) n t in some-intro n p (firstBelow n p) l (first-below n p l))
-    (λ t. let (i, l, u) = some-found n p t in lt→ltb (firstBelow n p) n (first-passes n p i l u .0))
 
 -- it is the one number that passes with none below it
 pub first-is : (n : ℕ) (p : ℕ → Bool) (r : ℕ) → r < n → ((i : ℕ) → i < r → p i ≡ false) → p r ≡ true → firstBelow n p ≡ r

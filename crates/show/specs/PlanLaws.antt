@@ -82,10 +82,6 @@ pub planTree-height : (plan : Plan) (p : ℕ) → height (planTree plan p) ≤ p
 unfolding planTree
 planTree-height plan p = treeOf-height (plan .high) (λ s. bit (choiceAt plan s) p)
 
-pub planTree-leaf : (plan : Plan) (p s : ℕ) → s < 2 ^ plan .high → leafAt (plan .high) (planTree plan p) s ≡ bit (choiceAt plan s) p
-unfolding planTree
-planTree-leaf plan p s = leafAt-treeOf (plan .high) (λ s. bit (choiceAt plan s) p) s
-
 -- the row of a free variable is that of its tree
 pub shown-tree : (n : ℕ) (plan : Plan) → Showable plan → (v : ℕ) → v < n → rowTree rowLevels (shownRow n plan v) ≡ planTree plan (n - 1 - v)
 unfolding shownRow

@@ -1,12 +1,11 @@
 -- Laws of clauses: the tests by Boolean operations, and the terms that a section reads. Assumes nothing.
-use mathlib.Core.Path.{_≡_, refl, ap, ap₂, _∙_}
-use mathlib.Core.Bool.{Bool, true, false, not, cond, xor, _&&_, _||_, Bool·beq}
+use mathlib.Core.Path.{_≡_, refl}
+use mathlib.Core.Bool.{Bool, true, false, not, xor, _&&_, _||_, Bool·beq}
 use mathlib.Core.List.{List}
 use Prim.Native.Nat.{ℕ, _+_, _*_, _<_}
 use native.Mathlib.Nat.{add-assoc}
 use native.Mathlib.Omega.{arith}
 use lib.ListN.{getD}
-use lib.Dec.{eqb}
 use Rattle.shares.specs.BelowLaws.{every-ext}
 use Rattle.shares.specs.Tree.{joins, joinLeaf}
 use Rattle.words.specs.Clause.{clauseTest, allClauses, Clauses}
