@@ -54,12 +54,17 @@ fold-height : (k : ℕ) (l r : Tree) → height l ≤ k → height r ≤ k → h
 unfolding height
 fold-height k l r hl hr = fold-law (λ t. height t ≤ suc k) l r (λ b p q. zero-le) (λ n. omega arith)
 
+-- the fold of a pair that is no pair of two equal leaves
+fold-apart : (l r : Tree) → twins l r ≡ false → fold l r ≡ pair l r
+unfolding fold
+fold-apart l r h = rw h
+
 -- a folded tree is its halves, folded
 fold-half : (t : Tree) → Folded t → fold (half 0 t) (half 1 t) ≡ t
 unfolding fold half twins
 fold-half (leaf true) h = refl
 fold-half (leaf false) h = refl
-fold-half (pair l r) h = rw (h .0)
+fold-half (pair l r) h = fold-apart l r (h .0)
 
 half-folded : (i : ℕ) (t : Tree) → Folded t → Folded (half i t)
 unfolding half

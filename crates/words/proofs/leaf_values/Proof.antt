@@ -8,7 +8,7 @@ use native.Mathlib.Omega.{arith}
 use lib.Dec.{ltb, eqb}
 use lib.ListN.{getD}
 use lib.Pow.{shl-exact}
-use lib.Bits.{and-mask}
+use lib.Bits.{bitAnd, bitOr, and-mask}
 use borrow.Author.Tests.{lt-ltb, le-ltb, eq-eqb, ne-eqb}
 use Rattle.shares.specs.Constant.{bit}
 use Rattle.shares.specs.BitLaws.{bit-zero, bit-or}
@@ -58,12 +58,14 @@ loop-again c =
     let a = c .before .before .before .args in
     let x = getD (a .constants .now) (l .i) 0 in
     let v = x / 2 ^ a .place % 2 in
-    let v-lt : v < 2 = mod-lt (x / 2 ^ a .place) (omega arith) in (
+    let v-lt : v < 2 = mod-lt (x / 2 ^ a .place) (omega arith) in
+    let moved : (bitAnd (x / 2 ^ a .place) 1 * 2 ^ l .i) % 2 ^ 64 ≡ v * 2 ^ l .i =
+    ap (λ y. (y * 2 ^ l .i) % 2 ^ 64) (and-mask (x / 2 ^ a .place) 1) ∙ shl-exact 1 (l .i) 64 v-lt (omega arith) in (
       omega arith,
       λ j.
-          rw (and-mask (x / 2 ^ a .place) 1, shl-exact 1 (l .i) 64 v-lt (omega arith), bit-or (l .r) (v * 2 ^ l .i) j)
-          (ap₂ _||_ (l .inv .1 j) (bit-digit v (l .i) j v-lt ∙ ap (_&&_ (eqb j (l .i))) (digit-of x (a .place)))
-          ∙ below-or (l .i) j (λ k. bit (getD (a .constants .now) k 0) (a .place))),
+          ap (λ y. bit (bitOr (l .r) y) j) moved ∙ bit-or (l .r) (v * 2 ^ l .i) j
+          ∙ ap₂ _||_ (l .inv .1 j) (bit-digit v (l .i) j v-lt ∙ ap (_&&_ (eqb j (l .i))) (digit-of x (a .place)))
+          ∙ below-or (l .i) j (λ k. bit (getD (a .constants .now) k 0) (a .place)),
     )
 
 returns : tie.Need-returns Inv-loop μ-loop
