@@ -1,5 +1,8 @@
 -- `words::digit` meets its contract. Assumes nothing.
+use mathlib.Core.Path.{ap}
+use Prim.Native.Nat.{_/_, _^_}
 use lib.Bits.{and-mask}
+use lib.Dec.{eqb}
 use borrow.Author.Needs.{needs}
 use Rattle.shares.specs.Constant.{bit}
 use Rattle.words.proofs.digit.Statement.{statement}
@@ -10,7 +13,7 @@ shr-result c = search needs
 
 returns : tie.Need-returns
 unfolding bit
-returns c = rw (and-mask _ 1)
+returns c = ap (λ y. eqb y 1) (and-mask (c .args .x / 2 ^ c .args .p) 1)
 
 pub digit-spec : {M : Type 1} → statement M
 digit-spec = tie.close (tie.spec shr-result returns)

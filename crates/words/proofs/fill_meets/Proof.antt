@@ -12,7 +12,7 @@ fill-sets-requires c κs =
     (omega arith, (c .before .before .pre .1, record { room = omega arith; terms = λ k h. absurd (omega arith) }))
 
 returns : tie.Need-returns
-returns c = search needs
+returns c = (c .before .fill-sets .ensures .0, c .before .fill-sets .ensures .1 .0)
 
 pub fill-meets-spec : {M : Type 1} → statement M
 fill-meets-spec = tie.close (tie.spec slice-aggregate-fill-sets fill-sets-requires returns)
