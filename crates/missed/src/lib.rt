@@ -46,7 +46,7 @@ fn meet_one(
     requires { ⌜ (i < 32) × (j < 32) × (words ≤ 64) × (64 * i + 64 ≤ length (now «first_rows»)) × (64 * j + 64 ≤ length (now «second_rows»)) ⌝ }
     ensures { λ r. ⌜ ((k : ℕ) → bit r k ≡ (bit met k || (eqb k i && someOutside (now («first_rows» .entry)) (64 * i) (now («second_rows» .entry)) (64 * j) words))) ⌝ }
 {
-    if words::digit(met, i) {
+    if basics::digit(met, i) {
         return met;
     }
     if any_outside(first_rows, 64 * i, second_rows, 64 * j, words) {
@@ -91,7 +91,7 @@ fn narrow_one(
     requires { ⌜ (first ≤ 32) × (j < 32) × (words ≤ 64) × (length (now met) ≡ 32) × (64 * first ≤ length (now «first_rows»)) × (64 * j + 64 ≤ length (now «second_rows»)) ⌝ }
     ensures { λ r. ⌜ Narrowed j first (someOutside (now (allowed .entry)) 0 (now («second_rows» .entry)) (64 * j) words) (λ i. someOutside (now («first_rows» .entry)) (64 * i) (now («second_rows» .entry)) (64 * j) words) possible (now (met .entry)) r (now (met .exit)) ⌝ }
 {
-    if !words::digit(possible, j) {
+    if !basics::digit(possible, j) {
         return possible;
     }
     if any_outside(allowed, 0, second_rows, 64 * j, words) {
@@ -221,7 +221,7 @@ fn is_missed(possible: u64, met: &[u64; 32], first: usize, j: usize) -> bool
     requires { ⌜ (first ≤ 32) × (j < 32) ⌝ }
     ensures { λ r. ⌜ r ≡ isMissed possible (now (met .entry)) first j ⌝ }
 {
-    if words::digit(possible, j) {
+    if basics::digit(possible, j) {
         return all_set(met[j], first);
     }
     false

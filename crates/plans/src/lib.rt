@@ -275,20 +275,13 @@ fn visit_leaf(
 
 // ---- all leaves
 
-fn power(k: usize) -> usize
-    requires { ⌜ k ≤ 10 ⌝ }
-    ensures { λ r. ⌜ r ≡ 2 ^ k ⌝ }
-{
-    1 << k
-}
-
 // How often leaves are split so that each has room for n sub-leaves.
 fn splits(n: usize) -> usize
     requires { ⌜ n ≤ 32 ⌝ }
     ensures { λ r. ⌜ r ≡ c n ⌝ }
 {
     let mut k: usize = 0;
-    while power(k) < n {
+    while basics::power(k) < n {
         k += 1;
     }
     k
@@ -336,7 +329,7 @@ fn plan_leaf(
     ensures { λ r. ⌜ LeafPlanned free h (testsOf (stored (now (clauses .entry)) (now (counts .entry)) (now (constants .entry)) defined free own) h search) k b r (now (plain .entry)) (now (subleaf .entry)) (now (choice .entry)) (now (plain .exit)) (now (subleaf .exit)) (now (choice .exit)) ⌝ }
 {
     let values = values_at(constants, defined, h, b);
-    let first = b * power(k);
+    let first = b * basics::power(k);
     let x = visit_leaf(
         clauses,
         counts,
@@ -376,7 +369,7 @@ fn fill_plan(
     requires { ⌜ After free h (testsOf (stored (now clauses) (now counts) (now constants) defined free own) h search) k 0 (now subleaf) (now choice) ⌝ }
     ensures { λ r. ⌜ Filled free h (testsOf (stored (now (clauses .entry)) (now (counts .entry)) (now (constants .entry)) defined free own) h search) k r (now (plain .exit)) (now (subleaf .exit)) (now (choice .exit)) ⌝ }
 {
-    let leaves = power(h);
+    let leaves = basics::power(h);
     let mut b: usize = 0;
     while b < leaves {
         let there = plan_leaf(

@@ -168,21 +168,15 @@ fn is_second(section: Section) -> bool
 
 // ---- one command
 
-fn wide(byte: u8) -> u64
-    ensures { λ r. ⌜ (r ≡ byte) × (r < 256) ⌝ }
-{
-    byte as u64
-}
-
 // The number that four bytes make, the lowest first.
 fn constant_at(bytes: &[u8], i: usize) -> u64
     requires { ⌜ i + 4 ≤ length (now bytes) ⌝ }
     ensures { λ r. ⌜ r ≡ number (take 4 (drop i (now (bytes .entry)))) ⌝ }
 {
-    let a = wide(bytes[i]);
-    let b = wide(bytes[i + 1]);
-    let c = wide(bytes[i + 2]);
-    let d = wide(bytes[i + 3]);
+    let a = basics::wide(bytes[i]);
+    let b = basics::wide(bytes[i + 1]);
+    let c = basics::wide(bytes[i + 2]);
+    let d = basics::wide(bytes[i + 3]);
     ((d * 256 + c) * 256 + b) * 256 + a
 }
 
@@ -589,18 +583,12 @@ fn read_head(bytes: &[u8]) -> Head
         return Head::Wrong(2);
     }
     let kind = bytes[1];
-    let free = number_of_byte(bytes[2]);
-    let own = number_of_byte(bytes[3]);
+    let free = basics::index(bytes[2]);
+    let own = basics::index(bytes[3]);
     if head_fits(kind, free, own) {
         return Head::Opens { kind, free, own };
     }
     Head::Wrong(5)
-}
-
-fn number_of_byte(byte: u8) -> usize
-    ensures { λ r. ⌜ (r ≡ byte) × (r < 256) ⌝ }
-{
-    byte as usize
 }
 
 fn wrong_of(h: Head) -> u8

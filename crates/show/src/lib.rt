@@ -53,21 +53,14 @@ pub fn row_range(bytes: usize, variable: usize) -> u64
 
 // ---- blocks of leaves
 
-fn power(k: usize) -> usize
-    requires { ⌜ k ≤ 32 ⌝ }
-    ensures { λ r. ⌜ r ≡ 2 ^ k ⌝ }
-{
-    1 << k
-}
-
 // The bits of block `a` of a byte: as many ones as a block has leaves, moved to where it lies.
 fn mask(height: usize, a: usize) -> u8
     requires { ⌜ (height ≤ 3) × (a < 2 ^ (3 - height)) ⌝ }
     ensures { λ r. ⌜ ((i : ℕ) → i < 8 → bit r i ≡ eqb (i / 2 ^ height) a) ⌝ }
 {
-    let size = power(height);
-    let ones = power(size) - 1;
-    (ones * power(a * size)) as u8
+    let size = basics::power(height);
+    let ones = basics::power(size) - 1;
+    (ones * basics::power(a * size)) as u8
 }
 
 // The byte whose eight leaves are all full, or all empty.
@@ -93,17 +86,6 @@ fn is_block(byte: u8, height: usize, a: usize, full: bool) -> bool
     (byte ^ whole(full)) & mask(height, a) == 0
 }
 
-// Sets every byte of a part.
-pub fn fill(part: &mut [u8], byte: u8)
-    ensures { λ _. ⌜ now (part .exit) ≡ replicate (length (now (part .entry))) byte ⌝ }
-{
-    let mut i: usize = 0;
-    while i < part.len() {
-        part[i] = byte;
-        i += 1;
-    }
-}
-
 fn is_filled(part: &[u8], byte: u8) -> bool
     ensures { λ r. ⌜ T r ↔ ((i : ℕ) → i < length (now (part .entry)) → getD (now (part .entry)) i 0 ≡ byte) ⌝ }
 {
@@ -123,14 +105,14 @@ fn write_block(row: &mut [u8], height: usize, q: usize, full: bool)
     ensures { λ _. ⌜ BlockSet (now (row .entry)) (now (row .exit)) height q full ⌝ }
 {
     if height <= 3 {
-        let blocks = power(3 - height);
+        let blocks = basics::power(3 - height);
         let j = q / blocks;
         row[j] = with_block(row[j], height, q % blocks, full);
         return;
     }
-    let size = power(height - 3);
+    let size = basics::power(height - 3);
     let start = q * size;
-    fill(&mut row[start..start + size], whole(full));
+    basics::fill(&mut row[start..start + size], whole(full));
 }
 
 // Whether every leaf of block q is the one asked for. It stops at the first byte that has another.
@@ -139,10 +121,10 @@ fn is_constant(row: &[u8], height: usize, q: usize, full: bool) -> bool
     ensures { λ r. ⌜ T r ↔ AllLeaves (now (row .entry)) height q full ⌝ }
 {
     if height <= 3 {
-        let blocks = power(3 - height);
+        let blocks = basics::power(3 - height);
         return is_block(row[q / blocks], height, q % blocks, full);
     }
-    let size = power(height - 3);
+    let size = basics::power(height - 3);
     let start = q * size;
     is_filled(&row[start..start + size], whole(full))
 }
@@ -166,11 +148,11 @@ pub struct Plan {
 }
 
 // Digit p of a choice.
-fn digit(choice: u16, p: usize) -> bool
+fn digit_of(choice: u16, p: usize) -> bool
     requires { ⌜ p < 16 ⌝ }
     ensures { λ r. ⌜ r ≡ bit choice p ⌝ }
 {
-    (choice >> p) % 2 == 1
+    basics::digit(choice as u64, p)
 }
 
 // Fills a row with the 2^low leaves, each with digit p of its choice.
@@ -179,10 +161,10 @@ fn write_leaves(row: &mut [u8], plain: &[u16; 64], low: usize, p: usize)
     ensures { λ _. ⌜ ((i : ℕ) → i < 2 ^ rowLevels → rowLeaf (now (row .exit)) i ≡ bit (getD (now (plain .entry)) (i / 2 ^ (rowLevels - low)) 0) p) ⌝ }
 {
     let height = ROW_LEVELS - low;
-    let count = power(low);
+    let count = basics::power(low);
     let mut k: usize = 0;
     while k < count {
-        write_block(row, height, k, digit(plain[k], p));
+        write_block(row, height, k, digit_of(plain[k], p));
         k += 1;
     }
 }
@@ -197,7 +179,7 @@ fn write_sub_leaves(row: &mut [u8], plan: Plan, p: usize)
     let mut n: usize = 0;
     while n < plan.count {
         let s = plan.subleaf[n] as usize;
-        write_block(row, height, s, digit(plan.choice[n], p));
+        write_block(row, height, s, digit_of(plan.choice[n], p));
         n += 1;
     }
 }
@@ -223,7 +205,7 @@ fn show_row(row: &mut [u8], n: usize, plan: Plan, v: usize)
         write_row(row, plan, n - 1 - v);
         return;
     }
-    fill(row, 0);
+    basics::fill(row, 0);
 }
 
 // Shows a plan of n free variables in the answer buffer.

@@ -25,18 +25,12 @@ fn equal_word(a: u64, b: u64) -> u64
     !(a ^ b)
 }
 
-fn wide(x: u8) -> usize
-    ensures { λ r. ⌜ r ≡ x ⌝ }
-{
-    x as usize
-}
-
 // The word of the term whose number is byte `at`.
 fn term_word(terms: &[u64; 64], clauses: &[u8; 768], at: usize) -> u64
     requires { ⌜ (at < 768) × (getD (now clauses) at 0 < 64) ⌝ }
     ensures { λ r. ⌜ r ≡ getD (now (terms .entry)) (getD (now (clauses .entry)) at 0) 0 ⌝ }
 {
-    let t = wide(clauses[at]);
+    let t = basics::index(clauses[at]);
     terms[t]
 }
 
@@ -94,14 +88,6 @@ pub fn leaf_values(constants: &[u64; 32], count: usize, leaf: usize) -> u64
     r
 }
 
-// Whether bit p of x is set.
-pub fn digit(x: u64, p: usize) -> bool
-    requires { ⌜ p < 64 ⌝ }
-    ensures { λ r. ⌜ r ≡ bit x p ⌝ }
-{
-    (x >> p) & 1 == 1
-}
-
 // All ones where b is set, else 0.
 fn spread(b: bool) -> u64
     ensures { λ r. ⌜ ((i : ℕ) → i < 64 → bit r i ≡ b) ⌝ }
@@ -127,7 +113,7 @@ fn digit_word(p: usize, w: usize) -> u64
     if p < 6 {
         return DIGITS[p];
     }
-    spread(digit(w as u64, p - 6))
+    spread(basics::digit(w as u64, p - 6))
 }
 
 // The word at w of the term whose number is byte `at`, where there are no own variables.
@@ -135,14 +121,14 @@ fn value_word(clauses: &[u8; 768], at: usize, n: usize, values: u64, w: usize) -
     requires { ⌜ (n ≤ 12) × (at < 768) × (getD (now clauses) at 0 < 64) ⌝ }
     ensures { λ r. ⌜ TermWord n 0 values w (getD (now (clauses .entry)) at 0) r ⌝ }
 {
-    let t = wide(clauses[at]);
+    let t = basics::index(clauses[at]);
     if t < n {
         return digit_word(n - 1 - t, w);
     }
     if t < 32 {
         return 0;
     }
-    spread(digit(values, t - 32))
+    spread(basics::digit(values, t - 32))
 }
 
 // The digit that a variable has, and the variable that has a digit.
@@ -166,7 +152,7 @@ fn set_constants(values: u64, terms: &mut [u64])
         if values >> (t - 32) == 0 {
             return;
         }
-        terms[t] = spread(digit(values, t - 32));
+        terms[t] = spread(basics::digit(values, t - 32));
         t += 1;
     }
 }

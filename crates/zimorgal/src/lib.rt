@@ -139,7 +139,7 @@ fn clear_work(work: &mut [u8])
     requires { ⌜ workBytes ≤ length (now work) ⌝ }
     ensures { λ _. ⌜ now (work .exit) ≡ zeros workBytes ++ drop workBytes (now (work .entry)) ⌝ }
 {
-    show::fill(&mut work[0..WORK_BYTES], 0);
+    basics::fill(&mut work[0..WORK_BYTES], 0);
 }
 
 // ---- asking
@@ -183,18 +183,13 @@ fn pack(outcome: Outcome) -> u64
     requires { ⌜ InBytes outcome ⌝ }
     ensures { λ r. ⌜ r ≡ packed outcome ⌝ }
 {
-    let low = wide(outcome.verdict) + 256 * wide(outcome.refusal) + 65536 * (outcome.place as u64);
+    let low = basics::wide(outcome.verdict)
+        + 256 * basics::wide(outcome.refusal)
+        + 65536 * (outcome.place as u64);
     let height = 4294967296 * (outcome.height as u64);
-    let reason = 1099511627776 * wide(outcome.reason);
+    let reason = 1099511627776 * basics::wide(outcome.reason);
     let number = 281474976710656 * (outcome.number as u64);
     low + height + reason + number
-}
-
-// A byte as a wide number.
-fn wide(byte: u8) -> u64
-    ensures { λ r. ⌜ r ≡ byte ⌝ }
-{
-    byte as u64
 }
 
 // ---- the calls
@@ -234,7 +229,7 @@ fn text_number(written: Written) -> u64
 {
     match written {
         Written::Length(n) => n as u64,
-        Written::Refused(n) => 4294967296 * wide(n),
+        Written::Refused(n) => 4294967296 * basics::wide(n),
     }
 }
 

@@ -29,14 +29,14 @@ power-requires c κs = omega arith
 loop-holds : tie.Need-loop-holds Inv-loop μ-loop
 loop-holds c = (omega arith, refl, λ i l. absurd (omega arith))
 
-mul-digit : tie.Need-mul-digit Inv-loop μ-loop
-mul-digit c = omega (arith, pow-mono (c .before .before .before .before .before .pre .0))
+mul-digit-of : tie.Need-mul-digit-of Inv-loop μ-loop
+mul-digit-of c = omega (arith, pow-mono (c .before .before .before .before .before .pre .0))
 
-element-copy-out-digit : tie.Need-element-copy-out-digit Inv-loop μ-loop
-element-copy-out-digit c = omega (arith, pow-mono (c .before .before .before .before .before .pre .0))
+element-copy-out-digit-of : tie.Need-element-copy-out-digit-of Inv-loop μ-loop
+element-copy-out-digit-of c = omega (arith, pow-mono (c .before .before .before .before .before .pre .0))
 
-digit-requires : tie.Need-digit-requires Inv-loop μ-loop
-digit-requires c κs = c .before .before .before .before .before .before .pre .2
+digit-of-requires : tie.Need-digit-of-requires Inv-loop μ-loop
+digit-of-requires c κs = c .before .before .before .before .before .before .pre .2
 
 write-block-requires : tie.Need-write-block-requires Inv-loop μ-loop
 write-block-requires c κs =
@@ -58,7 +58,7 @@ loop-again c =
     let l = c .before .before .before .before .before .before .before .loop in (
       omega arith,
       c .before .before .write-block .kept .0 ∙ l .inv .1,
-      blocks-more _ _ (λ k. bit (getD (start .args .plain .now) k 0) (start .args .p)) _ (l .row) _ (l .inv .2) (c .before .before .write-block .ensures) (c .before .before .before .digit .ensures),
+      blocks-more _ _ (λ k. bit (getD (start .args .plain .now) k 0) (start .args .p)) _ (l .row) _ (l .inv .2) (c .before .before .write-block .ensures) (c .before .before .before .digit-of .ensures),
     )
 
 same-length : tie.Need-same-length Inv-loop μ-loop
@@ -79,9 +79,9 @@ write-leaves-spec =
     sub-height
     power-requires
     loop-holds
-    mul-digit
-    element-copy-out-digit
-    digit-requires
+    mul-digit-of
+    element-copy-out-digit-of
+    digit-of-requires
     write-block-requires
     add-k
     loop-less

@@ -30,14 +30,14 @@ element-copy-out-s c = omega (arith, c .before .before .before .pre .0 .few)
 cast-s : tie.Need-cast-s Inv-loop μ-loop
 cast-s c = omega (arith, sub-leaf-small _ (c .before .before .before .before .pre .0) _ (c .before .loop-test .taken))
 
-mul-digit : tie.Need-mul-digit Inv-loop μ-loop
-mul-digit c = omega (arith, c .before .before .before .before .before .pre .0 .few)
+mul-digit-of : tie.Need-mul-digit-of Inv-loop μ-loop
+mul-digit-of c = omega (arith, c .before .before .before .before .before .pre .0 .few)
 
-element-copy-out-digit : tie.Need-element-copy-out-digit Inv-loop μ-loop
-element-copy-out-digit c = omega (arith, c .before .before .before .before .before .pre .0 .few)
+element-copy-out-digit-of : tie.Need-element-copy-out-digit-of Inv-loop μ-loop
+element-copy-out-digit-of c = omega (arith, c .before .before .before .before .before .pre .0 .few)
 
-digit-requires : tie.Need-digit-requires Inv-loop μ-loop
-digit-requires c κs = c .before .before .before .before .before .before .pre .1 .1
+digit-of-requires : tie.Need-digit-of-requires Inv-loop μ-loop
+digit-of-requires c κs = c .before .before .before .before .before .before .pre .1 .1
 
 write-block-requires : tie.Need-write-block-requires Inv-loop μ-loop
 write-block-requires c κs =
@@ -58,7 +58,7 @@ loop-again c =
     let l = c .before .before .before .before .before .before .before .before .loop in (
       omega arith,
       c .before .before .write-block .kept .0 ∙ l .inv .1,
-      shows-more _ (c .before .before .before .before .before .before .before .before .before .before .pre .0) _ _ _ (l .row) _ (l .inv .2) (c .before .before .write-block .ensures) (c .before .before .before .digit .ensures),
+      shows-more _ (c .before .before .before .before .before .before .before .before .before .before .pre .0) _ _ _ (l .row) _ (l .inv .2) (c .before .before .write-block .ensures) (c .before .before .before .digit-of .ensures),
     )
 
 same-length : tie.Need-same-length Inv-loop μ-loop
@@ -81,9 +81,9 @@ write-sub-leaves-spec =
     mul-s
     element-copy-out-s
     cast-s
-    mul-digit
-    element-copy-out-digit
-    digit-requires
+    mul-digit-of
+    element-copy-out-digit-of
+    digit-of-requires
     write-block-requires
     add-n
     loop-less

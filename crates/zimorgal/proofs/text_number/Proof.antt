@@ -20,7 +20,7 @@ returns : tie.Need-returns
 returns c = text-written _ _ (c .before .written .given .1)
 
 returns-2 : tie.Need-returns-2
-returns-2 c = text-refused _ _ _ (c .before .before .written2 .given .1) (c .wide .ensures)
+returns-2 c = text-refused _ _ _ (c .before .before .written2 .given .1) (c .wide .ensures .0)
 
 pub text-number-spec : {M : Type 1} → statement M
 text-number-spec =

@@ -1,12 +1,12 @@
--- `show::fill` sets every byte. The loop's invariant: those before i are set, the others are as they were. Assumes nothing.
+-- `basics::fill` sets every byte. The loop's invariant: those before i are set, the others are as they were. Assumes nothing.
 use native.Mathlib.Omega.{arith}
 use Prim.Native.Nat.{ℕ, _≤_, _<_, _-_, _+_}
 use mathlib.Core.Path.{_≡_, refl, _∙_}
 use mathlib.Core.List.{List, _++_, append-nil}
 use lib.ListN.{length, replicate, drop, set, length-set, drop-of-length-le}
 use borrow.Author.Fill.{fill-none, fill-more}
-use Rattle.show.proofs.fill.Statement.{statement}
-use Rattle.show.proofs.fill.Tie as tie
+use Rattle.basics.proofs.fill.Statement.{statement}
+use Rattle.basics.proofs.fill.Tie as tie
 
 turn : (b i : ℕ) (part₀ part : List ℕ) → i < length part₀ → part ≡ replicate i b ++ drop i part₀ → set part i b ≡ replicate (i + 1) b ++ drop (i + 1) part₀
 turn b i part₀ part lt e = rw e (fill-more i b part₀ lt)

@@ -1,12 +1,12 @@
--- `words::digit` meets its contract. Assumes nothing.
+-- `basics::digit` meets its contract. Assumes nothing.
 use mathlib.Core.Path.{ap}
 use Prim.Native.Nat.{_/_, _^_}
 use lib.Bits.{and-mask}
 use lib.Dec.{eqb}
 use borrow.Author.Needs.{needs}
 use Rattle.shares.specs.Constant.{bit}
-use Rattle.words.proofs.digit.Statement.{statement}
-use Rattle.words.proofs.digit.Tie as tie
+use Rattle.basics.proofs.digit.Statement.{statement}
+use Rattle.basics.proofs.digit.Tie as tie
 
 shr-result : tie.Need-shr-result
 shr-result c = search needs

@@ -1,0 +1,46 @@
+// Numbers and bytes: small functions that several crates use.
+ghost use mathlib.Core.Path.{_≡_};
+ghost use Prim.Native.Nat.{_^_, _<_};
+ghost use lib.ListN.{length, replicate};
+ghost use Rattle.shares.specs.Constant.{bit};
+
+// Two to the power k.
+pub fn power(k: usize) -> usize
+    requires { ⌜ k < 64 ⌝ }
+    ensures { λ r. ⌜ r ≡ 2 ^ k ⌝ }
+{
+    1 << k
+}
+
+// Whether bit p of x is set.
+pub fn digit(x: u64, p: usize) -> bool
+    requires { ⌜ p < 64 ⌝ }
+    ensures { λ r. ⌜ r ≡ bit x p ⌝ }
+{
+    (x >> p) & 1 == 1
+}
+
+// A byte as a wide number.
+pub fn wide(byte: u8) -> u64
+    ensures { λ r. ⌜ (r ≡ byte) × (r < 256) ⌝ }
+{
+    byte as u64
+}
+
+// A byte as an index.
+pub fn index(byte: u8) -> usize
+    ensures { λ r. ⌜ (r ≡ byte) × (r < 256) ⌝ }
+{
+    byte as usize
+}
+
+// Sets every byte of a part.
+pub fn fill(part: &mut [u8], byte: u8)
+    ensures { λ _. ⌜ now (part .exit) ≡ replicate (length (now (part .entry))) byte ⌝ }
+{
+    let mut i: usize = 0;
+    while i < part.len() {
+        part[i] = byte;
+        i += 1;
+    }
+}
