@@ -17,14 +17,14 @@ use Rattle.shares.specs.TreeLaws.{treeOf-ext}
 use Rattle.leaves.specs.Heights.{c}
 use Rattle.leaves.specs.Choices.{Row, at, least, value}
 use Rattle.leaves.specs.Problem.{Problem, plainAt, specialAt, solvable, candidate}
-use Rattle.leaves.specs.ProblemLaws.{home-passes, place-lt}
-use Rattle.leaves.specs.Second.{stuck, canStick, canAvoid, firstAvoided}
-use Rattle.leaves.specs.SecondLaws.{stuck-solvable}
+use Rattle.leaves.specs.ProblemLaws.{block-passes, rank-lt}
+use Rattle.leaves.specs.Second.{withUnmet, canBeUnmet, canBeMissed, firstMissed}
+use Rattle.leaves.specs.SecondLaws.{unmet-solvable}
 use Rattle.systems.specs.Clauses.{Assignment}
 use Rattle.systems.specs.Questions.{satisfiability, entailment, Question, questionHeight, firstCount, secondCount}
 use Rattle.systems.specs.Answers.{Answer, satisfied, unsatisfied, vacuous, entailed, unmet, missed, shows, heightGiven}
 use Rattle.systems.specs.AtLeaves.{firstAt, secondAt}
-use Rattle.systems.specs.Decide.{canSolve, canBreak, lowestMissed, decideKind, decide, sharesOf, fixed, shownWith}
+use Rattle.systems.specs.Decide.{canSolve, someUnmet, lowestMissed, decideKind, decide, sharesOf, fixed, shownWith}
 use Rattle.questions.specs.Held as held
 use Rattle.questions.specs.declared.Section.the-variants.{FirstDisequation, SecondDisequation}
 use Rattle.show.specs.declared.Plan.{Plan}
@@ -32,13 +32,13 @@ use Rattle.show.specs.Plans as shown
 use Rattle.plans.specs.Numbers.{numbered}
 use Rattle.plans.specs.Tests.{Stored, roomOf, testsOf}
 use Rattle.plans.specs.StoredLaws.{row-digit}
-use Rattle.decide.specs.StandsLaws.{storedOf, Same, same-first, same-stuck, same-avoiding, count-same}
+use Rattle.decide.specs.StandsLaws.{storedOf, Same, same-first, same-unmet, same-missed, count-same}
 use Rattle.plans.specs.ShownLaws.{plan-shows}
 use Rattle.plans.specs.Entries.{Made, SolvedAs}
-use Rattle.plans.specs.SolveLaws.{stuck-plainly, room-splits}
+use Rattle.plans.specs.SolveLaws.{unmet-plainly, room-splits}
 use Rattle.decide.specs.Decision.{Planned, Decided}
 use Rattle.plans.specs.declared.Search.{Search}
-use Rattle.plans.specs.declared.Search.the-variants.{First, Stuck, Avoiding}
+use Rattle.plans.specs.declared.Search.the-variants.{First, Unmet, Missed}
 use Rattle.decide.specs.declared.Finding.the-variants.{Satisfied, Unsatisfied, Vacuous, Entailed, Unmet, Missed}
 use Rattle.plans.specs.declared.Solved.{Solved}
 
@@ -48,11 +48,11 @@ flip true e = ap not e
 flip false e = ap not e
 
 -- a problem with one disequation more is solvable only if some leaf meets that one
-stuck-sticks : (h : ℕ) (q : Question) → T (solvable (least (q .free)) h (stuck (least (q .own)) (secondAt h q) (firstAt h q))) → T (canBreak h q)
-unfolding solvable canStick specialAt
-stuck-sticks h q t =
-    every-at _ (λ j. someBelow (2 ^ h) (specialAt (least (q .free)) (stuck (least (q .own)) (secondAt h q) (firstAt h q)) j))
-    (and-right (everyBelow (2 ^ h) (plainAt (least (q .free)) (stuck (least (q .own)) (secondAt h q) (firstAt h q)))) _ t) 0 (suc-le-suc zero-le)
+unmet-somewhere : (h : ℕ) (q : Question) → T (solvable (least (q .free)) h (withUnmet (least (q .own)) (secondAt h q) (firstAt h q))) → T (someUnmet h q)
+unfolding solvable canBeUnmet specialAt
+unmet-somewhere h q t =
+    every-at _ (λ j. someBelow (2 ^ h) (specialAt (least (q .free)) (withUnmet (least (q .own)) (secondAt h q) (firstAt h q)) j))
+    (and-right (everyBelow (2 ^ h) (plainAt (least (q .free)) (withUnmet (least (q .own)) (secondAt h q) (firstAt h q)))) _ t) 0 (suc-le-suc zero-le)
 
 module _ (x : held.Held) (q : Question) (St : held.Stands x q) (h : ℕ) (low : h ≤ 5) where
   abbrev S : Stored
@@ -72,16 +72,16 @@ module _ (x : held.Held) (q : Question) (St : held.Stands x q) (h : ℕ) (low : 
       within = omega (arith, M .high);
       blocks = omega (arith, M .low);
       few = let p : 2 ^ k ≤ 2 ^ 5 = pow-mono {j = 5} few in omega (arith, M .count);
-      places = λ j l.
+      sub-leaves = λ j l.
           let m : j < R .count = rw (M .count) at l in
-          rw (M .high, M .places j m)
-          (leaf-lt h k (home-passes (least (q .free)) h (numbered (q .free) R) can j m .0) (place-lt (least (q .free)) h (numbered (q .free) R) k j room m));
+          rw (M .high, M .sub-leaves j m)
+          (leaf-lt h k (block-passes (least (q .free)) h (numbered (q .free) R) can j m .0) (rank-lt (least (q .free)) h (numbered (q .free) R) k j room m));
     }
 
     fixed-trees : (v : ℕ) → v < q .free → shown.planTree plan (q .free - 1 - v) ≡ fixed h q P k v .tree
     unfolding shown.planTree sharesOf
     fixed-trees v l =
-        ap (λ w. treeOf w (λ s. bit (shown.choiceAt plan s) (q .free - 1 - v))) (M .high)
+        ap (λ w. treeOf w (λ s. bit (shown.planChoice plan s) (q .free - 1 - v))) (M .high)
         ∙ treeOf-ext (h + k) _ _ (λ s m.
         ap (λ y. bit y (q .free - 1 - v)) (plan-shows (q .free) h R k plan M room s m can ∙ ap value (sym (same .candidate-is k s m)))
         ∙ sym (row-digit (q .free) (candidate (least (q .free)) h P k s) v l))
@@ -143,11 +143,11 @@ module _ (x : held.Held) (q : Question) (St : held.Stands x q) (low : questionHe
         let d : decide q ≡ unsatisfied = rw (kind, sym can ∙ e) in
         record { answer = sym d; plan = unshown unsatisfied plan refl d }
 
-  -- of an entailment: the search for a stuck leaf says of the first system too whether it has a solution
-  module _ (second : Solved) (E : SolvedAs Q H Stuck second) (kind : q .kind ≡ entailment) where
+  -- of an entailment: the search for an unmet leaf says of the first system too whether it has a solution
+  module _ (second : Solved) (E : SolvedAs Q H Unmet second) (kind : q .kind ≡ entailment) where
     can-plainly : second .plainly ≡ canSolve H q
     can-plainly =
-        E .plainly ∙ ap (λ R. solvable (least (q .free)) H (numbered (q .free) R)) (stuck-plainly Q H) ∙ sym (same-first x q St H .solvable-is)
+        E .plainly ∙ ap (λ R. solvable (least (q .free)) H (numbered (q .free) R)) (unmet-plainly Q H) ∙ sym (same-first x q St H .solvable-is)
 
     pub decided-vacuous : second .plainly ≡ false → (plan : Plan) → Decided q (record { finding = Vacuous; plan = plan })
     unfolding decideKind
@@ -156,37 +156,37 @@ module _ (x : held.Held) (q : Question) (St : held.Stands x q) (low : questionHe
         record { answer = sym d; plan = unshown vacuous plan refl d }
 
     module _ (e : second .plainly ≡ true) where
-      stuck-found : second .found ≡ solvable (least (q .free)) H (stuck (least (q .own)) (secondAt H q) (firstAt H q))
-      stuck-found = found-is x q St H low Stuck _ (same-stuck x q St H) second E
+      unmet-found : second .found ≡ solvable (least (q .free)) H (withUnmet (least (q .own)) (secondAt H q) (firstAt H q))
+      unmet-found = found-is x q St H low Unmet _ (same-unmet x q St H) second E
 
       pub decided-unmet : second .found ≡ true → Decided q (record { finding = Unmet; plan = second .plan })
       unfolding decideKind
       decided-unmet f =
-          let breaks : canBreak H q ≡ true = is-true _ (stuck-sticks H q (of-true (sym stuck-found ∙ f))) in
+          let breaks : someUnmet H q ≡ true = is-true _ (unmet-somewhere H q (of-true (sym unmet-found ∙ f))) in
           let d : decide q ≡ unmet = rw (kind, sym can-plainly ∙ e, breaks) in
           record {
             answer = sym d;
             plan = λ _. planned unmet _ (c (firstCount q + 1)) (second .plan) d refl refl
-                (found-plan x q St H low Stuck _ (same-stuck x q St H) second E (of-true f));
+                (found-plan x q St H low Unmet _ (same-unmet x q St H) second E (of-true f));
           }
 
       module _ (f : second .found ≡ false) (j : ℕ)
-          (lowest : j ≡ firstBelow (getD (x .counts) 3 0) (λ i. solvable (least (q .free)) H (numbered (q .free) (testsOf Q H (Avoiding i))))) where
-        holds-on : canBreak H q ≡ false
+          (lowest : j ≡ firstBelow (getD (x .counts) 3 0) (λ i. solvable (least (q .free)) H (numbered (q .free) (testsOf Q H (Missed i))))) where
+        holds-on : someUnmet H q ≡ false
         holds-on =
-            is-false (canBreak H q) (not-T (canBreak H q) (λ t.
-            T-not (solvable (least (q .free)) H (stuck (least (q .own)) (secondAt H q) (firstAt H q))) (of-false (sym stuck-found ∙ f))
-            (stuck-solvable (least (q .free)) (least (q .own)) H (firstAt H q) (secondAt H q) (of-true (sym can-plainly ∙ e)) t)))
+            is-false (someUnmet H q) (not-T (someUnmet H q) (λ t.
+            T-not (solvable (least (q .free)) H (withUnmet (least (q .own)) (secondAt H q) (firstAt H q))) (of-false (sym unmet-found ∙ f))
+            (unmet-solvable (least (q .free)) (least (q .own)) H (firstAt H q) (secondAt H q) (of-true (sym can-plainly ∙ e)) t)))
 
         count : getD (x .counts) 3 0 ≡ secondCount q
         count = sym (count-same x q St H SecondDisequation)
 
         lowest-is : j ≡ lowestMissed H q
-        unfolding firstAvoided canAvoid
+        unfolding firstMissed canBeMissed
         lowest-is =
             lowest
-            ∙ first-ext (getD (x .counts) 3 0) _ _ (λ i l. sym (same-avoiding x q St H i l .solvable-is))
-            ∙ ap (λ n. firstBelow n (canAvoid (least (q .free)) (least (q .own)) H (firstAt H q) (secondAt H q))) count
+            ∙ first-ext (getD (x .counts) 3 0) _ _ (λ i l. sym (same-missed x q St H i l .solvable-is))
+            ∙ ap (λ n. firstBelow n (canBeMissed (least (q .free)) (least (q .own)) H (firstAt H q) (secondAt H q))) count
 
         pub decided-entailed : getD (x .counts) 3 0 ≤ j → (plan : Plan) → Decided q (record { finding = Entailed; plan = plan })
         unfolding decideKind
@@ -194,16 +194,16 @@ module _ (x : held.Held) (q : Question) (St : held.Stands x q) (low : questionHe
             let d : decide q ≡ entailed = rw (kind, sym can-plainly ∙ e, holds-on, ← lowest-is, ← count, le-ltb j (getD (x .counts) 3 0) l) in
             record { answer = sym d; plan = unshown entailed plan refl d }
 
-        pub decided-missed : j < getD (x .counts) 3 0 → (third : Solved) → SolvedAs Q H (Avoiding j) third → Decided q (record { finding = Missed j; plan = third .plan })
+        pub decided-missed : j < getD (x .counts) 3 0 → (third : Solved) → SolvedAs Q H (Missed j) third → Decided q (record { finding = Missed j; plan = third .plan })
         unfolding decideKind
         decided-missed l third G =
             let d : decide q ≡ missed j = rw (kind, sym can-plainly ∙ e, holds-on, ← lowest-is, ← count, lt-ltb j (getD (x .counts) 3 0) l) in
-            let t : T (third .found) = rw (G .found) (avoided l) in
+            let t : T (third .found) = rw (G .found) (missed-is l) in
             record {
               answer = sym d;
               plan = λ _. planned (missed j) _ (c (firstCount q + 1)) (third .plan) d refl refl
-                  (found-plan x q St H low (Avoiding j) _ (same-avoiding x q St H j l) third G t);
+                  (found-plan x q St H low (Missed j) _ (same-missed x q St H j l) third G t);
             }
           where
-            avoided : j < getD (x .counts) 3 0 → T (solvable (least (q .free)) H (numbered (q .free) (testsOf Q H (Avoiding j))))
-            avoided l = rw (← lowest) at (first-below (getD (x .counts) 3 0) (λ i. solvable (least (q .free)) H (numbered (q .free) (testsOf Q H (Avoiding i)))) (rw (← lowest) l))
+            missed-is : j < getD (x .counts) 3 0 → T (solvable (least (q .free)) H (numbered (q .free) (testsOf Q H (Missed j))))
+            missed-is l = rw (← lowest) at (first-below (getD (x .counts) 3 0) (λ i. solvable (least (q .free)) H (numbered (q .free) (testsOf Q H (Missed i)))) (rw (← lowest) l))

@@ -1,5 +1,5 @@
 pub mod Decision
 pub mod DecideLaws
-pub mod HeightOfLaws
+pub mod QuestionHeightLaws
 pub mod StandsLaws
 pub mod ReadableLaws

@@ -20,7 +20,7 @@ use Rattle.plans.specs.Tests.{Readable, stored}
 use Rattle.plans.specs.Entries.{SolvedAs}
 use Rattle.plans.specs.declared.Search.{Search}
 use Rattle.plans.specs.declared.Solved.{Solved}
-use Rattle.missed.specs.Missed.{avoidable}
+use Rattle.missed.specs.Missed.{missedIn}
 use Rattle.decide.specs.StandsLaws.{storedOf}
 
 -- one of four bytes
@@ -84,6 +84,6 @@ module _ (x : held.Held) (q : Question) (St : held.Stands x q) where
   solved-at e D = rw (← (St .free), ← (St .own), ← e) D
 
   pub lowest-at : {h j : ℕ} → h ≡ questionHeight q
-      → j ≡ firstBelow (getD (x .counts) 3 0) (avoidable (stored (x .clauses) (x .counts) (x .constants) (x .defined) (x .free) (x .own)) h)
-      → j ≡ firstBelow (getD (x .counts) 3 0) (avoidable (storedOf x (q .free) (q .own)) (questionHeight q))
+      → j ≡ firstBelow (getD (x .counts) 3 0) (missedIn (stored (x .clauses) (x .counts) (x .constants) (x .defined) (x .free) (x .own)) h)
+      → j ≡ firstBelow (getD (x .counts) 3 0) (missedIn (storedOf x (q .free) (q .own)) (questionHeight q))
   lowest-at e l = rw (← (St .free), ← (St .own), ← e) l

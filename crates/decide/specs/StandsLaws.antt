@@ -28,7 +28,7 @@ use Rattle.plans.specs.Numbers.{numbered}
 use Rattle.plans.specs.NumberLaws.{some-number, solvable-same, candidate-same}
 use Rattle.plans.specs.Tests.{Stored, leafValues, firstMeets, firstDiffers, secondMeets, secondDiffers, specialIn, testsOf}
 use Rattle.plans.specs.StoredLaws.{row-digit, atom-same, section-same}
-use Rattle.plans.specs.declared.Search.the-variants.{First, Stuck, Avoiding}
+use Rattle.plans.specs.declared.Search.the-variants.{First, Unmet, Missed}
 
 -- what is held, with n free and m own variables
 abbrev pub storedOf : held.Held → ℕ → ℕ → Stored
@@ -156,18 +156,18 @@ module _ (x : held.Held) (q : Question) (St : held.Stands x q) (h : ℕ) where
   pub same-first : Same (firstAt h q) (testsOf S h First)
   same-first = same-of _ _ (count-same FirstDisequation ∙ omega arith) first-pos (λ j l b v. stored-after 0 j j b v (omega arith) l)
 
-  pub same-stuck : Same (leaf.stuck (least (q .own)) (secondAt h q) (firstAt h q)) (testsOf S h Stuck)
+  pub same-unmet : Same (leaf.withUnmet (least (q .own)) (secondAt h q) (firstAt h q)) (testsOf S h Unmet)
   unfolding specialIn
-  same-stuck = same-of _ _ (ap suc (count-same FirstDisequation) ∙ omega arith) first-pos go
+  same-unmet = same-of _ _ (ap suc (count-same FirstDisequation) ∙ omega arith) first-pos go
     where
       go : (j : ℕ) → j < suc (firstAt h q .count) → (b : ℕ) (v : Row Bool (q .free))
-          → leaf.stuck (least (q .own)) (secondAt h q) (firstAt h q) .dis j b v ≡ testsOf S h Stuck .dis j b (value v)
+          → leaf.withUnmet (least (q .own)) (secondAt h q) (firstAt h q) .dis j b v ≡ testsOf S h Unmet .dis j b (value v)
       go zero l b v = ap not (second-meets b v)
       go (suc j) l b v = stored-after 1 j (suc j) b v (omega arith) (le-of-suc-le-suc l)
 
-  pub same-avoiding : (j : ℕ) → j < held.countOf (x .counts) SecondDisequation
-      → Same (leaf.avoiding (least (q .own)) (secondAt h q) (firstAt h q) j) (testsOf S h (Avoiding j))
-  same-avoiding j l =
+  pub same-missed : (j : ℕ) → j < held.countOf (x .counts) SecondDisequation
+      → Same (leaf.withMissed (least (q .own)) (secondAt h q) (firstAt h q) j) (testsOf S h (Missed j))
+  same-missed j l =
       same-of _ _ (count-same FirstDisequation ∙ omega arith)
       (λ b v. ap₂ (λ y z. y && not z) (first-pos b v) (second-with b v j l))
       (λ i m b v. stored-after 0 i i b v (omega arith) m)

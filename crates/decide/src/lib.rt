@@ -31,7 +31,7 @@ pub struct Decision {
 // ---- the question
 
 // The number of constant i.
-fn constant_at(constants: &[u64; 32], i: usize) -> u64
+fn number_of(constants: &[u64; 32], i: usize) -> u64
     requires { ⌜ i < 32 ⌝ }
     ensures { λ r. ⌜ r ≡ getD (now (constants .entry)) i 0 ⌝ }
 {
@@ -49,14 +49,14 @@ fn larger(a: usize, b: usize) -> usize
 }
 
 // The height of a question: that of its tallest constant.
-fn height_of(constants: &[u64; 32], defined: usize) -> usize
+fn question_height(constants: &[u64; 32], defined: usize) -> usize
     requires { ⌜ (defined ≤ 32) × (length (now constants) ≡ 32) × ((i : ℕ) → i < defined → getD (now constants) i 0 < 2 ^ 32) ⌝ }
     ensures { λ r. ⌜ r ≡ tallestConstant constantLevels (take defined (now (constants .entry))) ⌝ }
 {
     let mut h: usize = 0;
     let mut i: usize = 0;
     while i < defined {
-        let x = constant_at(constants, i);
+        let x = number_of(constants, i);
         h = larger(h, shares::constant_height(x as u32) as usize);
         i += 1;
     }
@@ -76,7 +76,7 @@ fn decide_entailment(
     requires { ⌜ Readable (now clauses) (now counts) free own × (defined ≤ 32) × (h ≤ 5) ⌝ }
     ensures { λ r. ⌜ DecidedParts (now (clauses .entry)) (now (counts .entry)) (now (constants .entry)) defined free own h r ⌝ }
 {
-    let stuck = plans::solve(
+    let unmet = plans::solve(
         clauses,
         counts,
         constants,
@@ -84,16 +84,16 @@ fn decide_entailment(
         free,
         own,
         h,
-        Search::Stuck,
+        Search::Unmet,
     );
-    let plan = stuck.plan;
-    if !stuck.plainly {
+    let plan = unmet.plan;
+    if !unmet.plainly {
         return Decision {
             finding: Finding::Vacuous,
             plan,
         };
     }
-    if stuck.found {
+    if unmet.found {
         return Decision {
             finding: Finding::Unmet,
             plan,
@@ -101,7 +101,7 @@ fn decide_entailment(
     }
     let j = missed::lowest_missed(clauses, counts, constants, defined, free, own, h);
     if j < counts[3] {
-        let avoiding = plans::solve(
+        let missed = plans::solve(
             clauses,
             counts,
             constants,
@@ -109,9 +109,9 @@ fn decide_entailment(
             free,
             own,
             h,
-            Search::Avoiding(j),
+            Search::Missed(j),
         );
-        let shown = avoiding.plan;
+        let shown = missed.plan;
         return Decision {
             finding: Finding::Missed(j),
             plan: shown,
@@ -136,7 +136,7 @@ pub fn decide(
     requires { ⌜ Standing (heldOf kind (now clauses) (now counts) (now constants) defined free own) ⌝ }
     ensures { λ r. ⌜ ((q : Asked) → Stands (heldOf kind (now (clauses .entry)) (now (counts .entry)) (now (constants .entry)) defined free own) q → WellFormed q → Decided q r) ⌝ }
 {
-    let h = height_of(constants, defined);
+    let h = question_height(constants, defined);
     if kind == 0 {
         let first = plans::solve(
             clauses,

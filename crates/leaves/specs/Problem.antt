@@ -48,20 +48,20 @@ module _ {X : Type 0} (C : Picker X) (h : ℕ) (P : Problem X) where
   solvable = everyBelow (2 ^ h) (plainAt C P) && everyBelow (P .count) (λ j. someBelow (2 ^ h) (specialAt C P j))
 
   -- the leftmost block that can meet disequation j: there it stands
-  unfoldable pub home : ℕ → ℕ
-  home j = firstBelow (2 ^ h) (specialAt C P j)
+  unfoldable pub blockFor : ℕ → ℕ
+  blockFor j = firstBelow (2 ^ h) (specialAt C P j)
 
   -- at which sub-leaf of that block it stands: after those before it that stand there
-  unfoldable pub place : ℕ → ℕ
-  place j = countBelow j (λ i. eqb (home i) (home j))
+  unfoldable pub rank : ℕ → ℕ
+  rank j = countBelow j (λ i. eqb (blockFor i) (blockFor j))
 
   -- the disequation that stands at sub-leaf r of block b; their count where none does
-  unfoldable pub guest : ℕ → ℕ → ℕ
-  guest b r = firstBelow (P .count) (λ j. eqb (home j) b && eqb (place j) r)
+  unfoldable pub disequationAt : ℕ → ℕ → ℕ
+  disequationAt b r = firstBelow (P .count) (λ j. eqb (blockFor j) b && eqb (rank j) r)
 
   -- the choice at sub-leaf r of block b: one for the disequation that stands there, or one for the positive clauses alone
   unfoldable pub choiceAt : ℕ → ℕ → X
-  choiceAt b r = cond (ltb (guest b r) (P .count)) (C .pick (λ x. P .pos b x && P .dis (guest b r) b x)) (C .pick (P .pos b))
+  choiceAt b r = cond (ltb (disequationAt b r) (P .count)) (C .pick (λ x. P .pos b x && P .dis (disequationAt b r) b x)) (C .pick (P .pos b))
 
   -- the fixed solution, of height h + k: each block is split into 2 ^ k sub-leaves
   unfoldable pub candidate : ℕ → ℕ → X

@@ -14,7 +14,7 @@ use Rattle.shares.specs.Blocks.{blockOf, firstOf, block-lt, first-lt, block-fir
 use Rattle.leaves.specs.Heights.{Room}
 use Rattle.leaves.specs.Choices.{Picker}
 use Rattle.leaves.specs.ChoiceLaws.{choice-intro, choice-found, both-intro}
-use Rattle.leaves.specs.Problem.{Problem, Solves, Solution, Leafwise, plainAt, specialAt, solvable, home, place, guest, choiceAt, candidate}
+use Rattle.leaves.specs.Problem.{Problem, Solves, Solution, Leafwise, plainAt, specialAt, solvable, blockFor, rank, disequationAt, choiceAt, candidate}
 
 -- ---- cut: a solution of any height has what each block needs
 
@@ -46,21 +46,21 @@ module _ {X : Type 0} (C : Picker X) (h : ℕ) (P : Problem X) where
     unfolding solvable
     plain-passes b l = every-at (2 ^ h) (plainAt C P) (and-left (everyBelow (2 ^ h) (plainAt C P)) _ t) b l
 
-    pub home-passes : (j : ℕ) → j < P .count → (home C h P j < 2 ^ h) × T (specialAt C P j (home C h P j))
-    unfolding solvable home
-    home-passes j l =
+    pub block-passes : (j : ℕ) → j < P .count → (blockFor C h P j < 2 ^ h) × T (specialAt C P j (blockFor C h P j))
+    unfolding solvable blockFor
+    block-passes j l =
         let (b, u, v) = some-found (2 ^ h) (specialAt C P j)
         (every-at (P .count) (λ j. someBelow (2 ^ h) (specialAt C P j)) (and-right (everyBelow (2 ^ h) (plainAt C P)) _ t) j l) in
         first-passes (2 ^ h) (specialAt C P j) b u v
 
     -- a sub-leaf where a disequation stands meets it, beside the positive clauses
-    served : (b r : ℕ) → guest C h P b r < P .count → T (P .pos b (choiceAt C h P b r)) × T (P .dis (guest C h P b r) b (choiceAt C h P b r))
-    unfolding choiceAt specialAt guest
+    served : (b r : ℕ) → disequationAt C h P b r < P .count → T (P .pos b (choiceAt C h P b r)) × T (P .dis (disequationAt C h P b r) b (choiceAt C h P b r))
+    unfolding choiceAt specialAt disequationAt
     served b r l =
-        let j = guest C h P b r in
-        let v = first-below (P .count) (λ j. eqb (home C h P j) b && eqb (place C h P j) r) l in
-        let e : home C h P j ≡ b = eqb→eq (home C h P j) b (and-left (eqb (home C h P j) b) _ v) in
-        let u : T (specialAt C P j b) = rw e at (home-passes j l .1) in
+        let j = disequationAt C h P b r in
+        let v = first-below (P .count) (λ j. eqb (blockFor C h P j) b && eqb (rank C h P j) r) l in
+        let e : blockFor C h P j ≡ b = eqb→eq (blockFor C h P j) b (and-left (eqb (blockFor C h P j) b) _ v) in
+        let u : T (specialAt C P j b) = rw e at (block-passes j l .1) in
         let p : X → Bool = λ x. P .pos b x && P .dis j b x in
         let w : T (p (C .pick p)) = choice-found C p u in
         rw (cond-passed (ltb j (P .count)) (C .pick p) (C .pick (P .pos b)) (lt→ltb j (P .count) l))
@@ -68,10 +68,10 @@ module _ {X : Type 0} (C : Picker X) (h : ℕ) (P : Problem X) where
 
     choice-pos : (b r : ℕ) → b < 2 ^ h → T (P .pos b (choiceAt C h P b r))
     unfolding choiceAt plainAt
-    choice-pos b r l = go (passes (ltb (guest C h P b r) (P .count)))
+    choice-pos b r l = go (passes (ltb (disequationAt C h P b r) (P .count)))
       where
         j : ℕ
-        j = guest C h P b r
+        j = disequationAt C h P b r
 
         go : T (ltb j (P .count)) ⊎ T (not (ltb j (P .count))) → T (P .pos b (choiceAt C h P b r))
         go (inl v) = served b r (ltb→lt j (P .count) v) .0
@@ -80,42 +80,42 @@ module _ {X : Type 0} (C : Picker X) (h : ℕ) (P : Problem X) where
             (choice-found C (P .pos b) (plain-passes b l))
 
   -- no two disequations stand at one sub-leaf
-  places-apart : (i j : ℕ) → i < j → home C h P i ≡ home C h P j → ¬ (place C h P i ≡ place C h P j)
-  unfolding place
+  places-apart : (i j : ℕ) → i < j → blockFor C h P i ≡ blockFor C h P j → ¬ (rank C h P i ≡ rank C h P j)
+  unfolding rank
   places-apart i j l p q =
-      let v : T (eqb (home C h P i) (home C h P j)) = rw p (eqb-refl (home C h P j)) in
-      let e : countBelow i (λ i. eqb (home C h P i) (home C h P j)) ≡ countBelow j (λ i. eqb (home C h P i) (home C h P j)) = rw p at q in
-      omega (arith, count-lt j (λ i. eqb (home C h P i) (home C h P j)) i l v)
+      let v : T (eqb (blockFor C h P i) (blockFor C h P j)) = rw p (eqb-refl (blockFor C h P j)) in
+      let e : countBelow i (λ i. eqb (blockFor C h P i) (blockFor C h P j)) ≡ countBelow j (λ i. eqb (blockFor C h P i) (blockFor C h P j)) = rw p at q in
+      omega (arith, count-lt j (λ i. eqb (blockFor C h P i) (blockFor C h P j)) i l v)
 
   -- the disequation that stands where j stands is j
-  pub guest-home : (j : ℕ) → j < P .count → guest C h P (home C h P j) (place C h P j) ≡ j
-  unfolding guest
-  guest-home j l = go (eq-or-lt-of-le (first-min (P .count) p j own))
+  pub at-block : (j : ℕ) → j < P .count → disequationAt C h P (blockFor C h P j) (rank C h P j) ≡ j
+  unfolding disequationAt
+  at-block j l = go (eq-or-lt-of-le (first-min (P .count) p j own))
     where
       b : ℕ
-      b = home C h P j
+      b = blockFor C h P j
 
       r : ℕ
-      r = place C h P j
+      r = rank C h P j
 
       p : ℕ → Bool
-      p i = eqb (home C h P i) b && eqb (place C h P i) r
+      p i = eqb (blockFor C h P i) b && eqb (rank C h P i) r
 
       own : T (p j)
       own = and-intro (eqb b b) _ (eqb-refl b) (eqb-refl r)
 
-      go : (guest C h P b r ≡ j) ⊎ (guest C h P b r < j) → guest C h P b r ≡ j
+      go : (disequationAt C h P b r ≡ j) ⊎ (disequationAt C h P b r < j) → disequationAt C h P b r ≡ j
       go (inl e) = e
       go (inr m) =
-          let i = guest C h P b r in
+          let i = disequationAt C h P b r in
           let v : T (p i) = first-passes (P .count) p j l own .1 in
           absurd (places-apart i j m
-          (eqb→eq (home C h P i) b (and-left (eqb (home C h P i) b) _ v))
-          (eqb→eq (place C h P i) r (and-right (eqb (home C h P i) b) _ v)))
+          (eqb→eq (blockFor C h P i) b (and-left (eqb (blockFor C h P i) b) _ v))
+          (eqb→eq (rank C h P i) r (and-right (eqb (blockFor C h P i) b) _ v)))
 
-  pub place-lt : (k j : ℕ) → P .count ≤ 2 ^ k → j < P .count → place C h P j < 2 ^ k
-  unfolding place
-  place-lt k j e l = le-trans (suc-le-suc (count-le j (λ i. eqb (home C h P i) (home C h P j)))) (le-trans l e)
+  pub rank-lt : (k j : ℕ) → P .count ≤ 2 ^ k → j < P .count → rank C h P j < 2 ^ k
+  unfolding rank
+  rank-lt k j e l = le-trans (suc-le-suc (count-le j (λ i. eqb (blockFor C h P i) (blockFor C h P j)))) (le-trans l e)
 
   -- the fixed solution solves the problem, at any height with room for its disequations
   pub candidate-solves : T (solvable C h P) → (k : ℕ) → P .count ≤ 2 ^ k → Solves h P (h + k) (candidate C h P k)
@@ -124,12 +124,12 @@ module _ {X : Type 0} (C : Picker X) (h : ℕ) (P : Problem X) where
     tall = le-add-right h k;
     everywhere = λ i l. rw block-split (choice-pos t (i / 2 ^ k) (i % 2 ^ k) (shr-lt h k l));
     somewhere = λ j l.
-        let f = place-lt k j e l in
-        let g = guest-home j l in (
-          home C h P j * 2 ^ k + place C h P j,
-          leaf-lt h k (home-passes t j l .0) f,
-          rw (block-split, high (home C h P j) k f, low (home C h P j) k f)
-              (rw g at (served t (home C h P j) (place C h P j) (rw g l) .1)),
+        let f = rank-lt k j e l in
+        let g = at-block j l in (
+          blockFor C h P j * 2 ^ k + rank C h P j,
+          leaf-lt h k (block-passes t j l .0) f,
+          rw (block-split, high (blockFor C h P j) k f, low (blockFor C h P j) k f)
+              (rw g at (served t (blockFor C h P j) (rank C h P j) (rw g l) .1)),
         );
   }
 

@@ -64,22 +64,22 @@ module _ {X Y : Type 0} (D : Picker Y) (Q : Second X Y) where
   meetsWith j b x = someChoice D (λ y. Q .pos b x y && Q .dis j b x y)
 
   -- the first system, and one leaf where no own choice meets the second's positive clauses: as a disequation before the others
-  abbrev pub stuck : Problem X → Problem X
-  stuck P = record { pos = P .pos; count = suc (P .count); dis = before (λ b x. not (meets b x)) (P .dis) }
+  abbrev pub withUnmet : Problem X → Problem X
+  withUnmet P = record { pos = P .pos; count = suc (P .count); dis = before (λ b x. not (meets b x)) (P .dis) }
 
   -- the first system, and no leaf where an own choice meets them and disequation j: asked of every leaf
-  abbrev pub avoiding : Problem X → ℕ → Problem X
-  avoiding P j = record { pos = λ b x. P .pos b x && not (meetsWith j b x); count = P .count; dis = P .dis }
+  abbrev pub withMissed : Problem X → ℕ → Problem X
+  withMissed P j = record { pos = λ b x. P .pos b x && not (meetsWith j b x); count = P .count; dis = P .dis }
 
 module _ {X Y : Type 0} (C : Picker X) (D : Picker Y) (h : ℕ) (P : Problem X) (Q : Second X Y) where
   -- some block has a choice for the first system beside which no own choice meets the second's positive clauses
-  unfoldable pub canStick : Bool
-  canStick = someBelow (2 ^ h) (λ b. someChoice C (λ x. P .pos b x && not (meets D Q b x)))
+  unfoldable pub canBeUnmet : Bool
+  canBeUnmet = someBelow (2 ^ h) (λ b. someChoice C (λ x. P .pos b x && not (meets D Q b x)))
 
-  -- disequation j of the second can be avoided
-  unfoldable pub canAvoid : ℕ → Bool
-  canAvoid j = solvable C h (avoiding D Q P j)
+  -- disequation j of the second can be missed
+  unfoldable pub canBeMissed : ℕ → Bool
+  canBeMissed j = solvable C h (withMissed D Q P j)
 
   -- the lowest that can; their count where none can
-  unfoldable pub firstAvoided : ℕ
-  firstAvoided = firstBelow (Q .count) canAvoid
+  unfoldable pub firstMissed : ℕ
+  firstMissed = firstBelow (Q .count) canBeMissed

@@ -13,7 +13,7 @@ use Rattle.leaves.specs.Choices.{Picker, someChoice}
 use Rattle.leaves.specs.ChoiceLaws.{choice-intro, choice-found, both-intro, both-found}
 use Rattle.leaves.specs.Problem.{Problem, Solves, Solution, Leafwise, solvable}
 use Rattle.leaves.specs.ProblemLaws.{cut, solvable-intro, cut-solvable, candidate-solves, solution-glued}
-use Rattle.leaves.specs.Second.{Second, Extends, Extension, positives, only, beside, Entails, Counter, meets, meetsWith, stuck, avoiding, canStick, canAvoid}
+use Rattle.leaves.specs.Second.{Second, Extends, Extension, positives, only, beside, Entails, Counter, meets, meetsWith, withUnmet, withMissed, canBeUnmet, canBeMissed}
 
 -- ---- an extension is a solution of the problem beside s, so it is cut and glued like one
 
@@ -85,34 +85,34 @@ module _ {X Y : Type 0} (D : Picker Y) (h : ℕ) (Q : Second X Y) (w : ℕ) (s :
 -- ---- the solutions of the problems that the tests search
 
 module _ {X Y : Type 0} (D : Picker Y) (h : ℕ) (P : Problem X) (Q : Second X Y) (w : ℕ) (s : ℕ → X) where
-  -- a solution that is stuck at a leaf solves the first system, and cannot meet the second's positive clauses
-  pub stuck-first : Solves h (stuck D Q P) w s → Solves h P w s
-  stuck-first S = record {
+  -- a solution that leaves the positive clauses unmet at a leaf solves the first system, and cannot meet the second's positive clauses
+  pub unmet-first : Solves h (withUnmet D Q P) w s → Solves h P w s
+  unmet-first S = record {
     tall = S .tall;
     everywhere = S .everywhere;
     somewhere = λ j l. S .somewhere (suc j) (suc-le-suc l);
   }
 
-  pub stuck-counter : Solves h (stuck D Q P) w s → ¬ Extension anyHeight h (positives Q) w s
-  stuck-counter S E =
+  pub unmet-counter : Solves h (withUnmet D Q P) w s → ¬ Extension anyHeight h (positives Q) w s
+  unmet-counter S E =
       let (i, u, v) = S .somewhere zero (suc-le-suc zero-le) in
       T-not (meets D Q (blockOf h w i) (s i)) v (meets-all D h Q w s (S .tall) .0 E i u)
 
-  -- a solution that avoids disequation j solves the first system, and cannot have j beside the second's positive clauses
-  pub avoiding-first : (j : ℕ) → Solves h (avoiding D Q P j) w s → Solves h P w s
-  avoiding-first j S = record {
+  -- a solution that misses disequation j solves the first system, and cannot have j beside the second's positive clauses
+  pub missed-first : (j : ℕ) → Solves h (withMissed D Q P j) w s → Solves h P w s
+  missed-first j S = record {
     tall = S .tall;
     everywhere = λ i l. and-left (P .pos (blockOf h w i) (s i)) _ (S .everywhere i l);
     somewhere = S .somewhere;
   }
 
-  pub avoiding-counter : (j : ℕ) → Solves h (avoiding D Q P j) w s → ¬ Extension anyHeight h (only j Q) w s
-  avoiding-counter j S E =
+  pub missed-counter : (j : ℕ) → Solves h (withMissed D Q P j) w s → ¬ Extension anyHeight h (only j Q) w s
+  missed-counter j S E =
       let (i, u, v) = meets-some D h Q w s (S .tall) j E in
       T-not (meetsWith D Q j (blockOf h w i) (s i)) (and-right (P .pos (blockOf h w i) (s i)) _ (S .everywhere i u)) v
 
-  avoiding-intro : (j : ℕ) → Solves h P w s → ((i : ℕ) → i < 2 ^ w → T (not (meetsWith D Q j (blockOf h w i) (s i)))) → Solves h (avoiding D Q P j) w s
-  avoiding-intro j S f = record {
+  missed-intro : (j : ℕ) → Solves h P w s → ((i : ℕ) → i < 2 ^ w → T (not (meetsWith D Q j (blockOf h w i) (s i)))) → Solves h (withMissed D Q P j) w s
+  missed-intro j S f = record {
     tall = S .tall;
     everywhere = λ i l. and-intro (P .pos (blockOf h w i) (s i)) _ (S .everywhere i l) (f i l);
     somewhere = S .somewhere;
@@ -121,15 +121,15 @@ module _ {X Y : Type 0} (D : Picker Y) (h : ℕ) (P : Problem X) (Q : Second X Y
 -- ---- what the tests say of the solutions whose height is among A
 
 module _ {X Y : Type 0} (C : Picker X) (D : Picker Y) (h : ℕ) (P : Problem X) (Q : Second X Y) where
-  -- where the first system is solvable and some block can be stuck, the two together are a solvable problem
-  pub stuck-solvable : T (solvable C h P) → T (canStick C D h P Q) → T (solvable C h (stuck D Q P))
-  unfolding canStick
-  stuck-solvable t u = solvable-intro C h (stuck D Q P) (record { plain = L .plain; special = go })
+  -- where the first system is solvable and some block can be unmet, the two together are a solvable problem
+  pub unmet-solvable : T (solvable C h P) → T (canBeUnmet C D h P Q) → T (solvable C h (withUnmet D Q P))
+  unfolding canBeUnmet
+  unmet-solvable t u = solvable-intro C h (withUnmet D Q P) (record { plain = L .plain; special = go })
     where
       L : Leafwise h P
       L = cut h P _ _ (candidate-solves C h P t (P .count) (le-pow (P .count)))
 
-      go : (j : ℕ) → j < suc (P .count) → (b : ℕ) × (b < 2 ^ h) × (x : X) × T (P .pos b x) × T (stuck D Q P .dis j b x)
+      go : (j : ℕ) → j < suc (P .count) → (b : ℕ) × (b < 2 ^ h) × (x : X) × T (P .pos b x) × T (withUnmet D Q P .dis j b x)
       go (suc j) m = L .special j (le-of-suc-le-suc m)
       go zero m =
           let (b, l, v) = some-found (2 ^ h) (λ b. someChoice C (λ x. P .pos b x && not (meets D Q b x))) u in
@@ -141,24 +141,24 @@ module _ {X Y : Type 0} (C : Picker X) (D : Picker Y) (h : ℕ) (P : Problem X) 
     weaker : (R : Problem X) → ((w : ℕ) (s : ℕ → X) → Solves h R w s → Solves h P w s) → Solution A h R → Solution A h P
     weaker R f S = record { height = S .height; allowed = S .allowed; leaves = S .leaves; solves = f (S .height) (S .leaves) (S .solves) }
 
-    -- some block can be stuck: a solution cannot meet the positive clauses, if there is room for one sub-leaf more than disequations
-    pub can-stick : Room A h (suc (P .count)) → T (solvable C h P) → T (canStick C D h P Q) → Counter A h P (positives Q)
+    -- some block can be unmet: a solution cannot meet the positive clauses, if there is room for one sub-leaf more than disequations
+    pub can-be-unmet : Room A h (suc (P .count)) → T (solvable C h P) → T (canBeUnmet C D h P Q) → Counter A h P (positives Q)
     unfolding weaker
-    can-stick r t u =
-        let S = solution-glued C h (stuck D Q P) A r (stuck-solvable t u) in
-        (weaker (stuck D Q P) (stuck-first D h P Q) S, stuck-counter D h P Q (S .height) (S .leaves) (S .solves))
+    can-be-unmet r t u =
+        let S = solution-glued C h (withUnmet D Q P) A r (unmet-solvable t u) in
+        (weaker (withUnmet D Q P) (unmet-first D h P Q) S, unmet-counter D h P Q (S .height) (S .leaves) (S .solves))
 
-    -- disequation j can be avoided: a solution cannot have it
-    pub can-avoid : Room A h (P .count) → (j : ℕ) → T (canAvoid C D h P Q j) → Counter A h P (only j Q)
-    unfolding canAvoid weaker
-    can-avoid r j t =
-        let S = solution-glued C h (avoiding D Q P j) A r t in
-        (weaker (avoiding D Q P j) (λ w s. avoiding-first D h P Q w s j) S, avoiding-counter D h P Q (S .height) (S .leaves) j (S .solves))
+    -- disequation j can be missed: a solution cannot have it
+    pub can-be-missed : Room A h (P .count) → (j : ℕ) → T (canBeMissed C D h P Q j) → Counter A h P (only j Q)
+    unfolding canBeMissed weaker
+    can-be-missed r j t =
+        let S = solution-glued C h (withMissed D Q P j) A r t in
+        (weaker (withMissed D Q P j) (λ w s. missed-first D h P Q w s j) S, missed-counter D h P Q (S .height) (S .leaves) j (S .solves))
 
-    -- no block can be stuck: every solution can meet the positive clauses
-    pub unstuck : T (not (canStick C D h P Q)) → Entails A h P (positives Q)
-    unfolding canStick
-    unstuck t S = go (every-or (2 ^ (S .height)) (λ i. meets D Q (blockOf h (S .height) i) (S .leaves i)))
+    -- no block can be unmet: every solution can meet the positive clauses
+    pub always-met : T (not (canBeUnmet C D h P Q)) → Entails A h P (positives Q)
+    unfolding canBeUnmet
+    always-met t S = go (every-or (2 ^ (S .height)) (λ i. meets D Q (blockOf h (S .height) i) (S .leaves i)))
       where
         go : ((i : ℕ) → i < 2 ^ (S .height) → T (meets D Q (blockOf h (S .height) i) (S .leaves i)))
             ⊎ Below (2 ^ (S .height)) (λ i. not (meets D Q (blockOf h (S .height) i) (S .leaves i)))
@@ -166,19 +166,19 @@ module _ {X Y : Type 0} (C : Picker X) (D : Picker Y) (h : ℕ) (P : Problem X) 
         go (inl f) = meets-all D h Q (S .height) (S .leaves) (S .solves .tall) .1 f
         go (inr (i, u, v)) =
             let b = blockOf h (S .height) i in
-            absurd (T-not (canStick C D h P Q) t
+            absurd (T-not (canBeUnmet C D h P Q) t
             (some-intro (2 ^ h) _ b (block-lt (S .solves .tall) u)
             (both-intro C (P .pos b) (λ x. not (meets D Q b x)) (S .leaves i) (S .solves .everywhere i u) v)))
 
-    -- disequation j cannot be avoided: every solution that can meet the positive clauses can have it beside them
-    pub unavoided : (j : ℕ) → T (not (canAvoid C D h P Q j)) → Entails A h P (positives Q) → Entails A h P (only j Q)
-    unfolding canAvoid
-    unavoided j t E S = go (some-or (2 ^ (S .height)) (λ i. meetsWith D Q j (blockOf h (S .height) i) (S .leaves i)))
+    -- disequation j cannot be missed: every solution that can meet the positive clauses can have it beside them
+    pub never-missed : (j : ℕ) → T (not (canBeMissed C D h P Q j)) → Entails A h P (positives Q) → Entails A h P (only j Q)
+    unfolding canBeMissed
+    never-missed j t E S = go (some-or (2 ^ (S .height)) (λ i. meetsWith D Q j (blockOf h (S .height) i) (S .leaves i)))
       where
         go : Below (2 ^ (S .height)) (λ i. meetsWith D Q j (blockOf h (S .height) i) (S .leaves i))
             ⊎ ((i : ℕ) → i < 2 ^ (S .height) → T (not (meetsWith D Q j (blockOf h (S .height) i) (S .leaves i))))
             → Extension anyHeight h (only j Q) (S .height) (S .leaves)
         go (inl m) = only-extends D h Q (S .height) (S .leaves) (S .solves .tall) j (E S) m
         go (inr f) =
-            absurd (T-not (canAvoid C D h P Q j) t
-            (cut-solvable C h (avoiding D Q P j) (S .height) (S .leaves) (avoiding-intro D h P Q (S .height) (S .leaves) j (S .solves) f)))
+            absurd (T-not (canBeMissed C D h P Q j) t
+            (cut-solvable C h (withMissed D Q P j) (S .height) (S .leaves) (missed-intro D h P Q (S .height) (S .leaves) j (S .solves) f)))

@@ -1,4 +1,4 @@
--- The disequations of the second system that some solution of the first avoids: the tests at a leaf, and what is known of them all after
+-- The disequations of the second system that some solution of the first misses: the tests at a leaf, and what is known of them all after
 -- some leaves. Assumes nothing.
 use mathlib.Core.Path.{_≡_}
 use mathlib.Core.Bool.{Bool, not, _&&_, _||_}
@@ -13,23 +13,23 @@ use Rattle.leaves.specs.Problem.{solvable}
 use Rattle.words.specs.Sets.{wordCount, inSet, Words, allPassBut, someOwn}
 use Rattle.plans.specs.Numbers.{numbered}
 use Rattle.plans.specs.Tests.{Stored, leafValues, firstMeets, firstDiffers, secondDiffers, allowedIn, testsOf}
-use Rattle.plans.specs.declared.Search.the-variants.{Avoiding}
+use Rattle.plans.specs.declared.Search.the-variants.{Missed}
 
 -- some solution of the first system cannot have disequation j of the second
-abbrev pub avoidable : Stored → ℕ → ℕ → Bool
-avoidable S h j = solvable (least (S .free)) h (numbered (S .free) (testsOf S h (Avoiding j)))
+abbrev pub missedIn : Stored → ℕ → ℕ → Bool
+missedIn S h j = solvable (least (S .free)) h (numbered (S .free) (testsOf S h (Missed j)))
 
 -- the lowest that it cannot have, or their count
-abbrev pub lowestAvoidable : Stored → ℕ → ℕ
-lowestAvoidable S h = firstBelow (getD (S .counts) 3 0) (avoidable S h)
+abbrev pub lowestMissedIn : Stored → ℕ → ℕ
+lowestMissedIn S h = firstBelow (getD (S .counts) 3 0) (missedIn S h)
 
 -- at a leaf with these values some choice that the first system allows does not have it
-unfoldable pub avoids : Stored → ℕ → ℕ → Bool
-avoids S leaf j = someBelow (2 ^ S .free) (allowedIn S (Avoiding j) leaf)
+unfoldable pub misses : Stored → ℕ → ℕ → Bool
+misses S values j = someBelow (2 ^ S .free) (allowedIn S (Missed j) values)
 
 -- and some such choice meets disequation i of the first system
-unfoldable pub avoidsWith : Stored → ℕ → ℕ → ℕ → Bool
-avoidsWith S leaf j i = someBelow (2 ^ S .free) (λ x. allowedIn S (Avoiding j) leaf x && firstDiffers S leaf i x)
+unfoldable pub missesWith : Stored → ℕ → ℕ → ℕ → Bool
+missesWith S values j i = someBelow (2 ^ S .free) (λ x. allowedIn S (Missed j) values x && firstDiffers S values i x)
 
 -- every leaf has a choice, and for each of `first` disequations some leaf has one that meets it too
 abbrev pub overall : ℕ → ℕ → (ℕ → Bool) → (ℕ → ℕ → Bool) → Bool
@@ -39,13 +39,13 @@ overall leaves first plain special = everyBelow leaves plain && everyBelow first
 
 -- the words of three lists are sets of the choices of the first system: those that its positive clauses allow; in row i those that meet its
 -- disequation i too; in row j those beside which some own choice meets disequation j of the second
-pub record RowSets (S : Stored) (leaf : ℕ) (allowed first-rows second-rows : List ℕ) : Type 0 where
-  pub allowed-set : Words (wordCount (S .free)) (λ w. getD allowed w 0) (λ z. someOwn (S .free) 0 (firstMeets S leaf) (z % 2 ^ S .free))
+pub record RowSets (S : Stored) (values : ℕ) (allowed first-rows second-rows : List ℕ) : Type 0 where
+  pub allowed-set : Words (wordCount (S .free)) (λ w. getD allowed w 0) (λ z. someOwn (S .free) 0 (firstMeets S values) (z % 2 ^ S .free))
   pub first-sets : (i : ℕ) → i < getD (S .counts) 1 0
       → Words (wordCount (S .free)) (λ w. getD first-rows (64 * i + w) 0)
-      (λ z. someOwn (S .free) 0 (allPassBut (S .clauses) 0 (getD (S .counts) 0 0) (256 + 4 * i) (S .free) 0 leaf) (z % 2 ^ S .free))
+      (λ z. someOwn (S .free) 0 (allPassBut (S .clauses) 0 (getD (S .counts) 0 0) (256 + 4 * i) (S .free) 0 values) (z % 2 ^ S .free))
   pub second-sets : (j : ℕ) → j < getD (S .counts) 3 0
-      → Words (wordCount (S .free)) (λ w. getD second-rows (64 * j + w) 0) (secondDiffers S leaf j)
+      → Words (wordCount (S .free)) (λ w. getD second-rows (64 * j + w) 0) (secondDiffers S values j)
 
 -- choice z, counted from word `from` of a list, is not in the choices from word `at` of another
 abbrev pub outside : List ℕ → ℕ → List ℕ → ℕ → ℕ → Bool
@@ -57,32 +57,32 @@ someOutside rows from others at count = someBelow (64 * count) (outside rows fro
 
 -- ---- leaf by leaf
 
--- disequation j has gone through one leaf. It stays alive if the leaf has a choice for it, and then bit i of its word is set if it was or if
+-- disequation j has gone through one leaf. It stays possible if the leaf has a choice for it, and then bit i of its word is set if it was or if
 -- the leaf has one that meets disequation i too. Nothing else changes
-pub record Sifted (j first : ℕ) (plain : Bool) (special : ℕ → Bool) (alive : ℕ) (met : List ℕ) (alive′ : ℕ) (met′ : List ℕ) : Type 0 where
-  pub live : bit alive′ j ≡ (bit alive j && plain)
-  pub word : T (bit alive′ j) → (i : ℕ) → i < first → bit (getD met′ j 0) i ≡ (bit (getD met j 0) i || special i)
-  pub live-kept : (k : ℕ) → k < 64 → (k ≡ j → ⊥) → bit alive′ k ≡ bit alive k
+pub record Narrowed (j first : ℕ) (plain : Bool) (special : ℕ → Bool) (possible : ℕ) (met : List ℕ) (possible′ : ℕ) (met′ : List ℕ) : Type 0 where
+  pub stays : bit possible′ j ≡ (bit possible j && plain)
+  pub word : T (bit possible′ j) → (i : ℕ) → i < first → bit (getD met′ j 0) i ≡ (bit (getD met j 0) i || special i)
+  pub possible-kept : (k : ℕ) → k < 64 → (k ≡ j → ⊥) → bit possible′ k ≡ bit possible k
   pub word-kept : (k : ℕ) → (k ≡ j → ⊥) → getD met′ k 0 ≡ getD met k 0
 
 -- the first `count` disequations have, and the others are as they were
-pub record Passed (count first : ℕ) (plain : ℕ → Bool) (special : ℕ → ℕ → Bool) (alive : ℕ) (met : List ℕ) (alive′ : ℕ) (met′ : List ℕ) : Type 0 where
-  pub live : (j : ℕ) → j < count → bit alive′ j ≡ (bit alive j && plain j)
-  pub word : (j : ℕ) → j < count → T (bit alive′ j) → (i : ℕ) → i < first → bit (getD met′ j 0) i ≡ (bit (getD met j 0) i || special j i)
-  pub live-left : (j : ℕ) → count ≤ j → j < 64 → bit alive′ j ≡ bit alive j
+pub record Passed (count first : ℕ) (plain : ℕ → Bool) (special : ℕ → ℕ → Bool) (possible : ℕ) (met : List ℕ) (possible′ : ℕ) (met′ : List ℕ) : Type 0 where
+  pub stays : (j : ℕ) → j < count → bit possible′ j ≡ (bit possible j && plain j)
+  pub word : (j : ℕ) → j < count → T (bit possible′ j) → (i : ℕ) → i < first → bit (getD met′ j 0) i ≡ (bit (getD met j 0) i || special j i)
+  pub possible-left : (j : ℕ) → count ≤ j → j < 64 → bit possible′ j ≡ bit possible j
   pub word-left : (j : ℕ) → count ≤ j → getD met′ j 0 ≡ getD met j 0
 
--- `done` leaves are gone through, with plain j b and special j i b at leaf b: a disequation is alive if every leaf had a choice for it, and
+-- `done` leaves are gone through, with plain j b and special j i b at leaf b: a disequation is possible if every leaf had a choice for it, and
 -- the word of one that is says which disequations of the first system were met at some leaf
-pub record Known (count first : ℕ) (plain : ℕ → ℕ → Bool) (special : ℕ → ℕ → ℕ → Bool) (done alive : ℕ) (met : List ℕ) : Type 0 where
-  pub live : (j : ℕ) → j < count → bit alive j ≡ everyBelow done (plain j)
-  pub word : (j : ℕ) → j < count → T (bit alive j) → (i : ℕ) → i < first → bit (getD met j 0) i ≡ someBelow done (special j i)
+pub record Known (count first : ℕ) (plain : ℕ → ℕ → Bool) (special : ℕ → ℕ → ℕ → Bool) (done possible : ℕ) (met : List ℕ) : Type 0 where
+  pub stays : (j : ℕ) → j < count → bit possible j ≡ everyBelow done (plain j)
+  pub word : (j : ℕ) → j < count → T (bit possible j) → (i : ℕ) → i < first → bit (getD met j 0) i ≡ someBelow done (special j i)
 
 -- what is known of a stored question after `done` of its 2 ^ h leaves
 abbrev pub KnownOf : Stored → ℕ → ℕ → ℕ → List ℕ → Type 0
-KnownOf S h done alive met =
-    Known (getD (S .counts) 3 0) (getD (S .counts) 1 0) (λ j b. avoids S (leafValues S h b) j) (λ j i b. avoidsWith S (leafValues S h b) j i) done alive met
+KnownOf S h done possible met =
+    Known (getD (S .counts) 3 0) (getD (S .counts) 1 0) (λ j b. misses S (leafValues S h b) j) (λ j i b. missesWith S (leafValues S h b) j i) done possible met
 
--- disequation j is alive, and each of the first system's is met
+-- disequation j is possible, and each of the first system's is met
 abbrev pub isMissed : ℕ → List ℕ → ℕ → ℕ → Bool
-isMissed alive met first j = bit alive j && everyBelow first (bit (getD met j 0))
+isMissed possible met first j = bit possible j && everyBelow first (bit (getD met j 0))

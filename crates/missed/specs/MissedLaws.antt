@@ -1,4 +1,4 @@
--- Laws of the disequations that can be avoided: one of them at one leaf, all of them, one leaf more, and the end. Assumes nothing.
+-- Laws of the disequations that can be missed: one of them at one leaf, all of them, one leaf more, and the end. Assumes nothing.
 use mathlib.Core.Path.{_≡_, refl, sym, ap, ap₂, _∙_}
 use mathlib.Core.Bool.{Bool, true, false, not, _&&_, _||_, and-true, and-false, or-false}
 use mathlib.Core.List.{List}
@@ -20,7 +20,7 @@ use Rattle.shares.specs.Constant.{bit}
 use Rattle.shares.specs.BitLaws.{bit-zero, bit-or}
 use Rattle.shares.specs.BitParts.{bit-digit, bit-not, bit-ones}
 use Rattle.words.specs.RemoveLaws.{without}
-use Rattle.missed.specs.Missed.{overall, Sifted, Passed, Known, isMissed}
+use Rattle.missed.specs.Missed.{overall, Narrowed, Passed, Known, isMissed}
 
 -- ---- one bit of a word
 
@@ -79,120 +79,120 @@ bits-all x count small l =
 
 -- ---- one disequation at one leaf
 
-module _ (j first : ℕ) (plain : Bool) (special : ℕ → Bool) (alive : ℕ) (met : List ℕ) where
-  -- it was not alive
-  pub sifted-before : bit alive j ≡ false → Sifted j first plain special alive met alive met
-  sifted-before e = record {
-    live = rw e;
+module _ (j first : ℕ) (plain : Bool) (special : ℕ → Bool) (possible : ℕ) (met : List ℕ) where
+  -- it was not possible
+  pub narrowed-before : bit possible j ≡ false → Narrowed j first plain special possible met possible met
+  narrowed-before e = record {
+    stays = rw e;
     word = λ t. absurd (rw e at t);
-    live-kept = λ k l n. refl;
+    possible-kept = λ k l n. refl;
     word-kept = λ k n. refl;
   }
 
   -- it stays
-  pub sifted-stays : plain ≡ true → j < length met → (x : ℕ) → ((i : ℕ) → i < first → bit x i ≡ (bit (getD met j 0) i || special i))
-      → Sifted j first plain special alive met alive (set met j x)
-  sifted-stays e l x w = record {
-    live = rw e (sym (and-true (bit alive j)));
+  pub narrowed-stays : plain ≡ true → j < length met → (x : ℕ) → ((i : ℕ) → i < first → bit x i ≡ (bit (getD met j 0) i || special i))
+      → Narrowed j first plain special possible met possible (set met j x)
+  narrowed-stays e l x w = record {
+    stays = rw e (sym (and-true (bit possible j)));
     word = λ t i m. rw (getD-set-same met j x 0 l) (w i m);
-    live-kept = λ k l n. refl;
+    possible-kept = λ k l n. refl;
     word-kept = λ k n. getD-set-other met j k x 0 n;
   }
 
   -- it goes
-  pub sifted-goes : plain ≡ false → j < 64 → Sifted j first plain special alive met (bitAnd alive ((2 ^ 64 - 1) - 2 ^ j)) met
-  sifted-goes e l = record {
-    live = gone ∙ sym (rw e (and-false (bit alive j)));
+  pub narrowed-goes : plain ≡ false → j < 64 → Narrowed j first plain special possible met (bitAnd possible ((2 ^ 64 - 1) - 2 ^ j)) met
+  narrowed-goes e l = record {
+    stays = gone ∙ sym (rw e (and-false (bit possible j)));
     word = λ t. absurd (rw gone at t);
-    live-kept = λ k m n. cleared k m ∙ rw (ne-eqb k j n) (and-true (bit alive k));
+    possible-kept = λ k m n. cleared k m ∙ rw (ne-eqb k j n) (and-true (bit possible k));
     word-kept = λ k n. refl;
   }
     where
-      cleared : (k : ℕ) → k < 64 → bit (bitAnd alive ((2 ^ 64 - 1) - 2 ^ j)) k ≡ (bit alive k && not (eqb k j))
-      cleared k m = without alive (2 ^ j) (omega (arith, pow-mono {i = j} {j = 63} (omega arith))) k m ∙ ap (λ b. bit alive k && not b) (power-bit j k)
+      cleared : (k : ℕ) → k < 64 → bit (bitAnd possible ((2 ^ 64 - 1) - 2 ^ j)) k ≡ (bit possible k && not (eqb k j))
+      cleared k m = without possible (2 ^ j) (omega (arith, pow-mono {i = j} {j = 63} (omega arith))) k m ∙ ap (λ b. bit possible k && not b) (power-bit j k)
 
-      gone : bit (bitAnd alive ((2 ^ 64 - 1) - 2 ^ j)) j ≡ false
-      gone = cleared j l ∙ rw (eq-eqb j j refl) (and-false (bit alive j))
+      gone : bit (bitAnd possible ((2 ^ 64 - 1) - 2 ^ j)) j ≡ false
+      gone = cleared j l ∙ rw (eq-eqb j j refl) (and-false (bit possible j))
 
 -- ---- all of them
 
-module _ (first : ℕ) (plain : ℕ → Bool) (special : ℕ → ℕ → Bool) (alive : ℕ) (met : List ℕ) where
-  pub passed-none : Passed 0 first plain special alive met alive met
+module _ (first : ℕ) (plain : ℕ → Bool) (special : ℕ → ℕ → Bool) (possible : ℕ) (met : List ℕ) where
+  pub passed-none : Passed 0 first plain special possible met possible met
   passed-none = record {
-    live = λ j l. absurd (omega arith);
+    stays = λ j l. absurd (omega arith);
     word = λ j l. absurd (omega arith);
-    live-left = λ j l m. refl;
+    possible-left = λ j l m. refl;
     word-left = λ j l. refl;
   }
 
   -- one more
-  pub passed-more : (j : ℕ) → j < 64 → (alive′ : ℕ) (met′ : List ℕ) (alive″ : ℕ) (met″ : List ℕ) → Passed j first plain special alive met alive′ met′
-      → Sifted j first (plain j) (special j) alive′ met′ alive″ met″ → Passed (j + 1) first plain special alive met alive″ met″
-  passed-more j small alive′ met′ alive″ met″ P S = record {
-    live = λ k l. live k l (ℕ-discrete k j);
+  pub passed-more : (j : ℕ) → j < 64 → (possible′ : ℕ) (met′ : List ℕ) (possible″ : ℕ) (met″ : List ℕ) → Passed j first plain special possible met possible′ met′
+      → Narrowed j first (plain j) (special j) possible′ met′ possible″ met″ → Passed (j + 1) first plain special possible met possible″ met″
+  passed-more j small possible′ met′ possible″ met″ P S = record {
+    stays = λ k l. stays k l (ℕ-discrete k j);
     word = λ k l. word k l (ℕ-discrete k j);
-    live-left = λ k l m. S .live-kept k m (λ q. omega arith) ∙ P .live-left k (omega arith) m;
+    possible-left = λ k l m. S .possible-kept k m (λ q. omega arith) ∙ P .possible-left k (omega arith) m;
     word-left = λ k l. S .word-kept k (λ q. omega arith) ∙ P .word-left k (omega arith);
   }
     where
-      live : (k : ℕ) → k < j + 1 → Dec (k ≡ j) → bit alive″ k ≡ (bit alive k && plain k)
-      live k l (yes q) = rw q (S .live ∙ ap (λ b. b && plain j) (P .live-left j (omega arith) small))
-      live k l (no n) = S .live-kept k (omega arith) n ∙ P .live k (omega arith)
+      stays : (k : ℕ) → k < j + 1 → Dec (k ≡ j) → bit possible″ k ≡ (bit possible k && plain k)
+      stays k l (yes q) = rw q (S .stays ∙ ap (λ b. b && plain j) (P .possible-left j (omega arith) small))
+      stays k l (no n) = S .possible-kept k (omega arith) n ∙ P .stays k (omega arith)
 
-      word : (k : ℕ) → k < j + 1 → Dec (k ≡ j) → T (bit alive″ k) → (i : ℕ) → i < first → bit (getD met″ k 0) i ≡ (bit (getD met k 0) i || special k i)
+      word : (k : ℕ) → k < j + 1 → Dec (k ≡ j) → T (bit possible″ k) → (i : ℕ) → i < first → bit (getD met″ k 0) i ≡ (bit (getD met k 0) i || special k i)
       word k l (yes q) t i m = rw q (S .word (rw q at t) i m ∙ ap (λ x. bit x i || special j i) (P .word-left j (omega arith)))
       word k l (no n) t i m =
-          ap (λ x. bit x i) (S .word-kept k n) ∙ P .word k (omega arith) (rw (S .live-kept k (omega arith) n) at t) i m
+          ap (λ x. bit x i) (S .word-kept k n) ∙ P .word k (omega arith) (rw (S .possible-kept k (omega arith) n) at t) i m
 
   -- with the same tests
-  pub passed-as : (count alive′ : ℕ) (met′ : List ℕ) (plain′ : ℕ → Bool) (special′ : ℕ → ℕ → Bool) → ((j : ℕ) → j < count → plain j ≡ plain′ j)
-      → ((j i : ℕ) → j < count → i < first → special j i ≡ special′ j i) → Passed count first plain special alive met alive′ met′
-      → Passed count first plain′ special′ alive met alive′ met′
-  passed-as count alive′ met′ plain′ special′ p s P = record {
-    live = λ j l. P .live j l ∙ ap (_&&_ (bit alive j)) (p j l);
+  pub passed-as : (count possible′ : ℕ) (met′ : List ℕ) (plain′ : ℕ → Bool) (special′ : ℕ → ℕ → Bool) → ((j : ℕ) → j < count → plain j ≡ plain′ j)
+      → ((j i : ℕ) → j < count → i < first → special j i ≡ special′ j i) → Passed count first plain special possible met possible′ met′
+      → Passed count first plain′ special′ possible met possible′ met′
+  passed-as count possible′ met′ plain′ special′ p s P = record {
+    stays = λ j l. P .stays j l ∙ ap (_&&_ (bit possible j)) (p j l);
     word = λ j l t i m. P .word j l t i m ∙ ap (_||_ (bit (getD met j 0) i)) (s j i l m);
-    live-left = P .live-left;
+    possible-left = P .possible-left;
     word-left = P .word-left;
   }
 
 -- ---- leaf by leaf
 
 module _ (count first : ℕ) (plain : ℕ → ℕ → Bool) (special : ℕ → ℕ → ℕ → Bool) where
-  -- before the first leaf all are alive
+  -- before the first leaf all are possible
   pub known-none : (met : List ℕ) → ((j : ℕ) → j < count → getD met j 0 ≡ 0) → Known count first plain special 0 (2 ^ count - 1) met
   unfolding everyBelow someBelow
-  known-none met z = record { live = λ j l. bit-ones count j l; word = λ j l t i m. ap (λ x. bit x i) (z j l) ∙ bit-zero i }
+  known-none met z = record { stays = λ j l. bit-ones count j l; word = λ j l t i m. ap (λ x. bit x i) (z j l) ∙ bit-zero i }
 
   -- one leaf more
-  pub known-more : (done alive : ℕ) (met : List ℕ) (alive′ : ℕ) (met′ : List ℕ) → Known count first plain special done alive met
-      → Passed count first (λ j. plain j done) (λ j i. special j i done) alive met alive′ met′ → Known count first plain special (done + 1) alive′ met′
-  known-more done alive met alive′ met′ K P = record {
-    live = λ j l. P .live j l ∙ ap (λ b. b && plain j done) (K .live j l) ∙ sym (ap (λ d. everyBelow d (plain j)) (add-one done) ∙ every-more done (plain j));
+  pub known-more : (done possible : ℕ) (met : List ℕ) (possible′ : ℕ) (met′ : List ℕ) → Known count first plain special done possible met
+      → Passed count first (λ j. plain j done) (λ j i. special j i done) possible met possible′ met′ → Known count first plain special (done + 1) possible′ met′
+  known-more done possible met possible′ met′ K P = record {
+    stays = λ j l. P .stays j l ∙ ap (λ b. b && plain j done) (K .stays j l) ∙ sym (ap (λ d. everyBelow d (plain j)) (add-one done) ∙ every-more done (plain j));
     word = λ j l t i m.
-        let u : T (bit alive j) = and-left (bit alive j) (plain j done) (rw (P .live j l) at t) in
+        let u : T (bit possible j) = and-left (bit possible j) (plain j done) (rw (P .stays j l) at t) in
         P .word j l t i m ∙ ap (λ b. b || special j i done) (K .word j l u i m)
         ∙ sym (ap (λ d. someBelow d (special j i)) (add-one done) ∙ some-more done (special j i));
   }
 
   -- after the last, a disequation is missed if every leaf has a choice for it, and some leaf one for each disequation of the first system too
   module _ (leaves : ℕ) where
-    pub known-all : (alive : ℕ) (met : List ℕ) → Known count first plain special leaves alive met → (j : ℕ) → j < count → isMissed alive met first j ≡ overall leaves first (plain j) (special j)
-    known-all alive met K j l =
-        same-test (isMissed alive met first j) (overall leaves first (plain j) (special j))
+    pub known-all : (possible : ℕ) (met : List ℕ) → Known count first plain special leaves possible met → (j : ℕ) → j < count → isMissed possible met first j ≡ overall leaves first (plain j) (special j)
+    known-all possible met K j l =
+        same-test (isMissed possible met first j) (overall leaves first (plain j) (special j))
         (λ t.
-        let u = and-left (bit alive j) _ t in
-        and-intro (everyBelow leaves (plain j)) _ (rw (K .live j l) at u)
-        (rw (words u) at (and-right (bit alive j) _ t)))
+        let u = and-left (bit possible j) _ t in
+        and-intro (everyBelow leaves (plain j)) _ (rw (K .stays j l) at u)
+        (rw (words u) at (and-right (bit possible j) _ t)))
         (λ t.
-        let u : T (bit alive j) = rw (K .live j l) (and-left (everyBelow leaves (plain j)) _ t) in
-        and-intro (bit alive j) _ u (rw (words u) (and-right (everyBelow leaves (plain j)) _ t)))
+        let u : T (bit possible j) = rw (K .stays j l) (and-left (everyBelow leaves (plain j)) _ t) in
+        and-intro (bit possible j) _ u (rw (words u) (and-right (everyBelow leaves (plain j)) _ t)))
       where
-        words : T (bit alive j) → everyBelow first (bit (getD met j 0)) ≡ everyBelow first (λ i. someBelow leaves (special j i))
+        words : T (bit possible j) → everyBelow first (bit (getD met j 0)) ≡ everyBelow first (λ i. someBelow leaves (special j i))
         words u = every-ext first _ _ (λ i m. K .word j l u i m)
 
-    -- where none is alive after some leaves, none is missed
+    -- where none is possible after some leaves, none is missed
     pub known-dead : (done : ℕ) (met : List ℕ) → done ≤ leaves → Known count first plain special done 0 met
         → count ≡ firstBelow count (λ j. overall leaves first (plain j) (special j))
     known-dead done met l K =
         sym (first-none count _ (λ j m. ap (λ b. b && everyBelow first (λ i. someBelow leaves (special j i)))
-        (every-stays leaves done (plain j) l (sym (K .live j m) ∙ bit-zero j))))
+        (every-stays leaves done (plain j) l (sym (K .stays j m) ∙ bit-zero j))))

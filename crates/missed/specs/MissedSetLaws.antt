@@ -1,4 +1,4 @@
--- The sets of choices at one leaf, as words, give the tests of the disequations that can be avoided. Assumes nothing.
+-- The sets of choices at one leaf, as words, give the tests of the disequations that can be missed. Assumes nothing.
 use mathlib.Core.Path.{_≡_, sym, ap, ap₂, _∙_}
 use mathlib.Core.Bool.{Bool, true, false, not, _&&_, and-assoc, and-comm}
 use mathlib.Core.List.{List}
@@ -22,9 +22,9 @@ use Rattle.plans.specs.Numbers.{numbered}
 use Rattle.plans.specs.PlanLaws.{found-some, plain-is, special-is}
 use Rattle.plans.specs.Tests.{Stored, leafValues, firstMeets, firstDiffers, secondDiffers, allowedIn, specialIn, testsOf}
 use Rattle.plans.specs.LeafLaws.{differs-periodic}
-use Rattle.missed.specs.Missed.{avoidable, lowestAvoidable, avoids, avoidsWith, overall, RowSets, outside, someOutside, Passed, KnownOf, isMissed}
+use Rattle.missed.specs.Missed.{missedIn, lowestMissedIn, misses, missesWith, overall, RowSets, outside, someOutside, Passed, KnownOf, isMissed}
 use Rattle.missed.specs.MissedLaws.{passed-as, known-more, known-all, known-dead}
-use Rattle.plans.specs.declared.Search.the-variants.{Avoiding}
+use Rattle.plans.specs.declared.Search.the-variants.{Missed}
 
 -- ---- choices from some word of a list
 
@@ -73,89 +73,89 @@ free-periodic n p h z = h z ∙ ap (λ k. p (z % 2 ^ k)) (add-zero n)
 swap-last : (a b c : Bool) → ((a && b) && c) ≡ ((a && c) && b)
 swap-last a b c = and-assoc a b c ∙ ap (_&&_ a) (and-comm b c) ∙ sym (and-assoc a c b)
 
-module _ (S : Stored) (leaf : ℕ) (second-rows : List ℕ) (j : ℕ)
-    (second-set : Words (wordCount (S .free)) (λ w. getD second-rows (64 * j + w) 0) (secondDiffers S leaf j)) where
-  avoids-is : (allowed : List ℕ)
-      → Words (wordCount (S .free)) (λ w. getD allowed w 0) (λ z. someOwn (S .free) 0 (firstMeets S leaf) (z % 2 ^ S .free))
-      → someOutside allowed 0 second-rows (64 * j) (wordCount (S .free)) ≡ avoids S leaf j
-  unfolding avoids
-  avoids-is allowed first-set =
-      outside-sets allowed 0 second-rows (64 * j) (S .free) (firstMeets S leaf) (secondDiffers S leaf j) (free-periodic (S .free) (firstMeets S leaf) per) (differs-periodic S leaf j)
-      (λ w l i k. ap (λ v. bit (getD allowed v 0) i) (zero-add w) ∙ first-set w l i k ∙ own-none (S .free) (firstMeets S leaf) per (64 * w + i))
+module _ (S : Stored) (values : ℕ) (second-rows : List ℕ) (j : ℕ)
+    (second-set : Words (wordCount (S .free)) (λ w. getD second-rows (64 * j + w) 0) (secondDiffers S values j)) where
+  misses-is : (allowed : List ℕ)
+      → Words (wordCount (S .free)) (λ w. getD allowed w 0) (λ z. someOwn (S .free) 0 (firstMeets S values) (z % 2 ^ S .free))
+      → someOutside allowed 0 second-rows (64 * j) (wordCount (S .free)) ≡ misses S values j
+  unfolding misses
+  misses-is allowed first-set =
+      outside-sets allowed 0 second-rows (64 * j) (S .free) (firstMeets S values) (secondDiffers S values j) (free-periodic (S .free) (firstMeets S values) per) (differs-periodic S values j)
+      (λ w l i k. ap (λ v. bit (getD allowed v 0) i) (zero-add w) ∙ first-set w l i k ∙ own-none (S .free) (firstMeets S values) per (64 * w + i))
       second-set
     where
-      per : Periodic (S .free + 0) (firstMeets S leaf)
-      per z = pass-mod (S .free) 0 leaf z (S .clauses) 0 (getD (S .counts) 0 0)
+      per : Periodic (S .free + 0) (firstMeets S values)
+      per z = pass-mod (S .free) 0 values z (S .clauses) 0 (getD (S .counts) 0 0)
 
-  avoids-with-is : (first-rows : List ℕ) (i : ℕ)
+  misses-with-is : (first-rows : List ℕ) (i : ℕ)
       → Words (wordCount (S .free)) (λ w. getD first-rows (64 * i + w) 0)
-      (λ z. someOwn (S .free) 0 (allPassBut (S .clauses) 0 (getD (S .counts) 0 0) (256 + 4 * i) (S .free) 0 leaf) (z % 2 ^ S .free))
-      → someOutside first-rows (64 * i) second-rows (64 * j) (wordCount (S .free)) ≡ avoidsWith S leaf j i
-  unfolding avoidsWith allPassBut
-  avoids-with-is first-rows i first-set =
-      outside-sets first-rows (64 * i) second-rows (64 * j) (S .free) but (secondDiffers S leaf j) (free-periodic (S .free) but per) (differs-periodic S leaf j)
+      (λ z. someOwn (S .free) 0 (allPassBut (S .clauses) 0 (getD (S .counts) 0 0) (256 + 4 * i) (S .free) 0 values) (z % 2 ^ S .free))
+      → someOutside first-rows (64 * i) second-rows (64 * j) (wordCount (S .free)) ≡ missesWith S values j i
+  unfolding missesWith allPassBut
+  misses-with-is first-rows i first-set =
+      outside-sets first-rows (64 * i) second-rows (64 * j) (S .free) but (secondDiffers S values j) (free-periodic (S .free) but per) (differs-periodic S values j)
       (λ w l k m. first-set w l k m ∙ own-none (S .free) but per (64 * w + k))
       second-set
-      ∙ some-ext (2 ^ S .free) _ _ (λ x l. swap-last (firstMeets S leaf x) (firstDiffers S leaf i x) (not (secondDiffers S leaf j x)))
+      ∙ some-ext (2 ^ S .free) _ _ (λ x l. swap-last (firstMeets S values x) (firstDiffers S values i x) (not (secondDiffers S values j x)))
     where
       but : ℕ → Bool
-      but = allPassBut (S .clauses) 0 (getD (S .counts) 0 0) (256 + 4 * i) (S .free) 0 leaf
+      but = allPassBut (S .clauses) 0 (getD (S .counts) 0 0) (256 + 4 * i) (S .free) 0 values
 
       per : Periodic (S .free + 0) but
-      per z = but-mod (S .free) 0 leaf z (S .clauses) 0 (getD (S .counts) 0 0) (256 + 4 * i)
+      per z = but-mod (S .free) 0 values z (S .clauses) 0 (getD (S .counts) 0 0) (256 + 4 * i)
 
 -- all disequations have gone through a leaf, by the sets of its choices
-pub leaf-passed : (S : Stored) (leaf words : ℕ) (allowed first-rows second-rows : List ℕ) → words ≡ wordCount (S .free)
-    → RowSets S leaf allowed first-rows second-rows
-    → (alive : ℕ) (met : List ℕ) (alive′ : ℕ) (met′ : List ℕ)
+pub leaf-passed : (S : Stored) (values words : ℕ) (allowed first-rows second-rows : List ℕ) → words ≡ wordCount (S .free)
+    → RowSets S values allowed first-rows second-rows
+    → (possible : ℕ) (met : List ℕ) (possible′ : ℕ) (met′ : List ℕ)
     → Passed (getD (S .counts) 3 0) (getD (S .counts) 1 0) (λ j. someOutside allowed 0 second-rows (64 * j) words)
-    (λ j i. someOutside first-rows (64 * i) second-rows (64 * j) words) alive met alive′ met′
-    → Passed (getD (S .counts) 3 0) (getD (S .counts) 1 0) (avoids S leaf) (avoidsWith S leaf) alive met alive′ met′
-leaf-passed S leaf words allowed first-rows second-rows e L alive met alive′ met′ =
-    passed-as (getD (S .counts) 1 0) _ _ alive met (getD (S .counts) 3 0) alive′ met′ (avoids S leaf) (avoidsWith S leaf)
-    (λ j l. rw e (avoids-is S leaf second-rows j (L .second-sets j l) allowed (L .allowed-set)))
-    (λ j i l m. rw e (avoids-with-is S leaf second-rows j (L .second-sets j l) first-rows i (L .first-sets i m)))
+    (λ j i. someOutside first-rows (64 * i) second-rows (64 * j) words) possible met possible′ met′
+    → Passed (getD (S .counts) 3 0) (getD (S .counts) 1 0) (misses S values) (missesWith S values) possible met possible′ met′
+leaf-passed S values words allowed first-rows second-rows e L possible met possible′ met′ =
+    passed-as (getD (S .counts) 1 0) _ _ possible met (getD (S .counts) 3 0) possible′ met′ (misses S values) (missesWith S values)
+    (λ j l. rw e (misses-is S values second-rows j (L .second-sets j l) allowed (L .allowed-set)))
+    (λ j i l m. rw e (misses-with-is S values second-rows j (L .second-sets j l) first-rows i (L .first-sets i m)))
 
 -- ---- the whole
 
 -- the disequations of the first system, as a search has them
-search-differs : (S : Stored) (h j i b x : ℕ) → testsOf S h (Avoiding j) .dis i b x ≡ firstDiffers S (leafValues S h b) i x
+search-differs : (S : Stored) (h j i b x : ℕ) → testsOf S h (Missed j) .dis i b x ≡ firstDiffers S (leafValues S h b) i x
 unfolding specialIn
 search-differs S h j i b x =
     rw (le-ltb i 0 (omega arith)) (ap (λ k. firstDiffers S (leafValues S h b) k x) {x = i - 0} {y = i} (omega arith))
 
--- a disequation can be avoided if every leaf has a choice, and for each disequation of the first system some leaf has one that meets it
-avoidable-is : (S : Stored) (h j : ℕ)
-    → avoidable S h j
-    ≡ overall (2 ^ h) (getD (S .counts) 1 0) (λ b. avoids S (leafValues S h b) j) (λ i b. avoidsWith S (leafValues S h b) j i)
-unfolding solvable avoids avoidsWith
-avoidable-is S h j =
+-- a disequation can be missed if every leaf has a choice, and for each disequation of the first system some leaf has one that meets it
+missed-in : (S : Stored) (h j : ℕ)
+    → missedIn S h j
+    ≡ overall (2 ^ h) (getD (S .counts) 1 0) (λ b. misses S (leafValues S h b) j) (λ i b. missesWith S (leafValues S h b) j i)
+unfolding solvable misses missesWith
+missed-in S h j =
     ap₂ _&&_
     (every-ext (2 ^ h) _ _ (λ b l. plain-is (S .free) h tests b))
     (ap (λ k. everyBelow k (λ i. someBelow (2 ^ h) (specialAt (least (S .free)) (numbered (S .free) tests) i))) (zero-add (getD (S .counts) 1 0))
     ∙ every-ext (getD (S .counts) 1 0) _ _ (λ i m. some-ext (2 ^ h) _ _ (λ b l.
     special-is (S .free) h tests i b
-    ∙ some-ext (2 ^ S .free) _ _ (λ x u. ap (_&&_ (allowedIn S (Avoiding j) (leafValues S h b) x)) (search-differs S h j i b x)))))
+    ∙ some-ext (2 ^ S .free) _ _ (λ x u. ap (_&&_ (allowedIn S (Missed j) (leafValues S h b) x)) (search-differs S h j i b x)))))
   where
     tests : Problem ℕ
-    tests = testsOf S h (Avoiding j)
+    tests = testsOf S h (Missed j)
 
 -- ---- what is known of a question leaf by leaf
 
 module _ (S : Stored) (h : ℕ) where
   -- one leaf more
-  pub known-leaf : (b leaf alive : ℕ) (met : List ℕ) (alive′ : ℕ) (met′ : List ℕ) → leaf ≡ leafValues S h b → KnownOf S h b alive met
-      → Passed (getD (S .counts) 3 0) (getD (S .counts) 1 0) (avoids S leaf) (avoidsWith S leaf) alive met alive′ met′ → KnownOf S h (b + 1) alive′ met′
-  known-leaf b leaf alive met alive′ met′ e K P = known-more _ _ _ _ b alive met alive′ met′ K (rw e at P)
+  pub known-leaf : (b values possible : ℕ) (met : List ℕ) (possible′ : ℕ) (met′ : List ℕ) → values ≡ leafValues S h b → KnownOf S h b possible met
+      → Passed (getD (S .counts) 3 0) (getD (S .counts) 1 0) (misses S values) (missesWith S values) possible met possible′ met′ → KnownOf S h (b + 1) possible′ met′
+  known-leaf b values possible met possible′ met′ e K P = known-more _ _ _ _ b possible met possible′ met′ K (rw e at P)
 
   -- after the last
-  pub known-lowest : (alive : ℕ) (met : List ℕ) → KnownOf S h (2 ^ h) alive met
-      → firstBelow (getD (S .counts) 3 0) (isMissed alive met (getD (S .counts) 1 0)) ≡ lowestAvoidable S h
-  known-lowest alive met K =
-      first-ext (getD (S .counts) 3 0) _ _ (λ j l. known-all _ _ _ _ (2 ^ h) alive met K j l ∙ sym (avoidable-is S h j))
+  pub known-lowest : (possible : ℕ) (met : List ℕ) → KnownOf S h (2 ^ h) possible met
+      → firstBelow (getD (S .counts) 3 0) (isMissed possible met (getD (S .counts) 1 0)) ≡ lowestMissedIn S h
+  known-lowest possible met K =
+      first-ext (getD (S .counts) 3 0) _ _ (λ j l. known-all _ _ _ _ (2 ^ h) possible met K j l ∙ sym (missed-in S h j))
 
-  -- where none is alive
-  pub known-nothing : (done alive : ℕ) (met : List ℕ) → alive ≡ 0 → done ≤ 2 ^ h → KnownOf S h done alive met
-      → getD (S .counts) 3 0 ≡ lowestAvoidable S h
-  known-nothing done alive met z l K =
-      known-dead _ _ _ _ (2 ^ h) done met l (rw z at K) ∙ first-ext (getD (S .counts) 3 0) _ _ (λ j m. sym (avoidable-is S h j))
+  -- where none is possible
+  pub known-nothing : (done possible : ℕ) (met : List ℕ) → possible ≡ 0 → done ≤ 2 ^ h → KnownOf S h done possible met
+      → getD (S .counts) 3 0 ≡ lowestMissedIn S h
+  known-nothing done possible met z l K =
+      known-dead _ _ _ _ (2 ^ h) done met l (rw z at K) ∙ first-ext (getD (S .counts) 3 0) _ _ (λ j m. sym (missed-in S h j))

@@ -9,7 +9,7 @@ ghost use Rattle.shares.specs.Below.{everyBelow, firstBelow};
 ghost use Rattle.shares.specs.Constant.{bit};
 ghost use Rattle.words.specs.RemoveLaws.{Without};
 ghost use Rattle.plans.specs.Tests.{stored, Readable};
-ghost use Rattle.missed.specs.Missed.{lowestAvoidable, avoids, avoidsWith, RowSets, someOutside, Sifted, Passed, isMissed};
+ghost use Rattle.missed.specs.Missed.{lowestMissedIn, misses, missesWith, RowSets, someOutside, Narrowed, Passed, isMissed};
 
 // The choices of word k of some rows that are not in word l of others.
 fn word_outside(rows: &[u64], k: usize, others: &[u64], l: usize) -> u64
@@ -76,68 +76,68 @@ fn meet_all(
     r
 }
 
-// Takes disequation j of the second system through a leaf: it stays alive if some allowed choice is not in its row, and then its word
+// Takes disequation j of the second system through a leaf: it stays possible if some allowed choice is not in its row, and then its word
 // gets the disequations of the first system that such a choice meets.
-fn sift_one(
+fn narrow_one(
     allowed: &[u64; 64],
     first_rows: &[u64],
     first: usize,
     second_rows: &[u64],
     j: usize,
     words: usize,
-    alive: u64,
+    possible: u64,
     met: &mut [u64],
 ) -> u64
     requires { ⌜ (first ≤ 32) × (j < 32) × (words ≤ 64) × (length (now met) ≡ 32) × (64 * first ≤ length (now «first_rows»)) × (64 * j + 64 ≤ length (now «second_rows»)) ⌝ }
-    ensures { λ r. ⌜ Sifted j first (someOutside (now (allowed .entry)) 0 (now («second_rows» .entry)) (64 * j) words) (λ i. someOutside (now («first_rows» .entry)) (64 * i) (now («second_rows» .entry)) (64 * j) words) alive (now (met .entry)) r (now (met .exit)) ⌝ }
+    ensures { λ r. ⌜ Narrowed j first (someOutside (now (allowed .entry)) 0 (now («second_rows» .entry)) (64 * j) words) (λ i. someOutside (now («first_rows» .entry)) (64 * i) (now («second_rows» .entry)) (64 * j) words) possible (now (met .entry)) r (now (met .exit)) ⌝ }
 {
-    if !words::digit(alive, j) {
-        return alive;
+    if !words::digit(possible, j) {
+        return possible;
     }
     if any_outside(allowed, 0, second_rows, 64 * j, words) {
         met[j] = meet_all(first_rows, first, second_rows, j, words, met[j]);
-        return alive;
+        return possible;
     }
-    alive & !(1 << j)
+    possible & !(1 << j)
 }
 
 // Takes each disequation of the second system through a leaf.
-fn sift_all(
+fn narrow_all(
     allowed: &[u64; 64],
     first_rows: &[u64],
     first: usize,
     second_rows: &[u64],
     second: usize,
     words: usize,
-    alive: u64,
+    possible: u64,
     met: &mut [u64],
 ) -> u64
     requires { ⌜ (first ≤ 32) × (second ≤ 32) × (words ≤ 64) × (length (now met) ≡ 32) × (64 * first ≤ length (now «first_rows»)) × (64 * second ≤ length (now «second_rows»)) ⌝ }
-    ensures { λ r. ⌜ Passed second first (λ j. someOutside (now (allowed .entry)) 0 (now («second_rows» .entry)) (64 * j) words) (λ j i. someOutside (now («first_rows» .entry)) (64 * i) (now («second_rows» .entry)) (64 * j) words) alive (now (met .entry)) r (now (met .exit)) ⌝ }
+    ensures { λ r. ⌜ Passed second first (λ j. someOutside (now (allowed .entry)) 0 (now («second_rows» .entry)) (64 * j) words) (λ j i. someOutside (now («first_rows» .entry)) (64 * i) (now («second_rows» .entry)) (64 * j) words) possible (now (met .entry)) r (now (met .exit)) ⌝ }
 {
-    let mut r = alive;
+    let mut r = possible;
     let mut j: usize = 0;
     while j < second {
-        r = sift_one(allowed, first_rows, first, second_rows, j, words, r, met);
+        r = narrow_one(allowed, first_rows, first, second_rows, j, words, r, met);
         j += 1;
     }
     r
 }
 
 // Fills the sets of a leaf with these values, each once.
-fn fill_leaf(
+fn fill_rows(
     clauses: &[u8; 768],
     counts: &[usize; 4],
     free: usize,
     own: usize,
-    leaf: u64,
+    values: u64,
     allowed: &mut [u64; 64],
     first_rows: &mut [u64],
     meets: &mut [u64; 64],
     second_rows: &mut [u64],
 )
     requires { ⌜ Readable (now clauses) (now counts) free own × (64 * getD (now counts) 1 0 ≤ length (now «first_rows»)) × (64 * getD (now counts) 3 0 ≤ length (now «second_rows»)) ⌝ }
-    ensures { λ _. ⌜ ((constants : List ℕ) (defined : ℕ) → RowSets (stored (now (clauses .entry)) (now (counts .entry)) constants defined free own) leaf (now (allowed .exit)) (now («first_rows» .exit)) (now («second_rows» .exit))) ⌝ }
+    ensures { λ _. ⌜ ((constants : List ℕ) (defined : ℕ) → RowSets (stored (now (clauses .entry)) (now (counts .entry)) constants defined free own) values (now (allowed .exit)) (now («first_rows» .exit)) (now («second_rows» .exit))) ⌝ }
 {
     let first = counts[1];
     let second = counts[3];
@@ -149,7 +149,7 @@ fn fill_leaf(
         first,
         free,
         0,
-        leaf,
+        values,
         allowed,
         first_rows,
     );
@@ -161,49 +161,49 @@ fn fill_leaf(
         second,
         free,
         own,
-        leaf,
+        values,
         meets,
         second_rows,
     );
 }
 
 // Takes each disequation of the second system through a leaf with these values. The four sets are working space.
-fn sift_leaf(
+fn narrow_leaf(
     clauses: &[u8; 768],
     counts: &[usize; 4],
     free: usize,
     own: usize,
-    leaf: u64,
+    values: u64,
     allowed: &mut [u64; 64],
     first_rows: &mut [u64],
     meets: &mut [u64; 64],
     second_rows: &mut [u64],
-    alive: u64,
+    possible: u64,
     met: &mut [u64],
 ) -> u64
     requires { ⌜ Readable (now clauses) (now counts) free own × (64 * getD (now counts) 1 0 ≤ length (now «first_rows»)) × (64 * getD (now counts) 3 0 ≤ length (now «second_rows»)) × (length (now met) ≡ 32) ⌝ }
-    ensures { λ r. ⌜ ((constants : List ℕ) (defined : ℕ) → Passed (getD (now (counts .entry)) 3 0) (getD (now (counts .entry)) 1 0) (avoids (stored (now (clauses .entry)) (now (counts .entry)) constants defined free own) leaf) (avoidsWith (stored (now (clauses .entry)) (now (counts .entry)) constants defined free own) leaf) alive (now (met .entry)) r (now (met .exit))) ⌝ }
+    ensures { λ r. ⌜ ((constants : List ℕ) (defined : ℕ) → Passed (getD (now (counts .entry)) 3 0) (getD (now (counts .entry)) 1 0) (misses (stored (now (clauses .entry)) (now (counts .entry)) constants defined free own) values) (missesWith (stored (now (clauses .entry)) (now (counts .entry)) constants defined free own) values) possible (now (met .entry)) r (now (met .exit))) ⌝ }
 {
-    fill_leaf(
+    fill_rows(
         clauses,
         counts,
         free,
         own,
-        leaf,
+        values,
         allowed,
         first_rows,
         meets,
         second_rows,
     );
     let words = words::word_count(free);
-    sift_all(
+    narrow_all(
         allowed,
         first_rows,
         counts[1],
         second_rows,
         counts[3],
         words,
-        alive,
+        possible,
         met,
     )
 }
@@ -216,25 +216,25 @@ fn all_set(x: u64, count: usize) -> bool
     count <= words::lowest(!x)
 }
 
-// Whether disequation j of the second system is alive, and each of the first system's is met with it.
-fn is_missed(alive: u64, met: &[u64; 32], first: usize, j: usize) -> bool
+// Whether disequation j of the second system is possible, and each of the first system's is met with it.
+fn is_missed(possible: u64, met: &[u64; 32], first: usize, j: usize) -> bool
     requires { ⌜ (first ≤ 32) × (j < 32) ⌝ }
-    ensures { λ r. ⌜ r ≡ isMissed alive (now (met .entry)) first j ⌝ }
+    ensures { λ r. ⌜ r ≡ isMissed possible (now (met .entry)) first j ⌝ }
 {
-    if words::digit(alive, j) {
+    if words::digit(possible, j) {
         return all_set(met[j], first);
     }
     false
 }
 
 // The lowest disequation of the second system that is missed, or their count.
-fn first_missed(alive: u64, met: &[u64; 32], first: usize, second: usize) -> usize
+fn first_missed(possible: u64, met: &[u64; 32], first: usize, second: usize) -> usize
     requires { ⌜ (first ≤ 32) × (second ≤ 32) ⌝ }
-    ensures { λ r. ⌜ r ≡ firstBelow second (isMissed alive (now (met .entry)) first) ⌝ }
+    ensures { λ r. ⌜ r ≡ firstBelow second (isMissed possible (now (met .entry)) first) ⌝ }
 {
     let mut lowest: usize = 0;
     while lowest < second {
-        if is_missed(alive, met, first, lowest) {
+        if is_missed(possible, met, first, lowest) {
             return lowest;
         }
         lowest += 1;
@@ -244,7 +244,7 @@ fn first_missed(alive: u64, met: &[u64; 32], first: usize, second: usize) -> usi
 
 // The lowest disequation of the second system that some solution of the first cannot have, or their count: all of them through leaf after
 // leaf. The rows are working space.
-fn sift_leaves(
+fn narrow_leaves(
     clauses: &[u8; 768],
     counts: &[usize; 4],
     constants: &[u64; 32],
@@ -256,36 +256,36 @@ fn sift_leaves(
     second_rows: &mut [u64],
 ) -> usize
     requires { ⌜ Readable (now clauses) (now counts) free own × (defined ≤ 32) × (h ≤ 5) × (64 * getD (now counts) 1 0 ≤ length (now «first_rows»)) × (64 * getD (now counts) 3 0 ≤ length (now «second_rows»)) ⌝ }
-    ensures { λ r. ⌜ r ≡ lowestAvoidable (stored (now (clauses .entry)) (now (counts .entry)) (now (constants .entry)) defined free own) h ⌝ }
+    ensures { λ r. ⌜ r ≡ lowestMissedIn (stored (now (clauses .entry)) (now (counts .entry)) (now (constants .entry)) defined free own) h ⌝ }
 {
     let second = counts[3];
     let mut allowed = [0u64; 64];
     let mut meets = [0u64; 64];
     let mut met = [0u64; 32];
-    let mut alive: u64 = (1 << second) - 1;
+    let mut possible: u64 = (1 << second) - 1;
     let leaves: usize = 1 << h;
     let mut b: usize = 0;
     while b < leaves {
-        if alive == 0 {
+        if possible == 0 {
             return second;
         }
-        let leaf = plans::values_at(constants, defined, h, b);
-        alive = sift_leaf(
+        let values = plans::values_at(constants, defined, h, b);
+        possible = narrow_leaf(
             clauses,
             counts,
             free,
             own,
-            leaf,
+            values,
             &mut allowed,
             first_rows,
             &mut meets,
             second_rows,
-            alive,
+            possible,
             &mut met,
         );
         b += 1;
     }
-    first_missed(alive, &met, counts[1], second)
+    first_missed(possible, &met, counts[1], second)
 }
 
 // The same where each system has at most 4 disequations: few rows are cleared.
@@ -299,11 +299,11 @@ fn lowest_of_few(
     h: usize,
 ) -> usize
     requires { ⌜ Readable (now clauses) (now counts) free own × (defined ≤ 32) × (h ≤ 5) × (getD (now counts) 1 0 ≤ 4) × (getD (now counts) 3 0 ≤ 4) ⌝ }
-    ensures { λ r. ⌜ r ≡ lowestAvoidable (stored (now (clauses .entry)) (now (counts .entry)) (now (constants .entry)) defined free own) h ⌝ }
+    ensures { λ r. ⌜ r ≡ lowestMissedIn (stored (now (clauses .entry)) (now (counts .entry)) (now (constants .entry)) defined free own) h ⌝ }
 {
     let mut first_rows = [0u64; 256];
     let mut second_rows = [0u64; 256];
-    sift_leaves(
+    narrow_leaves(
         clauses,
         counts,
         constants,
@@ -327,11 +327,11 @@ fn lowest_of_many(
     h: usize,
 ) -> usize
     requires { ⌜ Readable (now clauses) (now counts) free own × (defined ≤ 32) × (h ≤ 5) ⌝ }
-    ensures { λ r. ⌜ r ≡ lowestAvoidable (stored (now (clauses .entry)) (now (counts .entry)) (now (constants .entry)) defined free own) h ⌝ }
+    ensures { λ r. ⌜ r ≡ lowestMissedIn (stored (now (clauses .entry)) (now (counts .entry)) (now (constants .entry)) defined free own) h ⌝ }
 {
     let mut first_rows = [0u64; 2048];
     let mut second_rows = [0u64; 2048];
-    sift_leaves(
+    narrow_leaves(
         clauses,
         counts,
         constants,
@@ -355,7 +355,7 @@ pub fn lowest_missed(
     h: usize,
 ) -> usize
     requires { ⌜ Readable (now clauses) (now counts) free own × (defined ≤ 32) × (h ≤ 5) ⌝ }
-    ensures { λ r. ⌜ r ≡ lowestAvoidable (stored (now (clauses .entry)) (now (counts .entry)) (now (constants .entry)) defined free own) h ⌝ }
+    ensures { λ r. ⌜ r ≡ lowestMissedIn (stored (now (clauses .entry)) (now (counts .entry)) (now (constants .entry)) defined free own) h ⌝ }
 {
     if counts[3] == 0 {
         return 0;

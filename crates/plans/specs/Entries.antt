@@ -15,7 +15,7 @@ use Rattle.plans.specs.declared.Search.{Search}
 use Rattle.show.specs.declared.Plan.{Plan}
 use Rattle.plans.specs.declared.Solved.{Solved}
 use Rattle.plans.specs.Numbers.{numbered, withoutFirst}
-use Rattle.plans.specs.Plan.{homeOf, rankOf, plainChoice, specialChoice, placeAfter, choiceAfter}
+use Rattle.plans.specs.Plan.{leafFor, rankOf, plainChoice, specialChoice, subLeafAfter, choiceAfter}
 
 -- the tests at leaf b are those of the problem R, over choices of n variables
 pub record AtLeaf (n b : ℕ) (R : Problem ℕ) (allowed : ℕ → Bool) (special : ℕ → ℕ → Bool) : Type 0 where
@@ -26,40 +26,40 @@ pub record AtLeaf (n b : ℕ) (R : Problem ℕ) (allowed : ℕ → Bool) (specia
 
 -- sets of choices at a leaf with these values: those that a search allows and, where it has an extra disequation, those beside which the
 -- second system's positive clauses can be met
-pub record LeafSets (S : Stored) (search : Search) (leaf : ℕ) (allowed other : ℕ → Bool) : Type 0 where
-  pub allows : (z : ℕ) → z < 64 * wordCount (S .free) → allowed z ≡ allowedIn S search leaf z
-  pub meets : 0 < extraOf search → (z : ℕ) → z < 64 * wordCount (S .free) → other z ≡ secondMeets S leaf z
+pub record LeafSets (S : Stored) (search : Search) (values : ℕ) (allowed other : ℕ → Bool) : Type 0 where
+  pub allows : (z : ℕ) → z < 64 * wordCount (S .free) → allowed z ≡ allowedIn S search values z
+  pub meets : 0 < extraOf search → (z : ℕ) → z < 64 * wordCount (S .free) → other z ≡ secondMeets S values z
 
 -- there is room for the entries: a leaf's sub-leaves, and the height of a row
-pub record Fits (h k : ℕ) (R : Problem ℕ) : Type 0 where
+pub record HasRoom (h k : ℕ) (R : Problem ℕ) : Type 0 where
   pub few : R .count ≤ 2 ^ k
   pub low : 2 ^ (h + k) ≤ 2048
 
--- while leaf b is gone through, the first e entries are those after it, the others those before it, and `next` is the next free place
-pub record Entries (n h : ℕ) (R : Problem ℕ) (k b e next : ℕ) (place choice : List ℕ) : Type 0 where
-  pub next-is : next ≡ b * 2 ^ k + countBelow e (λ i. eqb (homeOf n h R i) b)
-  pub places-done : (j : ℕ) → j < e → getD place j 0 ≡ placeAfter n h R k (b + 1) j
+-- while leaf b is gone through, the first e entries are those after it, the others those before it, and `next` is the next free sub-leaf
+pub record Entries (n h : ℕ) (R : Problem ℕ) (k b e next : ℕ) (subleaf choice : List ℕ) : Type 0 where
+  pub next-is : next ≡ b * 2 ^ k + countBelow e (λ i. eqb (leafFor n h R i) b)
+  pub sub-leaves-done : (j : ℕ) → j < e → getD subleaf j 0 ≡ subLeafAfter n h R k (b + 1) j
   pub choices-done : (j : ℕ) → j < e → getD choice j 0 ≡ choiceAfter n h R (b + 1) j
-  pub places-left : (j : ℕ) → e ≤ j → j < R .count → getD place j 0 ≡ placeAfter n h R k b j
+  pub sub-leaves-left : (j : ℕ) → e ≤ j → j < R .count → getD subleaf j 0 ≡ subLeafAfter n h R k b j
   pub choices-left : (j : ℕ) → e ≤ j → j < R .count → getD choice j 0 ≡ choiceAfter n h R b j
 
 -- every entry is the one after `done` leaves
-pub record After (n h : ℕ) (R : Problem ℕ) (k done : ℕ) (place choice : List ℕ) : Type 0 where
-  pub places : (j : ℕ) → j < R .count → getD place j 0 ≡ placeAfter n h R k done j
+pub record After (n h : ℕ) (R : Problem ℕ) (k done : ℕ) (subleaf choice : List ℕ) : Type 0 where
+  pub sub-leaves : (j : ℕ) → j < R .count → getD subleaf j 0 ≡ subLeafAfter n h R k done j
   pub choices : (j : ℕ) → j < R .count → getD choice j 0 ≡ choiceAfter n h R done j
 
 -- a claim M of every problem, of n variables and so many entries, that tests at a leaf may be of: its leaf b, of 2 ^ h, is split k times
 -- and begins at sub-leaf `first`
 abbrev pub ForLeaf : ℕ → ℕ → ℕ → ℕ → (ℕ → Bool) → (ℕ → ℕ → Bool) → ((h k b : ℕ) → Problem ℕ → Type 0) → Type 0
 ForLeaf n words entries first allowed special M =
-    (h k b : ℕ) (R : Problem ℕ) → Fits h k R → b < 2 ^ h → R .count ≡ entries → words ≡ wordCount n → first ≡ b * 2 ^ k
+    (h k b : ℕ) (R : Problem ℕ) → HasRoom h k R → b < 2 ^ h → R .count ≡ entries → words ≡ wordCount n → first ≡ b * 2 ^ k
     → AtLeaf n b R allowed special → M h k b R
 
--- one leaf gone through, whose values are `leaf` and whose first sub-leaf is `first`: its least choice, and the entries after it
-pub record Visited (S : Stored) (search : Search) (leaf first : ℕ) (place choice : List ℕ) (r : ℕ) (place′ choice′ : List ℕ) : Type 0 where
-  pub least : r ≡ firstBelow (64 * wordCount (S .free)) (allowedIn S search leaf)
-  pub entries : (h k b : ℕ) → Fits h k (testsOf S h search) → b < 2 ^ h → leaf ≡ leafValues S h b → first ≡ b * 2 ^ k
-      → After (S .free) h (testsOf S h search) k b place choice → After (S .free) h (testsOf S h search) k (b + 1) place′ choice′
+-- one leaf gone through, whose values are `values` and whose first sub-leaf is `first`: its least choice, and the entries after it
+pub record Visited (S : Stored) (search : Search) (values first : ℕ) (subleaf choice : List ℕ) (r : ℕ) (subleaf′ choice′ : List ℕ) : Type 0 where
+  pub least : r ≡ firstBelow (64 * wordCount (S .free)) (allowedIn S search values)
+  pub entries : (h k b : ℕ) → HasRoom h k (testsOf S h search) → b < 2 ^ h → values ≡ leafValues S h b → first ≡ b * 2 ^ k
+      → After (S .free) h (testsOf S h search) k b subleaf choice → After (S .free) h (testsOf S h search) k (b + 1) subleaf′ choice′
 
 -- the first `done` leaves have their least choices
 pub record Plains (n h : ℕ) (R : Problem ℕ) (done : ℕ) (plain : List ℕ) : Type 0 where
@@ -67,15 +67,15 @@ pub record Plains (n h : ℕ) (R : Problem ℕ) (done : ℕ) (plain : List ℕ) 
   pub stored : (b : ℕ) → b < done → getD plain b 0 ≡ plainChoice n h R b
 
 -- leaf b planned, if it has a choice; if not, the problem is not solvable, whatever disequations it is without
-pub record Turn (n h : ℕ) (R : Problem ℕ) (k b : ℕ) (r : Bool) (plain place choice plain′ place′ choice′ : List ℕ) : Type 0 where
+pub record LeafPlanned (n h : ℕ) (R : Problem ℕ) (k b : ℕ) (r : Bool) (plain subleaf choice plain′ subleaf′ choice′ : List ℕ) : Type 0 where
   pub leaves : T r → Plains n h R b plain → Plains n h R (b + 1) plain′
-  pub entries : After n h R k b place choice → After n h R k (b + 1) place′ choice′
+  pub entries : After n h R k b subleaf choice → After n h R k (b + 1) subleaf′ choice′
   pub none : T (not r) → (m : ℕ) → T (not (solvable (least n) h (numbered n (withoutFirst m R))))
 
 -- all leaves gone through, if each has a choice; if not, the problem is not solvable
-pub record Filled (n h : ℕ) (R : Problem ℕ) (k : ℕ) (r : Bool) (plain place choice : List ℕ) : Type 0 where
+pub record Filled (n h : ℕ) (R : Problem ℕ) (k : ℕ) (r : Bool) (plain subleaf choice : List ℕ) : Type 0 where
   pub leaves : T r → Plains n h R (2 ^ h) plain
-  pub entries : T r → After n h R k (2 ^ h) place choice
+  pub entries : T r → After n h R k (2 ^ h) subleaf choice
   pub none : T (not r) → (m : ℕ) → T (not (solvable (least n) h (numbered n (withoutFirst m R))))
 
 -- the plan's entries are those of the problem, with each leaf split k times
@@ -84,8 +84,8 @@ pub record Made (n h : ℕ) (R : Problem ℕ) (k : ℕ) (plan : Plan) : Type 0 w
   pub high : plan .high ≡ h + k
   pub count : plan .count ≡ R .count
   pub plains : (b : ℕ) → b < 2 ^ h → getD (plan .plain) b 0 ≡ plainChoice n h R b
-  pub places : (j : ℕ) → j < R .count → getD (plan .place) j 0 ≡ homeOf n h R j * 2 ^ k + rankOf n h R j
-  pub choices : (j : ℕ) → j < R .count → getD (plan .choice) j 0 ≡ specialChoice n h R j (homeOf n h R j)
+  pub sub-leaves : (j : ℕ) → j < R .count → getD (plan .subleaf) j 0 ≡ leafFor n h R j * 2 ^ k + rankOf n h R j
+  pub choices : (j : ℕ) → j < R .count → getD (plan .choice) j 0 ≡ specialChoice n h R j (leafFor n h R j)
 
 -- what a search gives: whether its problem is solvable, whether it is without the extra disequation, and if it is, the plan of the
 -- problem's fixed solution

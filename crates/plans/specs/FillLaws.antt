@@ -20,10 +20,10 @@ use Rattle.leaves.specs.Choices.{least}
 use Rattle.leaves.specs.Problem.{Problem}
 use Rattle.words.specs.Sets.{wordCount}
 use Rattle.plans.specs.Numbers.{withoutFirst}
-use Rattle.plans.specs.Plan.{nowhere, isPlaced, plainChoice}
-use Rattle.plans.specs.PlanLaws.{place-nowhere, choice-nowhere, unsolvable-plain}
+use Rattle.plans.specs.Plan.{noSubLeaf, hasSubLeaf, plainChoice}
+use Rattle.plans.specs.PlanLaws.{sub-leaf-none, choice-none, unsolvable-plain}
 use Rattle.plans.specs.Tests.{Stored, leafValues, allowedIn, testsOf}
-use Rattle.plans.specs.Entries.{Fits, After, Visited, Plains, Turn, Filled}
+use Rattle.plans.specs.Entries.{HasRoom, After, Visited, Plains, LeafPlanned, Filled}
 use Rattle.plans.specs.EntryLaws.{words-found, words-none}
 use Rattle.plans.specs.LeafLaws.{allowed-periodic}
 use Rattle.plans.specs.declared.Search.{Search}
@@ -36,7 +36,7 @@ module _ (S : Stored) (h : ℕ) (search : Search) where
   n = S .free
 
   -- there is room for a question's entries
-  pub fits : {k : ℕ} → h ≤ 5 → k ≤ 5 → R .count ≤ 2 ^ k → Fits h k R
+  pub fits : {k : ℕ} → h ≤ 5 → k ≤ 5 → R .count ≤ 2 ^ k → HasRoom h k R
   fits {k} l m f = let p : 2 ^ (h + k) ≤ 2 ^ 10 = pow-mono {j = 10} (omega arith) in record { few = f; low = omega arith }
 
   -- before the first leaf
@@ -68,12 +68,12 @@ module _ (S : Stored) (h : ℕ) (search : Search) where
               ap (λ j. getD (set plain b x) j 0) q ∙ getD-set-same plain b x 0 room ∙ e ∙ here .1 ∙ ap (plainChoice n h R) (sym q)
 
   -- a leaf that was gone through, and has a choice
-  module _ (k b first leaf x : ℕ) (plain place choice place′ choice′ : List ℕ) (F : Fits h k R) (bl : b < 2 ^ h) (at : leaf ≡ leafValues S h b)
-      (ft : first ≡ b * 2 ^ k) (Vi : Visited S search leaf first place choice x place′ choice′) where
+  module _ (k b first values x : ℕ) (plain subleaf choice subleaf′ choice′ : List ℕ) (F : HasRoom h k R) (bl : b < 2 ^ h) (at : values ≡ leafValues S h b)
+      (ft : first ≡ b * 2 ^ k) (Vi : Visited S search values first subleaf choice x subleaf′ choice′) where
     least-is : x ≡ firstBelow (64 * wordCount n) (R .pos b)
     least-is = Vi .least ∙ ap (λ y. firstBelow (64 * wordCount n) (allowedIn S search y)) at
 
-    pub turn-found : b < length plain → x < 64 * wordCount n → Turn n h R k b true plain place choice (set plain b x) place′ choice′
+    pub turn-found : b < length plain → x < 64 * wordCount n → LeafPlanned n h R k b true plain subleaf choice (set plain b x) subleaf′ choice′
     turn-found room l = record {
       leaves = λ _. plains-more b x plain room least-is l;
       entries = Vi .entries h k b F bl at ft;
@@ -81,7 +81,7 @@ module _ (S : Stored) (h : ℕ) (search : Search) where
     }
 
     -- and has none
-    pub turn-none : 64 * wordCount n ≤ x → Turn n h R k b false plain place choice plain place′ choice′
+    pub turn-none : 64 * wordCount n ≤ x → LeafPlanned n h R k b false plain subleaf choice plain subleaf′ choice′
     turn-none l = record {
       leaves = λ f. absurd f;
       entries = Vi .entries h k b F bl at ft;
@@ -89,22 +89,22 @@ module _ (S : Stored) (h : ℕ) (search : Search) where
     }
 
   -- the tables before the first leaf
-  pub after-none : (k : ℕ) (place choice : List ℕ) → ((j : ℕ) → j < R .count → getD place j 0 ≡ nowhere) → ((j : ℕ) → j < R .count → getD choice j 0 ≡ 0)
-      → After n h R k 0 place choice
-  after-none k place choice p c = record {
-    places = λ j l. p j l ∙ sym (place-nowhere n h R k j 0 (omega arith));
-    choices = λ j l. c j l ∙ sym (choice-nowhere n h R j 0 (omega arith));
+  pub after-none : (k : ℕ) (subleaf choice : List ℕ) → ((j : ℕ) → j < R .count → getD subleaf j 0 ≡ noSubLeaf) → ((j : ℕ) → j < R .count → getD choice j 0 ≡ 0)
+      → After n h R k 0 subleaf choice
+  after-none k subleaf choice p c = record {
+    sub-leaves = λ j l. p j l ∙ sym (sub-leaf-none n h R k j 0 (omega arith));
+    choices = λ j l. c j l ∙ sym (choice-none n h R j 0 (omega arith));
   }
 
   -- a leaf without a choice ends the search
-  pub filled-none : (k b : ℕ) (plain place choice plain′ place′ choice′ : List ℕ) → Turn n h R k b false plain place choice plain′ place′ choice′
-      → Filled n h R k false plain′ place′ choice′
-  filled-none k b plain place choice plain′ place′ choice′ t = record { leaves = λ f. absurd f; entries = λ f. absurd f; none = t .none }
+  pub filled-none : (k b : ℕ) (plain subleaf choice plain′ subleaf′ choice′ : List ℕ) → LeafPlanned n h R k b false plain subleaf choice plain′ subleaf′ choice′
+      → Filled n h R k false plain′ subleaf′ choice′
+  filled-none k b plain subleaf choice plain′ subleaf′ choice′ t = record { leaves = λ f. absurd f; entries = λ f. absurd f; none = t .none }
 
   -- after the last leaf
-  pub filled-all : (k b : ℕ) (plain place choice : List ℕ) → b ≡ 2 ^ h → Plains n h R b plain → After n h R k b place choice
-      → Filled n h R k true plain place choice
-  filled-all k b plain place choice e P A = record { leaves = λ _. rw (← e) P; entries = λ _. rw (← e) A; none = λ f. absurd f }
+  pub filled-all : (k b : ℕ) (plain subleaf choice : List ℕ) → b ≡ 2 ^ h → Plains n h R b plain → After n h R k b subleaf choice
+      → Filled n h R k true plain subleaf choice
+  filled-all k b plain subleaf choice e P A = record { leaves = λ _. rw (← e) P; entries = λ _. rw (← e) A; none = λ f. absurd f }
 
 -- ---- numbers
 
@@ -132,24 +132,24 @@ row-room {h} {k} {b} l m u =
     let p : 2 ^ (h + k) ≤ 2 ^ 10 = pow-mono {j = 10} (omega arith) in
     omega (arith, leaf-lt h k u (pow-pos k))
 
--- ---- whether every entry from `from` has a place
+-- ---- whether every entry from `from` has a sub-leaf
 
-module _ (place : List ℕ) (from : ℕ) where
+module _ (subleaf : List ℕ) (from : ℕ) where
   abbrev there : ℕ → Bool
-  there j = isPlaced place (from + j)
+  there j = hasSubLeaf subleaf (from + j)
 
-  pub placed-none : T (everyBelow 0 there)
-  placed-none = every-intro 0 there (λ j l. absurd (omega arith))
+  pub assigned-none : T (everyBelow 0 there)
+  assigned-none = every-intro 0 there (λ j l. absurd (omega arith))
 
-  pub placed-more : (j : ℕ) → T (everyBelow j there) → (getD place (from + j) 0 ≡ nowhere → ⊥) → T (everyBelow (j + 1) there)
-  placed-more j t f =
+  pub assigned-more : (j : ℕ) → T (everyBelow j there) → (getD subleaf (from + j) 0 ≡ noSubLeaf → ⊥) → T (everyBelow (j + 1) there)
+  assigned-more j t f =
       every-intro (j + 1) there (λ i l. go i l (decLt i j))
     where
       go : (i : ℕ) → i < j + 1 → Dec (i < j) → T (there i)
       go i l (yes m) = every-at j there t i m
-      go i l (no m) = let q : i ≡ j = omega arith in rw (q, ne-eqb (getD place (from + j) 0) nowhere f) tt
+      go i l (no m) = let q : i ≡ j = omega arith in rw (q, ne-eqb (getD subleaf (from + j) 0) noSubLeaf f) tt
 
-  pub placed-not : (entries j : ℕ) → j < entries → getD place (from + j) 0 ≡ nowhere → false ≡ everyBelow entries there
-  placed-not entries j l e =
+  pub assigned-not : (entries j : ℕ) → j < entries → getD subleaf (from + j) 0 ≡ noSubLeaf → false ≡ everyBelow entries there
+  assigned-not entries j l e =
       sym (is-false (everyBelow entries there)
-      (not-T (everyBelow entries there) (λ t. rw (eq-eqb (getD place (from + j) 0) nowhere e) at (every-at entries there t j l))))
+      (not-T (everyBelow entries there) (λ t. rw (eq-eqb (getD subleaf (from + j) 0) noSubLeaf e) at (every-at entries there t j l))))

@@ -19,32 +19,32 @@ use Rattle.words.specs.SearchLaws.{words-set}
 use Rattle.plans.specs.Tests.{Stored, leafValues, firstMeets, secondMeets, secondDiffers, specialIn, extraOf, allowedIn, testsOf}
 use Rattle.plans.specs.Entries.{AtLeaf, LeafSets, After, ForLeaf, Visited}
 use Rattle.plans.specs.declared.Search.{Search}
-use Rattle.plans.specs.declared.Search.the-variants.{First, Stuck, Avoiding}
+use Rattle.plans.specs.declared.Search.the-variants.{First, Unmet, Missed}
 
 -- ---- only the free variables' digits of a choice count
 
-pub first-periodic : (S : Stored) (leaf : ℕ) → Periodic (S .free) (firstMeets S leaf)
-first-periodic S leaf z =
-    pass-mod (S .free) 0 leaf z (S .clauses) 0 (getD (S .counts) 0 0)
-    ∙ ap (λ d. firstMeets S leaf (z % 2 ^ d)) (add-zero (S .free))
+pub first-periodic : (S : Stored) (values : ℕ) → Periodic (S .free) (firstMeets S values)
+first-periodic S values z =
+    pass-mod (S .free) 0 values z (S .clauses) 0 (getD (S .counts) 0 0)
+    ∙ ap (λ d. firstMeets S values (z % 2 ^ d)) (add-zero (S .free))
 
-pub fails-periodic : (clauses : List ℕ) (at n leaf : ℕ) → Periodic n (clauseFails clauses at n 0 leaf)
-fails-periodic clauses at n leaf z =
-    fails-mod n 0 leaf z clauses at ∙ ap (λ d. clauseFails clauses at n 0 leaf (z % 2 ^ d)) (add-zero n)
+pub fails-periodic : (clauses : List ℕ) (at n values : ℕ) → Periodic n (clauseFails clauses at n 0 values)
+fails-periodic clauses at n values z =
+    fails-mod n 0 values z clauses at ∙ ap (λ d. clauseFails clauses at n 0 values (z % 2 ^ d)) (add-zero n)
 
 low-periodic : (n : ℕ) (p : ℕ → Bool) → Periodic n (λ z. p (z % 2 ^ n))
 low-periodic n p z = ap p (sym (mod-mod z (2 ^ n)))
 
-pub meets-periodic : (S : Stored) (leaf : ℕ) → Periodic (S .free) (secondMeets S leaf)
-meets-periodic S leaf = low-periodic (S .free) (someOwn (S .free) (S .own) _)
+pub meets-periodic : (S : Stored) (values : ℕ) → Periodic (S .free) (secondMeets S values)
+meets-periodic S values = low-periodic (S .free) (someOwn (S .free) (S .own) _)
 
-pub differs-periodic : (S : Stored) (leaf j : ℕ) → Periodic (S .free) (secondDiffers S leaf j)
-differs-periodic S leaf j = low-periodic (S .free) (someOwn (S .free) (S .own) _)
+pub differs-periodic : (S : Stored) (values j : ℕ) → Periodic (S .free) (secondDiffers S values j)
+differs-periodic S values j = low-periodic (S .free) (someOwn (S .free) (S .own) _)
 
-pub allowed-periodic : (S : Stored) (search : Search) (leaf : ℕ) → Periodic (S .free) (allowedIn S search leaf)
-allowed-periodic S First leaf = first-periodic S leaf
-allowed-periodic S Stuck leaf = first-periodic S leaf
-allowed-periodic S (Avoiding j) leaf = λ z. ap₂ (λ x y. x && not y) (first-periodic S leaf z) (differs-periodic S leaf j z)
+pub allowed-periodic : (S : Stored) (search : Search) (values : ℕ) → Periodic (S .free) (allowedIn S search values)
+allowed-periodic S First values = first-periodic S values
+allowed-periodic S Unmet values = first-periodic S values
+allowed-periodic S (Missed j) values = λ z. ap₂ (λ x y. x && not y) (first-periodic S values z) (differs-periodic S values j z)
 
 -- ---- the tests at a leaf
 
@@ -83,67 +83,67 @@ leaf-is S h b r small bits = bits-same 64 r _ small (number-lt 64 _) (λ i l. bi
 -- no search has more than one extra disequation
 pub extra-le : (search : Search) → extraOf search ≤ 1
 extra-le First = omega arith
-extra-le Stuck = omega arith
-extra-le (Avoiding j) = omega arith
+extra-le Unmet = omega arith
+extra-le (Missed j) = omega arith
 
 -- the only row of a table of rows
 one-row : (with : List ℕ) (count : ℕ) (p : ℕ → ℕ → Bool) → ((j : ℕ) → j < 1 → Words count (λ w. getD with (64 * j + w) 0) (p j))
     → (z : ℕ) → z < 64 * count → inSet with z ≡ p 0 z
 one-row with count p f = words-set with count (p 0) (λ w l i m. ap (λ v. bit (getD with v 0) i) (omega arith) ∙ f 0 (omega arith) w l i m)
 
-module _ (S : Stored) (leaf : ℕ) where
+module _ (S : Stored) (values : ℕ) where
   -- choices taken out of a set by the row of disequation j
-  pub avoided : (j count : ℕ) (set set′ with : List ℕ) → count ≡ getD (S .counts) 2 0
+  pub missed-is : (j count : ℕ) (set set′ with : List ℕ) → count ≡ getD (S .counts) 2 0
       → ((i : ℕ) → i < 1 → Words (wordCount (S .free)) (λ w. getD with (64 * i + w) 0)
-      (λ z. someOwn (S .free) (S .own) (allPassBut (S .clauses) 384 count (640 + 4 * j + 4 * i) (S .free) (S .own) leaf) (z % 2 ^ S .free)))
+      (λ z. someOwn (S .free) (S .own) (allPassBut (S .clauses) 384 count (640 + 4 * j + 4 * i) (S .free) (S .own) values) (z % 2 ^ S .free)))
       → ((z : ℕ) → z < 64 * wordCount (S .free) → inSet set′ z ≡ (inSet set z && not (inSet with z)))
-      → (z : ℕ) → z < 64 * wordCount (S .free) → inSet set′ z ≡ (inSet set z && not (secondDiffers S leaf j z))
-  avoided j count set set′ with e rows removed z l =
+      → (z : ℕ) → z < 64 * wordCount (S .free) → inSet set′ z ≡ (inSet set z && not (secondDiffers S values j z))
+  missed-is j count set set′ with e rows removed z l =
       let at : 640 + 4 * j + 4 * 0 ≡ 640 + 4 * j = omega arith in
       removed z l
       ∙ ap (λ x. inSet set z && not x)
       (one-row with (wordCount (S .free)) (λ i y. test count (640 + 4 * j + 4 * i) y) rows z l ∙ ap₂ (λ k a. test k a z) e at)
     where
       test : ℕ → ℕ → ℕ → Bool
-      test k at y = someOwn (S .free) (S .own) (allPassBut (S .clauses) 384 k at (S .free) (S .own) leaf) (y % 2 ^ S .free)
+      test k at y = someOwn (S .free) (S .own) (allPassBut (S .clauses) 384 k at (S .free) (S .own) values) (y % 2 ^ S .free)
 
   module _ (count : ℕ) (set : List ℕ) (e : count ≡ getD (S .counts) 0 0)
-      (W : Words (wordCount (S .free)) (λ w. getD set w 0) (allPass (S .clauses) 0 count (S .free) 0 leaf)) where
-    firsts : (z : ℕ) → z < 64 * wordCount (S .free) → inSet set z ≡ firstMeets S leaf z
-    firsts z l = words-set set (wordCount (S .free)) (allPass (S .clauses) 0 count (S .free) 0 leaf) W z l ∙ ap (λ k. allPass (S .clauses) 0 k (S .free) 0 leaf z) e
+      (W : Words (wordCount (S .free)) (λ w. getD set w 0) (allPass (S .clauses) 0 count (S .free) 0 values)) where
+    firsts : (z : ℕ) → z < 64 * wordCount (S .free) → inSet set z ≡ firstMeets S values z
+    firsts z l = words-set set (wordCount (S .free)) (allPass (S .clauses) 0 count (S .free) 0 values) W z l ∙ ap (λ k. allPass (S .clauses) 0 k (S .free) 0 values z) e
 
-    pub sets-first : (other : ℕ → Bool) → LeafSets S First leaf (inSet set) other
+    pub sets-first : (other : ℕ → Bool) → LeafSets S First values (inSet set) other
     sets-first other = record { allows = firsts; meets = λ l. absurd (omega arith) }
 
-    pub sets-stuck : (positives : ℕ) (other : List ℕ) → positives ≡ getD (S .counts) 2 0
+    pub sets-unmet : (positives : ℕ) (other : List ℕ) → positives ≡ getD (S .counts) 2 0
         → Words (wordCount (S .free)) (λ w. getD other w 0)
-        (λ z. someOwn (S .free) (S .own) (allPass (S .clauses) 384 positives (S .free) (S .own) leaf) (z % 2 ^ S .free))
-        → LeafSets S Stuck leaf (inSet set) (inSet other)
-    sets-stuck positives other f O = record {
+        (λ z. someOwn (S .free) (S .own) (allPass (S .clauses) 384 positives (S .free) (S .own) values) (z % 2 ^ S .free))
+        → LeafSets S Unmet values (inSet set) (inSet other)
+    sets-unmet positives other f O = record {
       allows = firsts;
       meets = λ _ z l.
           words-set other (wordCount (S .free)) (test positives) O z l ∙ ap (λ k. test k z) f;
     }
       where
         test : ℕ → ℕ → Bool
-        test k y = someOwn (S .free) (S .own) (allPass (S .clauses) 384 k (S .free) (S .own) leaf) (y % 2 ^ S .free)
+        test k y = someOwn (S .free) (S .own) (allPass (S .clauses) 384 k (S .free) (S .own) values) (y % 2 ^ S .free)
 
-    pub sets-avoiding : (j : ℕ) (set′ : List ℕ) (other : ℕ → Bool)
-        → ((z : ℕ) → z < 64 * wordCount (S .free) → inSet set′ z ≡ (inSet set z && not (secondDiffers S leaf j z)))
-        → LeafSets S (Avoiding j) leaf (inSet set′) other
-    sets-avoiding j set′ other f = record {
-      allows = λ z l. f z l ∙ ap (λ x. x && not (secondDiffers S leaf j z)) (firsts z l);
+    pub sets-missed : (j : ℕ) (set′ : List ℕ) (other : ℕ → Bool)
+        → ((z : ℕ) → z < 64 * wordCount (S .free) → inSet set′ z ≡ (inSet set z && not (secondDiffers S values j z)))
+        → LeafSets S (Missed j) values (inSet set′) other
+    sets-missed j set′ other f = record {
+      allows = λ z l. f z l ∙ ap (λ x. x && not (secondDiffers S values j z)) (firsts z l);
       meets = λ l. absurd (omega arith);
     }
 
   -- a leaf whose entries were gone through
-  pub visited : (search : Search) (first extra entries count : ℕ) (place choice place′ choice′ set other : List ℕ) (r : ℕ)
+  pub visited : (search : Search) (first extra entries count : ℕ) (subleaf choice subleaf′ choice′ set other : List ℕ) (r : ℕ)
       → extra ≡ extraOf search → entries ≡ extraOf search + getD (S .counts) 1 0 → count ≡ wordCount (S .free)
-      → LeafSets S search leaf (inSet set) (inSet other)
-      → ForLeaf (S .free) count entries first (inSet set) (specialIn (S .clauses) (S .free) leaf (inSet other) extra)
-      (λ h k b R. After (S .free) h R k b place choice → After (S .free) h R k (b + 1) place′ choice′)
-      → r ≡ firstBelow (64 * count) (inSet set) → Visited S search leaf first place choice r place′ choice′
-  visited search first extra entries count place choice place′ choice′ set other r x e n L all f = record {
+      → LeafSets S search values (inSet set) (inSet other)
+      → ForLeaf (S .free) count entries first (inSet set) (specialIn (S .clauses) (S .free) values (inSet other) extra)
+      (λ h k b R. After (S .free) h R k b subleaf choice → After (S .free) h R k (b + 1) subleaf′ choice′)
+      → r ≡ firstBelow (64 * count) (inSet set) → Visited S search values first subleaf choice r subleaf′ choice′
+  visited search first extra entries count subleaf choice subleaf′ choice′ set other r x e n L all f = record {
     least = f ∙ ap (λ w. firstBelow (64 * w) (inSet set)) n ∙ first-ext (64 * wordCount (S .free)) _ _ (L .allows);
     entries = λ h k b F bl at ft A.
         all h k b (testsOf S h search) F bl (sym e) n ft

@@ -5,7 +5,7 @@ pub mod PlanLaws
 pub mod Tests
 pub mod Entries
 pub mod EntryLaws
-pub mod PlacedLaws
+pub mod AssignedLaws
 pub mod StoredLaws
 pub mod LeafLaws
 pub mod FillLaws

@@ -10,7 +10,7 @@ use Rattle.shares.specs.Below.{everyBelow, someBelow, firstBelow}
 use Rattle.shares.specs.BelowLaws.{every-ext, some-ext, first-ext, count-ext, some-intro, some-found, first-passes}
 use Rattle.leaves.specs.Choices.{Picker, someChoice, least, value, digits}
 use Rattle.leaves.specs.ChoiceLaws.{value-digits, pick-first, some-row}
-use Rattle.leaves.specs.Problem.{Problem, plainAt, specialAt, solvable, home, place, guest, choiceAt, candidate}
+use Rattle.leaves.specs.Problem.{Problem, plainAt, specialAt, solvable, blockFor, rank, disequationAt, choiceAt, candidate}
 
 -- ---- a row that is picked, as a number
 
@@ -46,37 +46,37 @@ module _ {X : Type 0} (C : Picker X) (h : ℕ) (P Q : Problem X) (count : P .cou
       (every-ext (2 ^ h) _ _ plain-same)
       (every-ext (P .count) _ _ (λ j m. some-ext (2 ^ h) _ _ (special-same j m)) ∙ ap (λ k. everyBelow k (λ j. someBelow (2 ^ h) (specialAt C Q j))) count)
 
-  home-same : (j : ℕ) → j < P .count → home C h P j ≡ home C h Q j
-  unfolding home
-  home-same j m = first-ext (2 ^ h) _ _ (special-same j m)
+  block-same : (j : ℕ) → j < P .count → blockFor C h P j ≡ blockFor C h Q j
+  unfolding blockFor
+  block-same j m = first-ext (2 ^ h) _ _ (special-same j m)
 
-  place-same : (j : ℕ) → j < P .count → place C h P j ≡ place C h Q j
-  unfolding place
-  place-same j m = count-ext j _ _ (λ i l. ap₂ eqb (home-same i (le-trans l (le-of-lt m))) (home-same j m))
+  rank-same : (j : ℕ) → j < P .count → rank C h P j ≡ rank C h Q j
+  unfolding rank
+  rank-same j m = count-ext j _ _ (λ i l. ap₂ eqb (block-same i (le-trans l (le-of-lt m))) (block-same j m))
 
-  guest-same : (b r : ℕ) → guest C h P b r ≡ guest C h Q b r
-  unfolding guest
-  guest-same b r =
-      first-ext (P .count) _ _ (λ j m. ap₂ (λ x y. eqb x b && eqb y r) (home-same j m) (place-same j m))
-      ∙ ap (λ k. firstBelow k (λ j. eqb (home C h Q j) b && eqb (place C h Q j) r)) count
+  at-same-rank : (b r : ℕ) → disequationAt C h P b r ≡ disequationAt C h Q b r
+  unfolding disequationAt
+  at-same-rank b r =
+      first-ext (P .count) _ _ (λ j m. ap₂ (λ x y. eqb x b && eqb y r) (block-same j m) (rank-same j m))
+      ∙ ap (λ k. firstBelow k (λ j. eqb (blockFor C h Q j) b && eqb (rank C h Q j) r)) count
 
   choice-same : (b r : ℕ) → b < 2 ^ h → choiceAt C h P b r ≡ choiceAt C h Q b r
   unfolding choiceAt
-  choice-same b r l = go (ltb (guest C h P b r) (P .count)) refl
+  choice-same b r l = go (ltb (disequationAt C h P b r) (P .count)) refl
     where
-      guests : guest C h P b r ≡ guest C h Q b r
-      guests = guest-same b r
+      same-at : disequationAt C h P b r ≡ disequationAt C h Q b r
+      same-at = at-same-rank b r
 
-      tests : ltb (guest C h P b r) (P .count) ≡ ltb (guest C h Q b r) (Q .count)
-      tests = ap₂ ltb guests count
+      tests : ltb (disequationAt C h P b r) (P .count) ≡ ltb (disequationAt C h Q b r) (Q .count)
+      tests = ap₂ ltb same-at count
 
-      go : (v : Bool) → ltb (guest C h P b r) (P .count) ≡ v
-          → cond (ltb (guest C h P b r) (P .count)) (C .pick (λ x. P .pos b x && P .dis (guest C h P b r) b x)) (C .pick (P .pos b))
-          ≡ cond (ltb (guest C h Q b r) (Q .count)) (C .pick (λ x. Q .pos b x && Q .dis (guest C h Q b r) b x)) (C .pick (Q .pos b))
+      go : (v : Bool) → ltb (disequationAt C h P b r) (P .count) ≡ v
+          → cond (ltb (disequationAt C h P b r) (P .count)) (C .pick (λ x. P .pos b x && P .dis (disequationAt C h P b r) b x)) (C .pick (P .pos b))
+          ≡ cond (ltb (disequationAt C h Q b r) (Q .count)) (C .pick (λ x. Q .pos b x && Q .dis (disequationAt C h Q b r) b x)) (C .pick (Q .pos b))
       go true e =
-          let m = ltb→lt (guest C h P b r) (P .count) (rw e tt) in
+          let m = ltb→lt (disequationAt C h P b r) (P .count) (rw e tt) in
           rw (← tests, e)
-          (ap (C .pick) (fun-ext (λ x. ap₂ _&&_ (pos b l x) (dis (guest C h P b r) m b l x ∙ ap (λ j. Q .dis j b x) guests))))
+          (ap (C .pick) (fun-ext (λ x. ap₂ _&&_ (pos b l x) (dis (disequationAt C h P b r) m b l x ∙ ap (λ j. Q .dis j b x) same-at))))
       go false e = rw (← tests, e) (ap (C .pick) (fun-ext (pos b l)))
 
   pub candidate-same : (k s : ℕ) → s < 2 ^ (h + k) → candidate C h P k s ≡ candidate C h Q k s

@@ -6,24 +6,24 @@ use lib.Dec.{ltb, eqb}
 use lib.ListN.{getD}
 use Rattle.shares.specs.Below.{firstBelow}
 use Rattle.leaves.specs.Choices.{least}
-use Rattle.leaves.specs.Problem.{Problem, home, place}
+use Rattle.leaves.specs.Problem.{Problem, blockFor, rank}
 use Rattle.plans.specs.Numbers.{numbered}
 
--- the place of an entry that has none yet: past every sub-leaf
-abbrev pub nowhere : ℕ
-nowhere = 2048
+-- the mark of an entry that has no sub-leaf yet: past every sub-leaf
+abbrev pub noSubLeaf : ℕ
+noSubLeaf = 2048
 
--- entry j of a table of places has one
-abbrev pub isPlaced : List ℕ → ℕ → Bool
-isPlaced place j = not (eqb (getD place j 0) nowhere)
+-- entry j of a table of sub-leaves has one
+abbrev pub hasSubLeaf : List ℕ → ℕ → Bool
+hasSubLeaf subleaf j = not (eqb (getD subleaf j 0) noSubLeaf)
 
 module _ (n h : ℕ) (R : Problem ℕ) where
   -- the leaf where disequation j stands, and its sub-leaf there
-  abbrev pub homeOf : ℕ → ℕ
-  homeOf j = home (least n) h (numbered n R) j
+  abbrev pub leafFor : ℕ → ℕ
+  leafFor j = blockFor (least n) h (numbered n R) j
 
   abbrev pub rankOf : ℕ → ℕ
-  rankOf j = place (least n) h (numbered n R) j
+  rankOf j = rank (least n) h (numbered n R) j
 
   -- the least choice for the positive clauses at leaf b
   abbrev pub plainChoice : ℕ → ℕ
@@ -34,9 +34,9 @@ module _ (n h : ℕ) (R : Problem ℕ) where
   specialChoice j b = firstBelow (2 ^ n) (λ x. R .pos b x && R .dis j b x)
 
   -- the sub-leaf of disequation j after the first `done` leaves, each split k times
-  unfoldable pub placeAfter : ℕ → ℕ → ℕ → ℕ
-  placeAfter k done j = cond (ltb (homeOf j) done) (homeOf j * 2 ^ k + rankOf j) nowhere
+  unfoldable pub subLeafAfter : ℕ → ℕ → ℕ → ℕ
+  subLeafAfter k done j = cond (ltb (leafFor j) done) (leafFor j * 2 ^ k + rankOf j) noSubLeaf
 
   -- its choice then
   unfoldable pub choiceAfter : ℕ → ℕ → ℕ
-  choiceAfter done j = cond (ltb (homeOf j) done) (specialChoice j (homeOf j)) 0
+  choiceAfter done j = cond (ltb (leafFor j) done) (specialChoice j (leafFor j)) 0

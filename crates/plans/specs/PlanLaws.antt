@@ -11,10 +11,10 @@ use Rattle.shares.specs.Test.{and-intro, and-left, and-right}
 use Rattle.shares.specs.Below.{everyBelow, someBelow, firstBelow, countBelow}
 use Rattle.shares.specs.BelowLaws.{some-intro, some-found, first-min, first-below, first-passes, every-at, every-intro}
 use Rattle.leaves.specs.Choices.{least}
-use Rattle.leaves.specs.Problem.{Problem, plainAt, specialAt, solvable, home, place}
+use Rattle.leaves.specs.Problem.{Problem, plainAt, specialAt, solvable, blockFor, rank}
 use Rattle.plans.specs.Numbers.{numbered}
 use Rattle.plans.specs.NumberLaws.{some-number}
-use Rattle.plans.specs.Plan.{nowhere, homeOf, rankOf, plainChoice, specialChoice, placeAfter, choiceAfter}
+use Rattle.plans.specs.Plan.{noSubLeaf, leafFor, rankOf, plainChoice, specialChoice, subLeafAfter, choiceAfter}
 
 -- a search below a bound finds something exactly if something passes
 pub found-some : (m : ℕ) (p : ℕ → Bool) → firstBelow m p < m → T (someBelow m p)
@@ -36,18 +36,18 @@ module _ (n h : ℕ) (R : Problem ℕ) where
   -- ---- one entry at one leaf
 
   -- it was nowhere before leaf b and finds a choice: it stands here
-  pub found-here : (j b : ℕ) → b < 2 ^ h → b ≤ homeOf n h R j → specialChoice n h R j b < 2 ^ n
-      → homeOf n h R j ≡ b
-  unfolding home
+  pub found-here : (j b : ℕ) → b < 2 ^ h → b ≤ leafFor n h R j → specialChoice n h R j b < 2 ^ n
+      → leafFor n h R j ≡ b
+  unfolding blockFor
   found-here j b l m f =
       le-antisymm
       (first-min (2 ^ h) (specialAt (least n) (numbered n R) j) b (rw (special-is j b) (found-some (2 ^ n) (λ x. R .pos b x && R .dis j b x) f)))
       m
 
   -- it finds none: it stands later, or nowhere
-  pub not-here : (j b : ℕ) → b < 2 ^ h → b ≤ homeOf n h R j → 2 ^ n ≤ specialChoice n h R j b
-      → b < homeOf n h R j
-  unfolding home
+  pub not-here : (j b : ℕ) → b < 2 ^ h → b ≤ leafFor n h R j → 2 ^ n ≤ specialChoice n h R j b
+      → b < leafFor n h R j
+  unfolding blockFor
   not-here j b l m f = go (eq-or-lt-of-le m)
     where
       p : ℕ → Bool
@@ -62,35 +62,35 @@ module _ (n h : ℕ) (R : Problem ℕ) where
   -- ---- entries
 
   module _ (k : ℕ) where
-    pub place-there : (j done : ℕ) → homeOf n h R j < done
-        → placeAfter n h R k done j ≡ homeOf n h R j * 2 ^ k + rankOf n h R j
-    unfolding placeAfter
-    place-there j done l = rw (lt-ltb (homeOf n h R j) done l)
+    pub sub-leaf-there : (j done : ℕ) → leafFor n h R j < done
+        → subLeafAfter n h R k done j ≡ leafFor n h R j * 2 ^ k + rankOf n h R j
+    unfolding subLeafAfter
+    sub-leaf-there j done l = rw (lt-ltb (leafFor n h R j) done l)
 
-    pub place-nowhere : (j done : ℕ) → done ≤ homeOf n h R j → placeAfter n h R k done j ≡ nowhere
-    unfolding placeAfter
-    place-nowhere j done l = rw (le-ltb (homeOf n h R j) done l)
+    pub sub-leaf-none : (j done : ℕ) → done ≤ leafFor n h R j → subLeafAfter n h R k done j ≡ noSubLeaf
+    unfolding subLeafAfter
+    sub-leaf-none j done l = rw (le-ltb (leafFor n h R j) done l)
 
-  pub choice-there : (j done : ℕ) → homeOf n h R j < done
-      → choiceAfter n h R done j ≡ specialChoice n h R j (homeOf n h R j)
+  pub choice-there : (j done : ℕ) → leafFor n h R j < done
+      → choiceAfter n h R done j ≡ specialChoice n h R j (leafFor n h R j)
   unfolding choiceAfter
-  choice-there j done l = rw (lt-ltb (homeOf n h R j) done l)
+  choice-there j done l = rw (lt-ltb (leafFor n h R j) done l)
 
-  pub choice-nowhere : (j done : ℕ) → done ≤ homeOf n h R j → choiceAfter n h R done j ≡ 0
+  pub choice-none : (j done : ℕ) → done ≤ leafFor n h R j → choiceAfter n h R done j ≡ 0
   unfolding choiceAfter
-  choice-nowhere j done l = rw (le-ltb (homeOf n h R j) done l)
+  choice-none j done l = rw (le-ltb (leafFor n h R j) done l)
 
   -- the rank of one that stands at leaf b: how many before it do
-  pub rank-here : (j b : ℕ) → homeOf n h R j ≡ b → rankOf n h R j ≡ countBelow j (λ i. eqb (homeOf n h R i) b)
-  unfolding place
-  rank-here j b e = ap (λ c. countBelow j (λ i. eqb (homeOf n h R i) c)) e
+  pub rank-here : (j b : ℕ) → leafFor n h R j ≡ b → rankOf n h R j ≡ countBelow j (λ i. eqb (leafFor n h R i) b)
+  unfolding rank
+  rank-here j b e = ap (λ c. countBelow j (λ i. eqb (leafFor n h R i) c)) e
 
   -- ---- at the end
 
-  -- all leaves have a choice, and all disequations a place: the problem is solvable
-  pub solvable-of : ((b : ℕ) → b < 2 ^ h → plainChoice n h R b < 2 ^ n) → ((j : ℕ) → j < R .count → homeOf n h R j < 2 ^ h)
+  -- all leaves have a choice, and all disequations a sub-leaf: the problem is solvable
+  pub solvable-of : ((b : ℕ) → b < 2 ^ h → plainChoice n h R b < 2 ^ n) → ((j : ℕ) → j < R .count → leafFor n h R j < 2 ^ h)
       → T (solvable (least n) h (numbered n R))
-  unfolding solvable home
+  unfolding solvable blockFor
   solvable-of f g =
       and-intro (everyBelow (2 ^ h) (plainAt (least n) (numbered n R))) _
       (every-intro (2 ^ h) _ (λ b l. rw (plain-is b) (found-some (2 ^ n) (R .pos b) (f b l))))
@@ -104,8 +104,8 @@ module _ (n h : ℕ) (R : Problem ℕ) where
       T-not (someBelow (2 ^ n) (R .pos b)) (none-found (2 ^ n) (R .pos b) f)
       (rw (plain-is b) at (every-at (2 ^ h) (plainAt (least n) (numbered n R)) (and-left (everyBelow (2 ^ h) (plainAt (least n) (numbered n R))) _ t) b l)))
 
-  pub unsolvable-special : (j : ℕ) → j < R .count → 2 ^ h ≤ homeOf n h R j → T (not (solvable (least n) h (numbered n R)))
-  unfolding solvable home
+  pub unsolvable-special : (j : ℕ) → j < R .count → 2 ^ h ≤ leafFor n h R j → T (not (solvable (least n) h (numbered n R)))
+  unfolding solvable blockFor
   unsolvable-special j l f =
       not-T (solvable (least n) h (numbered n R)) (λ t.
       T-not (someBelow (2 ^ h) (specialAt (least n) (numbered n R) j)) (none-found (2 ^ h) (specialAt (least n) (numbered n R) j) f)

@@ -11,9 +11,9 @@ use Rattle.shares.specs.Constant.{constantLevels, bit, numberOf}
 use Rattle.leaves.specs.Problem.{Problem}
 use Rattle.words.specs.Clause.{Clauses}
 use Rattle.words.specs.Sets.{allPass, clauseFails, allPassBut, someOwn}
-use Rattle.plans.specs.Plan.{nowhere}
+use Rattle.plans.specs.Plan.{noSubLeaf}
 use Rattle.plans.specs.declared.Search.{Search}
-use Rattle.plans.specs.declared.Search.the-variants.{First, Stuck, Avoiding}
+use Rattle.plans.specs.declared.Search.the-variants.{First, Unmet, Missed}
 
 -- what is read of a question: its clauses and constants as they are stored, how many there are, and how many variables
 pub record Stored : Type 0 where
@@ -43,48 +43,48 @@ leafValues S h b = numberOf 64 (λ i. ltb i (S .defined) && bit (getD (S .consta
 
 -- choice x of the free variables meets the first system's positive clauses at a leaf with these values
 abbrev pub firstMeets : Stored → ℕ → ℕ → Bool
-firstMeets S leaf x = allPass (S .clauses) 0 (getD (S .counts) 0 0) (S .free) 0 leaf x
+firstMeets S values x = allPass (S .clauses) 0 (getD (S .counts) 0 0) (S .free) 0 values x
 
 -- and its disequation j
 abbrev pub firstDiffers : Stored → ℕ → ℕ → ℕ → Bool
-firstDiffers S leaf j x = clauseFails (S .clauses) (256 + 4 * j) (S .free) 0 leaf x
+firstDiffers S values j x = clauseFails (S .clauses) (256 + 4 * j) (S .free) 0 values x
 
 -- beside x some own choice meets the second system's positive clauses
 abbrev pub secondMeets : Stored → ℕ → ℕ → Bool
-secondMeets S leaf x = someOwn (S .free) (S .own) (allPass (S .clauses) 384 (getD (S .counts) 2 0) (S .free) (S .own) leaf) (x % 2 ^ S .free)
+secondMeets S values x = someOwn (S .free) (S .own) (allPass (S .clauses) 384 (getD (S .counts) 2 0) (S .free) (S .own) values) (x % 2 ^ S .free)
 
 -- and its disequation j
 abbrev pub secondDiffers : Stored → ℕ → ℕ → ℕ → Bool
-secondDiffers S leaf j x =
-    someOwn (S .free) (S .own) (allPassBut (S .clauses) 384 (getD (S .counts) 2 0) (640 + 4 * j) (S .free) (S .own) leaf) (x % 2 ^ S .free)
+secondDiffers S values j x =
+    someOwn (S .free) (S .own) (allPassBut (S .clauses) 384 (getD (S .counts) 2 0) (640 + 4 * j) (S .free) (S .own) values) (x % 2 ^ S .free)
 
 -- disequation e of a search holds in choice z: the first `extra` ones say that z is not in the set `other`, the rest are the stored ones
 unfoldable pub specialIn : List ℕ → ℕ → ℕ → (ℕ → Bool) → ℕ → ℕ → ℕ → Bool
-specialIn clauses n leaf other extra e z = cond (ltb e extra) (not (other z)) (clauseFails clauses (256 + 4 * (e - extra)) n 0 leaf z)
+specialIn clauses n values other extra e z = cond (ltb e extra) (not (other z)) (clauseFails clauses (256 + 4 * (e - extra)) n 0 values z)
 
 -- how many disequations a search has before the stored ones
 abbrev pub extraOf : Search → ℕ
 extraOf First = 0
-extraOf Stuck = 1
-extraOf (Avoiding j) = 0
+extraOf Unmet = 1
+extraOf (Missed j) = 0
 
 -- how many sub-leaves a leaf has room for, where the first system has d disequations: `needed` of the kind of question that it serves
 abbrev pub roomOf : Search → ℕ → ℕ
 roomOf First d = d
-roomOf Stuck d = d + 1
-roomOf (Avoiding j) d = d + 1
+roomOf Unmet d = d + 1
+roomOf (Missed j) d = d + 1
 
 -- the choices that a search allows at a leaf with these values
 abbrev pub allowedIn : Stored → Search → ℕ → ℕ → Bool
-allowedIn S First leaf x = firstMeets S leaf x
-allowedIn S Stuck leaf x = firstMeets S leaf x
-allowedIn S (Avoiding j) leaf x = firstMeets S leaf x && not (secondDiffers S leaf j x)
+allowedIn S First values x = firstMeets S values x
+allowedIn S Unmet values x = firstMeets S values x
+allowedIn S (Missed j) values x = firstMeets S values x && not (secondDiffers S values j x)
 
 -- a search names a disequation that is there
 abbrev pub Named : List ℕ → Search → Type 0
 Named counts First = Unit {0}
-Named counts Stuck = Unit {0}
-Named counts (Avoiding j) = j < getD counts 3 0
+Named counts Unmet = Unit {0}
+Named counts (Missed j) = j < getD counts 3 0
 
 -- what a search asks of choices at the 2 ^ h leaves
 abbrev pub testsOf : Stored → ℕ → Search → Problem ℕ
@@ -96,12 +96,12 @@ testsOf S h search = record {
 
 -- ---- one entry of a plan at one leaf
 
--- an entry takes the next place, if it has none and a choice below the limit was found
+-- an entry takes the next sub-leaf, if it has none and a choice below the limit was found
 unfoldable pub takes : List ℕ → ℕ → ℕ → ℕ → Bool
-takes place e limit x = eqb (getD place e 0) nowhere && ltb x limit
+takes subleaf e limit x = eqb (getD subleaf e 0) noSubLeaf && ltb x limit
 
 -- what one entry does at one leaf
-pub record Placed (place choice : List ℕ) (e next limit x r : ℕ) (place′ choice′ : List ℕ) : Type 0 where
-  pub next′ : r ≡ next + one (takes place e limit x)
-  pub places : place′ ≡ cond (takes place e limit x) (set place e next) place
-  pub choices : choice′ ≡ cond (takes place e limit x) (set choice e x) choice
+pub record Assigned (subleaf choice : List ℕ) (e next limit x r : ℕ) (subleaf′ choice′ : List ℕ) : Type 0 where
+  pub next′ : r ≡ next + one (takes subleaf e limit x)
+  pub sub-leaves : subleaf′ ≡ cond (takes subleaf e limit x) (set subleaf e next) subleaf
+  pub choices : choice′ ≡ cond (takes subleaf e limit x) (set choice e x) choice

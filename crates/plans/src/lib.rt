@@ -10,28 +10,28 @@ ghost use Rattle.shares.specs.Constant.{bit};
 ghost use Rattle.leaves.specs.Heights.{c};
 ghost use Rattle.words.specs.Clause.{Clauses};
 ghost use Rattle.words.specs.Sets.{wordCount, inSet};
-ghost use Rattle.plans.specs.Tests.{stored, Readable, leafValues, secondDiffers, specialIn, extraOf, roomOf, Named, testsOf, Placed};
-ghost use Rattle.plans.specs.Entries.{LeafSets, ForLeaf, After, Visited, Turn, Filled, SolvedAs};
-ghost use Rattle.plans.specs.Plan.{isPlaced};
+ghost use Rattle.plans.specs.Tests.{stored, Readable, leafValues, secondDiffers, specialIn, extraOf, roomOf, Named, testsOf, Assigned};
+ghost use Rattle.plans.specs.Entries.{LeafSets, ForLeaf, After, Visited, LeafPlanned, Filled, SolvedAs};
+ghost use Rattle.plans.specs.Plan.{hasSubLeaf};
 
 // What is searched for.
 pub enum Search {
     // a solution of the first system
     First,
     // one with a leaf where no own choice meets the second system's positive clauses
-    Stuck,
+    Unmet,
     // one with no leaf where an own choice meets them and this disequation of the second
-    Avoiding(usize),
+    Missed(usize),
 }
 
-// The place of an entry that has none yet: past every sub-leaf.
-const NOWHERE: u16 = 2048;
+// The mark of an entry that has no sub-leaf yet: past every sub-leaf.
+const NO_SUB_LEAF: u16 = 2048;
 
 // The choices of word w of the set in which disequation e holds.
 fn special_word(
     clauses: &[u8; 768],
     free: usize,
-    leaf: u64,
+    values: u64,
     extra: usize,
     set: &[u64; 64],
     other: &[u64; 64],
@@ -40,19 +40,19 @@ fn special_word(
 ) -> u64
     requires { ⌜ (w < 64) × (free ≤ 12) × (e < 32) ⌝ }
     requires { ⌜ Clauses (now clauses) 256 (e + 1 - extra) ⌝ }
-    ensures { λ r. ⌜ ((i : ℕ) → i < 64 → bit r i ≡ (inSet (now (set .entry)) (64 * w + i) && specialIn (now (clauses .entry)) free leaf (inSet (now (other .entry))) extra e (64 * w + i))) ⌝ }
+    ensures { λ r. ⌜ ((i : ℕ) → i < 64 → bit r i ≡ (inSet (now (set .entry)) (64 * w + i) && specialIn (now (clauses .entry)) free values (inSet (now (other .entry))) extra e (64 * w + i))) ⌝ }
 {
     if e < extra {
         return words::outside_word(set, other, w);
     }
-    words::failing_word(set, clauses, 256 + 4 * (e - extra), free, leaf, w)
+    words::failing_word(set, clauses, 256 + 4 * (e - extra), free, values, w)
 }
 
 // The least choice of the set in which disequation e holds, or 64 * count.
 fn least_special(
     clauses: &[u8; 768],
     free: usize,
-    leaf: u64,
+    values: u64,
     extra: usize,
     set: &[u64; 64],
     other: &[u64; 64],
@@ -61,11 +61,11 @@ fn least_special(
 ) -> usize
     requires { ⌜ (count ≤ 64) × (free ≤ 12) × (e < 32) ⌝ }
     requires { ⌜ Clauses (now clauses) 256 (e + 1 - extra) ⌝ }
-    ensures { λ r. ⌜ r ≡ firstBelow (64 * count) (λ z. inSet (now (set .entry)) z && specialIn (now (clauses .entry)) free leaf (inSet (now (other .entry))) extra e z) ⌝ }
+    ensures { λ r. ⌜ r ≡ firstBelow (64 * count) (λ z. inSet (now (set .entry)) z && specialIn (now (clauses .entry)) free values (inSet (now (other .entry))) extra e z) ⌝ }
 {
     let mut w: usize = 0;
     while w < count {
-        let x = special_word(clauses, free, leaf, extra, set, other, e, w);
+        let x = special_word(clauses, free, values, extra, set, other, e, w);
         if x != 0 {
             return 64 * w + words::lowest(x);
         }
@@ -74,30 +74,30 @@ fn least_special(
     64 * count
 }
 
-// Gives disequation e a place and a choice, if it has none yet and the leaf has a choice for it. The result is the next free place.
-fn place_one(
+// Gives disequation e a sub-leaf and a choice, if it has none yet and the leaf has a choice for it. The result is the next free sub-leaf.
+fn assign_one(
     clauses: &[u8; 768],
     free: usize,
-    leaf: u64,
+    values: u64,
     extra: usize,
     set: &[u64; 64],
     other: &[u64; 64],
     count: usize,
     e: usize,
     next: usize,
-    place: &mut [u16],
+    subleaf: &mut [u16],
     choice: &mut [u16],
 ) -> usize
-    requires { ⌜ (count ≤ 64) × (free ≤ 12) × (e < 32) × (next < 2048) × (length (now place) ≡ 32) × (length (now choice) ≡ 32) ⌝ }
+    requires { ⌜ (count ≤ 64) × (free ≤ 12) × (e < 32) × (next < 2048) × (length (now subleaf) ≡ 32) × (length (now choice) ≡ 32) ⌝ }
     requires { ⌜ Clauses (now clauses) 256 (e + 1 - extra) ⌝ }
-    ensures { λ r. ⌜ Placed (now (place .entry)) (now (choice .entry)) e next (64 * count) (firstBelow (64 * count) (λ z. inSet (now (set .entry)) z && specialIn (now (clauses .entry)) free leaf (inSet (now (other .entry))) extra e z)) r (now (place .exit)) (now (choice .exit)) ⌝ }
+    ensures { λ r. ⌜ Assigned (now (subleaf .entry)) (now (choice .entry)) e next (64 * count) (firstBelow (64 * count) (λ z. inSet (now (set .entry)) z && specialIn (now (clauses .entry)) free values (inSet (now (other .entry))) extra e z)) r (now (subleaf .exit)) (now (choice .exit)) ⌝ }
 {
-    if place[e] != NOWHERE {
+    if subleaf[e] != NO_SUB_LEAF {
         return next;
     }
-    let x = least_special(clauses, free, leaf, extra, set, other, count, e);
+    let x = least_special(clauses, free, values, extra, set, other, count, e);
     if x < 64 * count {
-        place[e] = next as u16;
+        subleaf[e] = next as u16;
         choice[e] = x as u16;
         return next + 1;
     }
@@ -105,37 +105,37 @@ fn place_one(
 }
 
 // Goes through the entries at one leaf, whose first sub-leaf is `first`.
-fn place_all(
+fn assign_all(
     clauses: &[u8; 768],
     free: usize,
-    leaf: u64,
+    values: u64,
     extra: usize,
     set: &[u64; 64],
     other: &[u64; 64],
     count: usize,
     entries: usize,
     first: usize,
-    place: &mut [u16],
+    subleaf: &mut [u16],
     choice: &mut [u16],
 )
-    requires { ⌜ (count ≤ 64) × (free ≤ 12) × (entries ≤ 32) × (first ≤ 1024) × (length (now place) ≡ 32) × (length (now choice) ≡ 32) ⌝ }
+    requires { ⌜ (count ≤ 64) × (free ≤ 12) × (entries ≤ 32) × (first ≤ 1024) × (length (now subleaf) ≡ 32) × (length (now choice) ≡ 32) ⌝ }
     requires { ⌜ Clauses (now clauses) 256 (entries - extra) ⌝ }
-    ensures { λ _. ⌜ ForLeaf free count entries first (inSet (now (set .entry))) (specialIn (now (clauses .entry)) free leaf (inSet (now (other .entry))) extra) (λ h k b R. After free h R k b (now (place .entry)) (now (choice .entry)) → After free h R k (b + 1) (now (place .exit)) (now (choice .exit))) ⌝ }
+    ensures { λ _. ⌜ ForLeaf free count entries first (inSet (now (set .entry))) (specialIn (now (clauses .entry)) free values (inSet (now (other .entry))) extra) (λ h k b R. After free h R k b (now (subleaf .entry)) (now (choice .entry)) → After free h R k (b + 1) (now (subleaf .exit)) (now (choice .exit))) ⌝ }
 {
     let mut next = first;
     let mut e: usize = 0;
     while e < entries {
-        next = place_one(
+        next = assign_one(
             clauses,
             free,
-            leaf,
+            values,
             extra,
             set,
             other,
             count,
             e,
             next,
-            place,
+            subleaf,
             choice,
         );
         e += 1;
@@ -158,24 +158,24 @@ fn extra_of(search: Search) -> usize
 {
     match search {
         Search::First => 0,
-        Search::Stuck => 1,
-        Search::Avoiding(_) => 0,
+        Search::Unmet => 1,
+        Search::Missed(_) => 0,
     }
 }
 
 // Takes out of a set the choices beside which the second system's positive clauses and its disequation j can be met.
-fn avoid(
+fn keep_missed(
     clauses: &[u8; 768],
     counts: &[usize; 4],
     free: usize,
     own: usize,
     j: usize,
-    leaf: u64,
+    values: u64,
     set: &mut [u64],
 )
     requires { ⌜ Readable (now clauses) (now counts) free own ⌝ }
     requires { ⌜ (j < getD (now counts) 3 0) × (length (now set) ≡ 64) ⌝ }
-    ensures { λ _. ⌜ ((constants : List ℕ) (defined z : ℕ) → z < 64 * wordCount free → inSet (now (set .exit)) z ≡ (inSet (now (set .entry)) z && not (secondDiffers (stored (now (clauses .entry)) (now (counts .entry)) constants defined free own) leaf j z))) ⌝ }
+    ensures { λ _. ⌜ ((constants : List ℕ) (defined z : ℕ) → z < 64 * wordCount free → inSet (now (set .exit)) z ≡ (inSet (now (set .entry)) z && not (secondDiffers (stored (now (clauses .entry)) (now (counts .entry)) constants defined free own) values j z))) ⌝ }
 {
     let mut meets = [0u64; 64];
     let mut with = [0u64; 64];
@@ -188,7 +188,7 @@ fn avoid(
         1,
         free,
         own,
-        leaf,
+        values,
         &mut meets,
         &mut with,
     );
@@ -203,29 +203,29 @@ fn fill_leaf(
     free: usize,
     own: usize,
     search: Search,
-    leaf: u64,
+    values: u64,
     set: &mut [u64; 64],
     other: &mut [u64; 64],
 )
     requires { ⌜ Readable (now clauses) (now counts) free own ⌝ }
     requires { ⌜ Named (now counts) search ⌝ }
-    ensures { λ _. ⌜ ((constants : List ℕ) (defined : ℕ) → LeafSets (stored (now (clauses .entry)) (now (counts .entry)) constants defined free own) search leaf (inSet (now (set .exit))) (inSet (now (other .exit)))) ⌝ }
+    ensures { λ _. ⌜ ((constants : List ℕ) (defined : ℕ) → LeafSets (stored (now (clauses .entry)) (now (counts .entry)) constants defined free own) search values (inSet (now (set .exit))) (inSet (now (other .exit)))) ⌝ }
 {
     let count = count_of(counts, 0);
-    words::fill_set(clauses, 0, count, free, leaf, set);
+    words::fill_set(clauses, 0, count, free, values, set);
     match search {
         Search::First => {}
-        Search::Stuck => {
+        Search::Unmet => {
             let positives = count_of(counts, 2);
-            words::fill_meets(clauses, 384, positives, free, own, leaf, other);
+            words::fill_meets(clauses, 384, positives, free, own, values, other);
         }
-        Search::Avoiding(j) => {
-            avoid(clauses, counts, free, own, j, leaf, set);
+        Search::Missed(j) => {
+            keep_missed(clauses, counts, free, own, j, values, set);
         }
     }
 }
 
-// Goes through one leaf, whose first sub-leaf is `first`: its entries find their places, and the result is its least choice, or 64 for
+// Goes through one leaf, whose first sub-leaf is `first`: its entries get their sub-leaves, and the result is its least choice, or 64 for
 // each word of choices.
 fn visit_leaf(
     clauses: &[u8; 768],
@@ -233,14 +233,14 @@ fn visit_leaf(
     free: usize,
     own: usize,
     search: Search,
-    leaf: u64,
+    values: u64,
     first: usize,
-    place: &mut [u16],
+    subleaf: &mut [u16],
     choice: &mut [u16],
 ) -> usize
     requires { ⌜ Readable (now clauses) (now counts) free own ⌝ }
-    requires { ⌜ Named (now counts) search × (first ≤ 1024) × (length (now place) ≡ 32) × (length (now choice) ≡ 32) ⌝ }
-    ensures { λ r. ⌜ ((constants : List ℕ) (defined : ℕ) → Visited (stored (now (clauses .entry)) (now (counts .entry)) constants defined free own) search leaf first (now (place .entry)) (now (choice .entry)) r (now (place .exit)) (now (choice .exit))) ⌝ }
+    requires { ⌜ Named (now counts) search × (first ≤ 1024) × (length (now subleaf) ≡ 32) × (length (now choice) ≡ 32) ⌝ }
+    ensures { λ r. ⌜ ((constants : List ℕ) (defined : ℕ) → Visited (stored (now (clauses .entry)) (now (counts .entry)) constants defined free own) search values first (now (subleaf .entry)) (now (choice .entry)) r (now (subleaf .exit)) (now (choice .exit))) ⌝ }
 {
     let mut set = [0u64; 64];
     let mut other = [0u64; 64];
@@ -250,24 +250,24 @@ fn visit_leaf(
         free,
         own,
         search,
-        leaf,
+        values,
         &mut set,
         &mut other,
     );
     let extra = extra_of(search);
     let entries = extra + count_of(counts, 1);
     let count = words::word_count(free);
-    place_all(
+    assign_all(
         clauses,
         free,
-        leaf,
+        values,
         extra,
         &set,
         &other,
         count,
         entries,
         first,
-        place,
+        subleaf,
         choice,
     );
     words::least(&set, count)
@@ -301,8 +301,8 @@ fn room_of(search: Search, d: usize) -> usize
 {
     match search {
         Search::First => d,
-        Search::Stuck => d + 1,
-        Search::Avoiding(_) => d + 1,
+        Search::Unmet => d + 1,
+        Search::Missed(_) => d + 1,
     }
 }
 
@@ -314,7 +314,7 @@ pub fn values_at(constants: &[u64; 32], defined: usize, h: usize, b: usize) -> u
     words::leaf_values(constants, defined, b * (1 << (5 - h)))
 }
 
-// Plans leaf b: its least choice, and the places of the entries that stand there. The result is whether it has a choice.
+// Plans leaf b: its least choice, and the sub-leaves of the entries that stand there. The result is whether it has a choice.
 fn plan_leaf(
     clauses: &[u8; 768],
     counts: &[usize; 4],
@@ -327,15 +327,15 @@ fn plan_leaf(
     k: usize,
     b: usize,
     plain: &mut [u16],
-    place: &mut [u16],
+    subleaf: &mut [u16],
     choice: &mut [u16],
 ) -> bool
     requires { ⌜ Readable (now clauses) (now counts) free own ⌝ }
     requires { ⌜ Named (now counts) search × (defined ≤ 32) × (h ≤ 5) × (k ≤ 5) × (extraOf search + getD (now counts) 1 0 ≤ 2 ^ k) × (b < 2 ^ h) ⌝ }
-    requires { ⌜ (length (now plain) ≡ 64) × (length (now place) ≡ 32) × (length (now choice) ≡ 32) ⌝ }
-    ensures { λ r. ⌜ Turn free h (testsOf (stored (now (clauses .entry)) (now (counts .entry)) (now (constants .entry)) defined free own) h search) k b r (now (plain .entry)) (now (place .entry)) (now (choice .entry)) (now (plain .exit)) (now (place .exit)) (now (choice .exit)) ⌝ }
+    requires { ⌜ (length (now plain) ≡ 64) × (length (now subleaf) ≡ 32) × (length (now choice) ≡ 32) ⌝ }
+    ensures { λ r. ⌜ LeafPlanned free h (testsOf (stored (now (clauses .entry)) (now (counts .entry)) (now (constants .entry)) defined free own) h search) k b r (now (plain .entry)) (now (subleaf .entry)) (now (choice .entry)) (now (plain .exit)) (now (subleaf .exit)) (now (choice .exit)) ⌝ }
 {
-    let leaf = values_at(constants, defined, h, b);
+    let values = values_at(constants, defined, h, b);
     let first = b * power(k);
     let x = visit_leaf(
         clauses,
@@ -343,9 +343,9 @@ fn plan_leaf(
         free,
         own,
         search,
-        leaf,
+        values,
         first,
-        place,
+        subleaf,
         choice,
     );
     if x < 64 * words::word_count(free) {
@@ -367,14 +367,14 @@ fn fill_plan(
     search: Search,
     k: usize,
     plain: &mut [u16],
-    place: &mut [u16],
+    subleaf: &mut [u16],
     choice: &mut [u16],
 ) -> bool
     requires { ⌜ Readable (now clauses) (now counts) free own ⌝ }
     requires { ⌜ Named (now counts) search × (defined ≤ 32) × (h ≤ 5) × (k ≤ 5) × (extraOf search + getD (now counts) 1 0 ≤ 2 ^ k) ⌝ }
-    requires { ⌜ (length (now plain) ≡ 64) × (length (now place) ≡ 32) × (length (now choice) ≡ 32) ⌝ }
-    requires { ⌜ After free h (testsOf (stored (now clauses) (now counts) (now constants) defined free own) h search) k 0 (now place) (now choice) ⌝ }
-    ensures { λ r. ⌜ Filled free h (testsOf (stored (now (clauses .entry)) (now (counts .entry)) (now (constants .entry)) defined free own) h search) k r (now (plain .exit)) (now (place .exit)) (now (choice .exit)) ⌝ }
+    requires { ⌜ (length (now plain) ≡ 64) × (length (now subleaf) ≡ 32) × (length (now choice) ≡ 32) ⌝ }
+    requires { ⌜ After free h (testsOf (stored (now clauses) (now counts) (now constants) defined free own) h search) k 0 (now subleaf) (now choice) ⌝ }
+    ensures { λ r. ⌜ Filled free h (testsOf (stored (now (clauses .entry)) (now (counts .entry)) (now (constants .entry)) defined free own) h search) k r (now (plain .exit)) (now (subleaf .exit)) (now (choice .exit)) ⌝ }
 {
     let leaves = power(h);
     let mut b: usize = 0;
@@ -391,7 +391,7 @@ fn fill_plan(
             k,
             b,
             plain,
-            place,
+            subleaf,
             choice,
         );
         if there {
@@ -403,14 +403,14 @@ fn fill_plan(
     true
 }
 
-// Whether each of the entries from `from`, so many, has a place.
-fn all_placed(place: &[u16; 32], from: usize, entries: usize) -> bool
+// Whether each of the entries from `from`, so many, has a sub-leaf.
+fn all_assigned(subleaf: &[u16; 32], from: usize, entries: usize) -> bool
     requires { ⌜ from + entries ≤ 32 ⌝ }
-    ensures { λ r. ⌜ r ≡ everyBelow entries (λ j. isPlaced (now (place .entry)) (from + j)) ⌝ }
+    ensures { λ r. ⌜ r ≡ everyBelow entries (λ j. hasSubLeaf (now (subleaf .entry)) (from + j)) ⌝ }
 {
     let mut j: usize = 0;
     while j < entries {
-        if place[from + j] == NOWHERE {
+        if subleaf[from + j] == NO_SUB_LEAF {
             return false;
         }
         j += 1;
@@ -419,7 +419,7 @@ fn all_placed(place: &[u16; 32], from: usize, entries: usize) -> bool
 }
 
 // Whether both hold.
-fn both(a: bool, b: bool) -> bool
+fn both_hold(a: bool, b: bool) -> bool
     ensures { λ r. ⌜ r ≡ (a && b) ⌝ }
 {
     a && b
@@ -448,7 +448,7 @@ pub fn solve(
     ensures { λ r. ⌜ SolvedAs (stored (now (clauses .entry)) (now (counts .entry)) (now (constants .entry)) defined free own) h search r ⌝ }
 {
     let mut plain = [0u16; 64];
-    let mut place = [NOWHERE; 32];
+    let mut subleaf = [NO_SUB_LEAF; 32];
     let mut choice = [0u16; 32];
     let d = count_of(counts, 1);
     let extra = extra_of(search);
@@ -464,17 +464,17 @@ pub fn solve(
         search,
         k,
         &mut plain,
-        &mut place,
+        &mut subleaf,
         &mut choice,
     );
-    let found = both(filled, all_placed(&place, 0, extra + d));
-    let plainly = both(filled, all_placed(&place, extra, d));
+    let found = both_hold(filled, all_assigned(&subleaf, 0, extra + d));
+    let plainly = both_hold(filled, all_assigned(&subleaf, extra, d));
     let plan = Plan {
         low: h,
         high: h + k,
         plain,
         count: extra + d,
-        place,
+        subleaf,
         choice,
     };
     Solved {

@@ -11,7 +11,7 @@ use lib.Seq.{drop-cons}
 use Rattle.shares.specs.Constant.{number}
 use Rattle.questions.specs.declared.Test.{Test}
 use Rattle.questions.specs.declared.Test.the-variants.{Join, Equality}
-use Rattle.questions.specs.declared.Head.the-variants.{Fits, Wrong}
+use Rattle.questions.specs.declared.Head.the-variants.{Opens, Wrong}
 use Rattle.questions.specs.Format.{termCount, headFits, headOf}
 
 pub two-terms : (t : Test) → 2 ≤ termCount t
@@ -28,6 +28,6 @@ four-bytes s i h =
 
 -- a head that is there and whole fits or is refused by 5
 pub whole-head : (s : List ℕ) (n m : ℕ) (b : Bool) → 1 ≤ length s → getD s 0 0 ≡ 1 → 4 ≤ length s → n ≡ getD s 2 0 → m ≡ getD s 3 0
-    → b ≡ headFits (getD s 1 0) n m → cond b (Fits (getD s 1 0) n m) (Wrong 5) ≡ headOf s
+    → b ≡ headFits (getD s 1 0) n m → cond b (Opens (getD s 1 0) n m) (Wrong 5) ≡ headOf s
 unfolding headOf
 whole-head s n m b l e w p q r = rw (r, p, q) (simp (lt-ltb 0 (length s) l, eq-eqb (getD s 0 0) 1 e, le-ltb (length s) 4 w))

@@ -13,7 +13,7 @@ use Rattle.questions.specs.declared.Section.{Section}
 use Rattle.questions.specs.declared.Section.the-variants.{FirstPositive, FirstDisequation, SecondPositive, SecondDisequation}
 use Rattle.questions.specs.declared.Command.{Command}
 use Rattle.questions.specs.declared.Head.{Head}
-use Rattle.questions.specs.declared.Head.the-variants.{Fits, Wrong}
+use Rattle.questions.specs.declared.Head.the-variants.{Opens, Wrong}
 use Rattle.questions.specs.declared.Step.{Step}
 use Rattle.questions.specs.declared.Step.the-variants.{Take, Refused}
 use Rattle.questions.specs.declared.Reading.{Reading}
@@ -186,7 +186,7 @@ module _ (s : List ℕ) (h : Head) (e : h ≡ headOf s) where
   unfolding read
   refused-head n m out constants clauses counts t k o = rw (← e, t, o, k, t) refl
 
-  module _ (kind free own : ℕ) (t : h ≡ Fits kind free own) where
+  module _ (kind free own : ℕ) (t : h ≡ Opens kind free own) where
     pub head-taken : (4 ≤ length s) × (headFits kind free own ≡ true)
     head-taken = subst (HeadRight s) (sym e ∙ t) (head-right s)
 

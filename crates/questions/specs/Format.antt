@@ -16,7 +16,7 @@ use Rattle.questions.specs.declared.Entry.{Entry}
 use Rattle.questions.specs.declared.Entry.the-variants.{Known, Unknown}
 use Rattle.questions.specs.declared.Command.{Command}
 use Rattle.questions.specs.declared.Head.{Head}
-use Rattle.questions.specs.declared.Head.the-variants.{Fits, Wrong}
+use Rattle.questions.specs.declared.Head.the-variants.{Opens, Wrong}
 use Rattle.questions.specs.declared.Step.{Step}
 use Rattle.questions.specs.declared.Step.the-variants.{Take, Refused}
 
@@ -274,12 +274,12 @@ unfoldable pub headOf : List ℕ → Head
 headOf s =
     cond (ltb 0 (length s) && eqb (getD s 0 0) 0x01)
     (cond (ltb (length s) 4) (Wrong 2)
-    (cond (headFits (getD s 1 0) (getD s 2 0) (getD s 3 0)) (Fits (getD s 1 0) (getD s 2 0) (getD s 3 0)) (Wrong 5)))
+    (cond (headFits (getD s 1 0) (getD s 2 0) (getD s 3 0)) (Opens (getD s 1 0) (getD s 2 0) (getD s 3 0)) (Wrong 5)))
     (Wrong 1)
 
 -- the commands after a head that fits start at offset 4
 abbrev pub afterHead : List ℕ → Head → Result
-afterHead s (Fits kind n m) = run (length s) s 4 (opened kind n m)
+afterHead s (Opens kind n m) = run (length s) s 4 (opened kind n m)
 afterHead s (Wrong n) = refused n 0
 
 -- the reading of a byte string

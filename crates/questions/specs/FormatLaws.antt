@@ -20,7 +20,7 @@ use Rattle.questions.specs.declared.Entry.{Entry}
 use Rattle.questions.specs.declared.Entry.the-variants.{Known, Unknown}
 use Rattle.questions.specs.declared.Command.{Command}
 use Rattle.questions.specs.declared.Head.{Head}
-use Rattle.questions.specs.declared.Head.the-variants.{Fits, Wrong}
+use Rattle.questions.specs.declared.Head.the-variants.{Opens, Wrong}
 use Rattle.questions.specs.declared.Step.{Step}
 use Rattle.questions.specs.declared.Step.the-variants.{Take, Refused}
 use Rattle.questions.specs.SectionLaws.{both-counts, added, Alike, same, other, alike, constant-sections, clause-keeps}
@@ -385,7 +385,7 @@ opened-sound kind n m e =
 
 -- a head that is taken is whole and fits; else a number of a refusal
 abbrev pub HeadRight : List ℕ → Head → Type 0
-HeadRight s (Fits kind n m) = (4 ≤ length s) × (headFits kind n m ≡ true)
+HeadRight s (Opens kind n m) = (4 ≤ length s) × (headFits kind n m ≡ true)
 HeadRight s (Wrong n) = (1 ≤ n) × (n ≤ 10)
 
 pub head-right : (s : List ℕ) → HeadRight s (headOf s)
@@ -393,7 +393,7 @@ unfolding headOf
 head-right s =
     branch (HeadRight s) (ltb 0 (length s) && eqb (getD s 0 0) 1) _ (Wrong 1)
     (λ _. branch (HeadRight s) (ltb (length s) 4) (Wrong 2) _ (λ _. (omega arith, omega arith))
-    (λ w. branch (HeadRight s) (headFits (getD s 1 0) (getD s 2 0) (getD s 3 0)) (Fits _ _ _) (Wrong 5)
+    (λ w. branch (HeadRight s) (headFits (getD s 1 0) (getD s 2 0) (getD s 3 0)) (Opens _ _ _) (Wrong 5)
     (λ e. (ltb-false (length s) 4 w, e)) (λ _. (omega arith, omega arith))))
     (λ _. (omega arith, omega arith))
 
@@ -403,7 +403,7 @@ unfolding read
 read-kept s = pick (headOf s) (head-right s)
   where
     pick : (h : Head) → HeadRight s h → Kept s (afterHead s h)
-    pick (Fits kind n m) r =
+    pick (Opens kind n m) r =
         run-law Sound (Kept s) s (turn-kept s) (λ q at d. (omega arith, omega arith, omega (arith, sound-place q at d))) (length s) 4 (opened kind n m)
         (opened-sound kind n m (r .1))
     pick (Wrong n) r = (r .0, r .1, omega arith)

@@ -16,7 +16,7 @@ use Rattle.questions.specs.declared.Command.{Command}
 use Rattle.questions.specs.declared.Step.{Step}
 use Rattle.questions.specs.declared.Step.the-variants.{Take, Refused}
 use Rattle.questions.specs.declared.Head.{Head}
-use Rattle.questions.specs.declared.Head.the-variants.{Fits, Wrong}
+use Rattle.questions.specs.declared.Head.the-variants.{Opens, Wrong}
 use Rattle.questions.specs.declared.Reading.{Reading}
 use Rattle.questions.specs.Format.{Result, refused, accepted, mostVariables, mostConstants, constantBytes, isSecond, mostOf, inSection, allNamed, variablesFor, atomOf, clauseFault, constantFault}
 
@@ -58,8 +58,8 @@ atomsOf l start zero = []
 atomsOf l start (suc n) = atomsOf l start n ++ (storedAtom l (start + 4 * n) ∷ [])
 
 -- four bytes written at an offset
-abbrev pub stored : List ℕ → ℕ → ℕ → ℕ → ℕ → ℕ → List ℕ
-stored l i t a b c = set (set (set (set l i t) (i + 1) a) (i + 2) b) (i + 3) c
+abbrev pub clauseWritten : List ℕ → ℕ → ℕ → ℕ → ℕ → ℕ → List ℕ
+clauseWritten l i t a b c = set (set (set (set l i t) (i + 1) a) (i + 2) b) (i + 3) c
 
 -- how many clauses a section holds
 abbrev pub countOf : List ℕ → Section → ℕ
@@ -87,7 +87,7 @@ abbrev pub keptClauses : List ℕ → List ℕ → Command → List ℕ
 keptClauses l counts Command.End = l
 keptClauses l counts Command.Head = l
 keptClauses l counts (Command.Constant x) = l
-keptClauses l counts (Command.Clause σ t a b c) = stored l (nextSlot counts σ) (testNumber t) a b c
+keptClauses l counts (Command.Clause σ t a b c) = clauseWritten l (nextSlot counts σ) (testNumber t) a b c
 
 abbrev pub clauseCounts : List ℕ → Command → List ℕ
 clauseCounts counts Command.End = counts
@@ -139,7 +139,7 @@ isEnd (Command.Clause σ t a b c) = false
 
 -- the number of a head's refusal, 0 where there is none
 abbrev pub wrongOf : Head → ℕ
-wrongOf (Fits kind free own) = 0
+wrongOf (Opens kind free own) = 0
 wrongOf (Wrong n) = n
 
 -- ---- a question that was read

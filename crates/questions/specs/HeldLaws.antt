@@ -26,7 +26,7 @@ use Rattle.questions.specs.declared.Head.{Head}
 use Rattle.questions.specs.declared.Step.{Step}
 use Rattle.questions.specs.declared.Step.the-variants.{Take, Refused}
 use Rattle.questions.specs.Format.{mostConstants, constantBytes, entryOf, operands, commandOf, wholeAt, readAt, mostOf, inSection, names, variablesFor, allNamed, atomOf, isForeign, constantFault, fault, judged, withClause, withConstant, taken}
-use Rattle.questions.specs.Held.{kindNumber, sectionNumber, testNumber, testOf, sectionStart, storedAtom, atomsOf, stored, countOf, nextSlot, keptConstants, constantCount, keptClauses, clauseCounts, Slot, Counted, clauseTotal, foreignTo, faultOf, judgedOf, Held, StoredClause, Stands}
+use Rattle.questions.specs.Held.{kindNumber, sectionNumber, testNumber, testOf, sectionStart, storedAtom, atomsOf, clauseWritten, countOf, nextSlot, keptConstants, constantCount, keptClauses, clauseCounts, Slot, Counted, clauseTotal, foreignTo, faultOf, judgedOf, Held, StoredClause, Stands}
 use Rattle.questions.specs.SectionLaws.{both-counts, added, Apart, Alike, same, other, alike, constant-sections, clause-keeps, section-below, slot-fits}
 use Rattle.questions.specs.FormatLaws.{branch, ClauseFits, clause-fits, ConstantFits, constant-fits}
 
@@ -86,17 +86,17 @@ read-proper s h at = branch ProperStep (ltb at (length s)) _ (Refused 2) (λ _. 
 -- ---- four bytes written
 
 module _ (l : List ℕ) (i t a b c : ℕ) where
-  pub stored-length : length (stored l i t a b c) ≡ length l
+  pub stored-length : length (clauseWritten l i t a b c) ≡ length l
   stored-length = simp length-set
 
-  pub stored-other : (j : ℕ) → (j < i) ⊎ (i + 4 ≤ j) → getD (stored l i t a b c) j 0 ≡ getD l j 0
+  pub stored-other : (j : ℕ) → (j < i) ⊎ (i + 4 ≤ j) → getD (clauseWritten l i t a b c) j 0 ≡ getD l j 0
   stored-other j h = past (apart h)
     where
       apart : (j < i) ⊎ (i + 4 ≤ j) → (j ≢ i) × (j ≢ i + 1) × (j ≢ i + 2) × (j ≢ i + 3)
       apart (inl k) = (omega arith, omega arith, omega arith, omega arith)
       apart (inr k) = (omega arith, omega arith, omega arith, omega arith)
 
-      past : (j ≢ i) × (j ≢ i + 1) × (j ≢ i + 2) × (j ≢ i + 3) → getD (stored l i t a b c) j 0 ≡ getD l j 0
+      past : (j ≢ i) × (j ≢ i + 1) × (j ≢ i + 2) × (j ≢ i + 3) → getD (clauseWritten l i t a b c) j 0 ≡ getD l j 0
       past n =
           getD-set-other (set (set (set l i t) (i + 1) a) (i + 2) b) (i + 3) j c 0 (n .3)
           ∙ getD-set-other (set (set l i t) (i + 1) a) (i + 2) j b 0 (n .2)
@@ -104,32 +104,32 @@ module _ (l : List ℕ) (i t a b c : ℕ) where
           ∙ getD-set-other l i j t 0 (n .0)
 
   module _ (h : i + 4 ≤ length l) where
-    byte-0 : getD (stored l i t a b c) i 0 ≡ t
+    byte-0 : getD (clauseWritten l i t a b c) i 0 ≡ t
     byte-0 =
         getD-set-other (set (set (set l i t) (i + 1) a) (i + 2) b) (i + 3) i c 0 (omega arith)
         ∙ getD-set-other (set (set l i t) (i + 1) a) (i + 2) i b 0 (omega arith)
         ∙ getD-set-other (set l i t) (i + 1) i a 0 (omega arith)
         ∙ getD-set-same l i t 0 (omega arith)
 
-    byte-1 : getD (stored l i t a b c) (i + 1) 0 ≡ a
+    byte-1 : getD (clauseWritten l i t a b c) (i + 1) 0 ≡ a
     byte-1 =
         getD-set-other (set (set (set l i t) (i + 1) a) (i + 2) b) (i + 3) (i + 1) c 0 (omega arith)
         ∙ getD-set-other (set (set l i t) (i + 1) a) (i + 2) (i + 1) b 0 (omega arith)
         ∙ getD-set-same (set l i t) (i + 1) a 0 (simp length-set (omega arith))
 
-    byte-2 : getD (stored l i t a b c) (i + 2) 0 ≡ b
+    byte-2 : getD (clauseWritten l i t a b c) (i + 2) 0 ≡ b
     byte-2 =
         getD-set-other (set (set (set l i t) (i + 1) a) (i + 2) b) (i + 3) (i + 2) c 0 (omega arith)
         ∙ getD-set-same (set (set l i t) (i + 1) a) (i + 2) b 0 (simp length-set (omega arith))
 
-    byte-3 : getD (stored l i t a b c) (i + 3) 0 ≡ c
+    byte-3 : getD (clauseWritten l i t a b c) (i + 3) 0 ≡ c
     byte-3 = getD-set-same (set (set (set l i t) (i + 1) a) (i + 2) b) (i + 3) c 0 (simp length-set (omega arith))
 
 test-number : (t : Test) → testOf (testNumber t) ≡ t
 test-number Join = refl
 test-number Equality = refl
 
-stored-atom : (l : List ℕ) (i : ℕ) (t : Test) (a b c : ℕ) → i + 4 ≤ length l → storedAtom (stored l i (testNumber t) a b c) i ≡ atomOf t a b c
+stored-atom : (l : List ℕ) (i : ℕ) (t : Test) (a b c : ℕ) → i + 4 ≤ length l → storedAtom (clauseWritten l i (testNumber t) a b c) i ≡ atomOf t a b c
 unfolding storedAtom
 stored-atom l i t a b c h =
     let n = testNumber t in
@@ -275,7 +275,7 @@ module _ (x : Held) (q : Question) (d : Stands x q) where
     counts′ = set (x .counts) (sectionNumber σ) (countOf (x .counts) σ + 1)
 
     clauses′ : List ℕ
-    clauses′ = stored (x .clauses) (nextSlot (x .counts) σ) (testNumber t) a b c
+    clauses′ = clauseWritten (x .clauses) (nextSlot (x .counts) σ) (testNumber t) a b c
 
     clause-room : countOf (x .counts) σ < mostOf σ
     clause-room = omega (arith, f .room, section-count σ)

@@ -17,7 +17,7 @@ use Rattle.questions.specs.declared.Entry.{Entry}
 use Rattle.questions.specs.declared.Entry.the-variants.{Known, Unknown}
 use Rattle.questions.specs.declared.Command.{Command}
 use Rattle.questions.specs.declared.Head.{Head}
-use Rattle.questions.specs.declared.Head.the-variants.{Fits, Wrong}
+use Rattle.questions.specs.declared.Head.the-variants.{Opens, Wrong}
 use Rattle.questions.specs.declared.Step.{Step}
 use Rattle.questions.specs.declared.Step.the-variants.{Take, Refused}
 use Rattle.questions.specs.Format.{Result, refused, accepted, constantBytes, entryOf, operands, commandOf, wholeAt, readAt, fault, judged, taken, ended, go, onward, turn, following, run, headFits, opened, headOf, afterHead, read}
@@ -205,8 +205,8 @@ module _ (s t : List ℕ) (k : ℕ) (e : take k s ≡ take k t) where
   -- ---- the head
 
   -- what the head's test looks at, where its byte is 01
-  rest-same : 4 ≤ k → cond (ltb (length s) 4) (Wrong 2) (cond (headFits (getD s 1 0) (getD s 2 0) (getD s 3 0)) (Fits (getD s 1 0) (getD s 2 0) (getD s 3 0)) (Wrong 5))
-      ≡ cond (ltb (length t) 4) (Wrong 2) (cond (headFits (getD t 1 0) (getD t 2 0) (getD t 3 0)) (Fits (getD t 1 0) (getD t 2 0) (getD t 3 0)) (Wrong 5))
+  rest-same : 4 ≤ k → cond (ltb (length s) 4) (Wrong 2) (cond (headFits (getD s 1 0) (getD s 2 0) (getD s 3 0)) (Opens (getD s 1 0) (getD s 2 0) (getD s 3 0)) (Wrong 5))
+      ≡ cond (ltb (length t) 4) (Wrong 2) (cond (headFits (getD t 1 0) (getD t 2 0) (getD t 3 0)) (Opens (getD t 1 0) (getD t 2 0) (getD t 3 0)) (Wrong 5))
   rest-same l =
       rw (same-byte 1 (omega arith), same-byte 2 (omega arith), same-byte 3 (omega arith), less-same (length s) 4 (length t) 4 (λ u. omega (arith, same-length)) (λ u. omega (arith, same-length)))
 
@@ -222,8 +222,8 @@ module _ (s t : List ℕ) (k : ℕ) (e : take k s ≡ take k t) where
       rw (← below, ← same-byte 0 (omega arith)) (pick (ltb 0 (length s)) (eqb (getD s 0 0) 1) refl)
     where
       pick : (a b : Bool) → eqb (getD s 0 0) 1 ≡ b
-          → cond (a && b) (cond (ltb (length s) 4) (Wrong 2) (cond (headFits (getD s 1 0) (getD s 2 0) (getD s 3 0)) (Fits (getD s 1 0) (getD s 2 0) (getD s 3 0)) (Wrong 5))) (Wrong 1)
-          ≡ cond (a && b) (cond (ltb (length t) 4) (Wrong 2) (cond (headFits (getD t 1 0) (getD t 2 0) (getD t 3 0)) (Fits (getD t 1 0) (getD t 2 0) (getD t 3 0)) (Wrong 5))) (Wrong 1)
+          → cond (a && b) (cond (ltb (length s) 4) (Wrong 2) (cond (headFits (getD s 1 0) (getD s 2 0) (getD s 3 0)) (Opens (getD s 1 0) (getD s 2 0) (getD s 3 0)) (Wrong 5))) (Wrong 1)
+          ≡ cond (a && b) (cond (ltb (length t) 4) (Wrong 2) (cond (headFits (getD t 1 0) (getD t 2 0) (getD t 3 0)) (Opens (getD t 1 0) (getD t 2 0) (getD t 3 0)) (Wrong 5))) (Wrong 1)
       pick false b f = refl
       pick true false f = refl
       pick true true f = rest-same (omega (arith, head-reach (eqb-true (getD s 0 0) 1 f)))
@@ -238,7 +238,7 @@ module _ (s t : List ℕ) (k : ℕ) (e : take k s ≡ take k t) where
           let z : refused m 0 ≡ refused n p = ap (afterHead s) (sym d) ∙ r in
           let u : p ≡ 0 = cc in
           ap (afterHead t) (sym (head-same (omega (arith, rw u at l))) ∙ d) ∙ z
-      pick (Fits kind free own) d c =
+      pick (Opens kind free own) d c =
           let z : run (length s) s 4 (opened kind free own) ≡ refused n p = ap (afterHead s) (sym d) ∙ r in
           let u : 4 ≤ p = subst (From 4) z (place-from s (length s) 4 (opened kind free own)) in
           ap (afterHead t) (sym (head-same (omega (arith, size-small s 0))) ∙ d)

@@ -5,7 +5,7 @@ ghost use mathlib.Core.Bool.{true};
 ghost use lib.ListN.{length, getD, take, drop};
 ghost use Rattle.shares.specs.Constant.{number};
 ghost use Rattle.questions.specs.Format.{entryOf, termCount, operands, thirdAt, commandOf, readAt, isSecond, mostOf, names, variablesFor, allNamed, clauseFault, constantFault, headFits, opened, run, headOf, read};
-ghost use Rattle.questions.specs.Held.{sectionNumber, testNumber, sectionStart, countOf, keptConstants, constantCount, keptClauses, clauseCounts, Slot, stored, Counted, clauseTotal, foreignTo, faultOf, judgedOf, refusalOf, isEnd, wrongOf, refusedAs, HandsBack};
+ghost use Rattle.questions.specs.Held.{sectionNumber, testNumber, sectionStart, countOf, keptConstants, constantCount, keptClauses, clauseCounts, Slot, clauseWritten, Counted, clauseTotal, foreignTo, faultOf, judgedOf, refusalOf, isEnd, wrongOf, refusedAs, HandsBack};
 
 // The positive clauses and the disequations of each system.
 pub enum Section {
@@ -55,7 +55,7 @@ pub enum Step {
 }
 
 pub enum Head {
-    Fits { kind: u8, free: usize, own: usize },
+    Opens { kind: u8, free: usize, own: usize },
     Wrong(u8),
 }
 
@@ -434,7 +434,7 @@ fn keep_constant(constants: &mut [u64], count: usize, command: Command) -> usize
 
 fn store(clauses: &mut [u8], i: usize, t: u8, a: u8, b: u8, c: u8)
     requires { ⌜ i + 4 ≤ length (now clauses) ⌝ }
-    ensures { λ _. ⌜ now (clauses .exit) ≡ stored (now (clauses .entry)) i t a b c ⌝ }
+    ensures { λ _. ⌜ now (clauses .exit) ≡ clauseWritten (now (clauses .entry)) i t a b c ⌝ }
 {
     clauses[i] = t;
     clauses[i + 1] = a;
@@ -589,15 +589,15 @@ fn read_head(bytes: &[u8]) -> Head
         return Head::Wrong(2);
     }
     let kind = bytes[1];
-    let free = count_of(bytes[2]);
-    let own = count_of(bytes[3]);
+    let free = number_of_byte(bytes[2]);
+    let own = number_of_byte(bytes[3]);
     if head_fits(kind, free, own) {
-        return Head::Fits { kind, free, own };
+        return Head::Opens { kind, free, own };
     }
     Head::Wrong(5)
 }
 
-fn count_of(byte: u8) -> usize
+fn number_of_byte(byte: u8) -> usize
     ensures { λ r. ⌜ (r ≡ byte) × (r < 256) ⌝ }
 {
     byte as usize
@@ -607,7 +607,7 @@ fn wrong_of(h: Head) -> u8
     ensures { λ n. ⌜ n ≡ wrongOf h ⌝ }
 {
     match h {
-        Head::Fits {
+        Head::Opens {
             kind: _,
             free: _,
             own: _,
@@ -626,7 +626,7 @@ pub fn read(
     ensures { λ r. ⌜ HandsBack (read (now (bytes .entry))) r (now (constants .exit)) (now (clauses .exit)) (now (counts .exit)) ⌝ }
 {
     let h = read_head(bytes);
-    let Head::Fits { kind, free, own } = h else {
+    let Head::Opens { kind, free, own } = h else {
         return refused(wrong_of(h), 0);
     };
     read_commands(bytes, kind, free, own, constants, clauses, counts)

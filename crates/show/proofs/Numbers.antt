@@ -53,16 +53,16 @@ module _ (h a : ℕ) (fits : (h ≤ 3) × (a < 2 ^ (3 - h))) where
   unfolding small
   size-le = leb→le (2 ^ h) 8 (and-left (leb (2 ^ h) 8) _ (and-right (ltb (maskOf h a) 256) _ sizes))
 
-  place-le : a * 2 ^ h ≤ 7
+  shift-le : a * 2 ^ h ≤ 7
   unfolding small
-  place-le = leb→le (a * 2 ^ h) 7 (and-right (leb (2 ^ h) 8) _ (and-right (ltb (maskOf h a) 256) _ sizes))
+  shift-le = leb→le (a * 2 ^ h) 7 (and-right (leb (2 ^ h) 8) _ (and-right (ltb (maskOf h a) 256) _ sizes))
 
   module _ (s : ℕ) (es : s ≡ 2 ^ h) where
     pub mask-size : s ≤ 8
     mask-size = rw es size-le
 
-    pub mask-place : a * s ≤ 7
-    mask-place = rw es place-le
+    pub mask-shift : a * s ≤ 7
+    mask-shift = rw es shift-le
 
     module _ (p : ℕ) (ep : p ≡ 2 ^ s) where
       pub ones-pos : 1 ≤ p

@@ -21,8 +21,8 @@ module _ (row : List ℕ) (h q : ℕ) (inside : Inside h q (length row)) where
     pub byte-at : q / s < length row
     byte-at = rw e (byte-inside h at-most row q (inside .fits))
 
-    pub place-at : (h ≤ 3) × (q % s < 2 ^ (3 - h))
-    place-at = (at-most, rw e (mod-lt q (pow-pos (3 - h))))
+    pub bits-at : (h ≤ 3) × (q % s < 2 ^ (3 - h))
+    bits-at = (at-most, rw e (mod-lt q (pow-pos (3 - h))))
 
     pub set-at : (b : ℕ) (v : Bool) → ((r : ℕ) → r < 8 → bit b r ≡ cond (eqb (r / 2 ^ h) (q % s)) v (bit (getD row (q / s) 0) r))
         → BlockSet row (set row (q / s) b) h q v

@@ -32,8 +32,8 @@ module _ (row buffer : List ℕ) where
         → (Length n ≡ textAnswer row buffer) × (after ≡ textAfter row buffer)
     unfolding textAnswer textAfter
     written e n after w =
-        let (place, bytes) = put-first (rowText row) buffer after n (leb-true (length (rowText row)) (length buffer) (sym test ∙ e)) (rw (row-text row) at w) in
-        (rw (eq-eqb (length row) rowBytes whole, ← test, e, place), rw (eq-eqb (length row) rowBytes whole, ← test, e) bytes)
+        let (end, bytes) = put-first (rowText row) buffer after n (leb-true (length (rowText row)) (length buffer) (sym test ∙ e)) (rw (row-text row) at w) in
+        (rw (eq-eqb (length row) rowBytes whole, ← test, e, end), rw (eq-eqb (length row) rowBytes whole, ← test, e) bytes)
 
     pub too-long : t ≡ false → (Refused 13 ≡ textAnswer row buffer) × (buffer ≡ textAfter row buffer)
     unfolding textAnswer textAfter

@@ -73,12 +73,12 @@ put-pair l r before mid after at m n a b =
     let close : List ℕ = 0x29 ∷ [] in
     let opened = set before at 0x28 in
     record {
-      place = omega (arith, pair-length l r, a .place, b .place);
+      end = omega (arith, pair-length l r, a .end, b .end);
       bytes =
           sym
           (ap (λ (k : ℕ). sets opened k (text l ++ (text r ++ close))) (sym (add-one at))
           ∙ sets-append opened (at + 1) (text l) (text r ++ close)
-          ∙ rw (← a .bytes, ← a .place) (sets-append mid m (text r) close ∙ rw (← b .bytes, ← b .place)));
+          ∙ rw (← a .bytes, ← a .end) (sets-append mid m (text r) close ∙ rw (← b .bytes, ← b .end)));
     }
 
 -- ---- the block, by the test of its leaves
@@ -119,7 +119,7 @@ module _ (row : List ℕ) (h q : ℕ) (inside : Inside h q (length row)) where
     leaf-counted = (sym (ap length whole), omega (arith, pow-pos h))
 
     pub leaf-put : (at : ℕ) (buffer : List ℕ) → Put (text (blockTree row h q)) buffer at (at + 1) (set buffer at s)
-    leaf-put at buffer = record { place = rw whole; bytes = rw whole }
+    leaf-put at buffer = record { end = rw whole; bytes = rw whole }
 
   module _ (s : ℕ) (first : s ≡ getD (text (blockTree row h q)) 0 0) (bracket : s ≡ 0x28) where
     is-pair : (0 < h) × (tree ≡ pair left right)
@@ -156,12 +156,12 @@ module _ (row : List ℕ) (h q : ℕ) (inside : Inside h q (length row)) where
 
         pub right-room : m + length (text (blockTree row (h - 1) (2 * q + 1))) ≤ length mid
         unfolding tree left right
-        right-room = omega (arith, mid-length, a .place, halves-length)
+        right-room = omega (arith, mid-length, a .end, halves-length)
 
         module _ (n : ℕ) (after : List ℕ) (b : Put (text (blockTree row (h - 1) (2 * q + 1))) mid m n after) where
           pub last-room : n < length after
           unfolding tree left right
-          last-room = omega (arith, put-length b, mid-length, a .place, b .place, halves-length)
+          last-room = omega (arith, put-length b, mid-length, a .end, b .end, halves-length)
 
           pub pair-put : Put (text (blockTree row h q)) buffer at (n + 1) (set after n 0x29)
           unfolding tree left right
@@ -171,4 +171,4 @@ module _ (row : List ℕ) (h q : ℕ) (inside : Inside h q (length row)) where
 pub put-first : (t buffer after : List ℕ) (n : ℕ) → length t ≤ length buffer → Put t buffer 0 n after → (n ≡ length t) × (after ≡ t ++ drop (length t) buffer)
 put-first t buffer after n room w =
     let e : 0 + length t ≡ length t = omega arith in
-    (w .place ∙ e, w .bytes ∙ sets-eq t buffer 0 (omega arith) ∙ ap (λ (k : ℕ). t ++ drop k buffer) e)
+    (w .end ∙ e, w .bytes ∙ sets-eq t buffer 0 (omega arith) ∙ ap (λ (k : ℕ). t ++ drop k buffer) e)

@@ -30,13 +30,13 @@ module _ (h : ℕ) (low : h ≤ 3) where
   byte-of : (i : ℕ) → i / 2 ^ h / 2 ^ (3 - h) ≡ i / 8
   byte-of i = let e : h + (3 - h) ≡ 3 = omega arith in shr-shr i h (3 - h) ∙ ap (λ (n : ℕ). i / 2 ^ n) e
 
-  place-of : (i : ℕ) → (i / 2 ^ h) % 2 ^ (3 - h) ≡ i % 8 / 2 ^ h
-  place-of i = let e : 3 - h + h ≡ 3 = omega arith in sym (field i (3 - h) h) ∙ ap (λ (n : ℕ). i % 2 ^ n / 2 ^ h) e
+  bits-of : (i : ℕ) → (i / 2 ^ h) % 2 ^ (3 - h) ≡ i % 8 / 2 ^ h
+  bits-of i = let e : 3 - h + h ≡ 3 = omega arith in sym (field i (3 - h) h) ∙ ap (λ (n : ℕ). i % 2 ^ n / 2 ^ h) e
 
   in-byte-iff : (q i : ℕ) → (i / 2 ^ h ≡ q) ↔ ((i / 8 ≡ q / 2 ^ (3 - h)) × (i % 8 / 2 ^ h ≡ q % 2 ^ (3 - h)))
   in-byte-iff q i = (
-    λ e. (sym (byte-of i) ∙ ap (λ (x : ℕ). x / 2 ^ (3 - h)) e, sym (place-of i) ∙ ap (λ (x : ℕ). x % 2 ^ (3 - h)) e),
-    λ e. sym (split (i / 2 ^ h) (3 - h)) ∙ ap₂ (λ (x y : ℕ). x * 2 ^ (3 - h) + y) (byte-of i ∙ e .0) (place-of i ∙ e .1) ∙ split q (3 - h),
+    λ e. (sym (byte-of i) ∙ ap (λ (x : ℕ). x / 2 ^ (3 - h)) e, sym (bits-of i) ∙ ap (λ (x : ℕ). x % 2 ^ (3 - h)) e),
+    λ e. sym (split (i / 2 ^ h) (3 - h)) ∙ ap₂ (λ (x y : ℕ). x * 2 ^ (3 - h) + y) (byte-of i ∙ e .0) (bits-of i ∙ e .1) ∙ split q (3 - h),
   )
 
   module _ (row : List ℕ) (q : ℕ) where

@@ -1,4 +1,4 @@
--- Laws of plans: writing shows one placed choice more at a time, and the row that shows them all is that of the tree. Assumes nothing.
+-- Laws of plans: writing shows one choice more at a time, and the row that shows them all is that of the tree. Assumes nothing.
 use mathlib.Core.Path.{_≡_, refl, sym, ap, _∙_}
 use mathlib.Core.Bool.{Bool, true, false, cond}
 use mathlib.Core.List.{List}
@@ -18,7 +18,7 @@ use Rattle.shares.specs.Blocks.{blockOf, block-lt, block-block}
 use Rattle.show.specs.Rows.{rowLevels, rowBytes, rowCount, answerBytes, rowLeaf, rowTree, rowOf, rowPart}
 use Rattle.show.specs.RowLaws.{row-is, row-length, rowTree-rowOf, rows-whole, rows-at}
 use Rattle.show.specs.Blocks.{Inside, BlockSet}
-use Rattle.show.specs.Plans.{Showable, choiceAfter, choiceAt, planTree, Shows, shownRow, shownAnswer}
+use Rattle.show.specs.Plans.{Showable, planChoiceAfter, planChoice, planTree, Shows, shownRow, shownAnswer}
 use Rattle.show.specs.declared.Plan.{Plan}
 
 bit-cond : (t : Bool) (a b p : ℕ) → bit (cond t a b) p ≡ cond t (bit a p) (bit b p)
@@ -34,21 +34,21 @@ leaf-inside {k} {s} low l =
     record { low = omega arith; few = lit≤ tt; fits = omega (arith, pow-pos (rowLevels - k)) }
 
 module _ (plan : Plan) (ok : Showable plan) where
-  pub place-small : (n : ℕ) → n < plan .count → getD (plan .place) n 0 < 1024
-  place-small n l = omega (arith, ok .places n l, pow-mono (ok .within))
+  pub sub-leaf-small : (n : ℕ) → n < plan .count → getD (plan .subleaf) n 0 < 1024
+  sub-leaf-small n l = omega (arith, ok .sub-leaves n l, pow-mono (ok .within))
 
   module _ (p : ℕ) where
     pub shows-plain : (row : List ℕ)
         → ((i : ℕ) → i < 2 ^ rowLevels → rowLeaf row i ≡ bit (getD (plan .plain) (i / 2 ^ (rowLevels - plan .low)) 0) p) → Shows plan 0 p row
-    unfolding choiceAfter
+    unfolding planChoiceAfter
     shows-plain row given i l = given i l ∙ ap (λ (x : ℕ). bit (getD (plan .plain) x 0) p) (sym (block-block i (ok .below) (ok .within)))
 
     pub shows-more : (n : ℕ) (v : Bool) (row after : List ℕ) → Shows plan n p row
-        → BlockSet row after (rowLevels - plan .high) (getD (plan .place) n 0) v → v ≡ bit (getD (plan .choice) n 0) p → Shows plan (n + 1) p after
-    unfolding choiceAfter
+        → BlockSet row after (rowLevels - plan .high) (getD (plan .subleaf) n 0) v → v ≡ bit (getD (plan .choice) n 0) p → Shows plan (n + 1) p after
+    unfolding planChoiceAfter
     shows-more n v row after old step e i l =
         let s = blockOf (plan .high) rowLevels i in
-        step i ∙ rw (e, old i l, add-one n) (sym (bit-cond (eqb s (getD (plan .place) n 0)) (getD (plan .choice) n 0) (choiceAfter plan n s) p))
+        step i ∙ rw (e, old i l, add-one n) (sym (bit-cond (eqb s (getD (plan .subleaf) n 0)) (getD (plan .choice) n 0) (planChoiceAfter plan n s) p))
 
     pub shows-all : (row : List ℕ) → length row ≡ rowBytes → ((j : ℕ) → getD row j 0 < 256) → Shows plan (plan .count) p row
         → row ≡ rowOf rowLevels (planTree plan p)
@@ -56,7 +56,7 @@ module _ (plan : Plan) (ok : Showable plan) where
     shows-all row len byte given = row-is rowLevels (lit≤ tt) row (planTree plan p) len byte same
       where
         f : ℕ → Bool
-        f s = bit (choiceAt plan s) p
+        f s = bit (planChoice plan s) p
 
         same : (i : ℕ) → i < 2 ^ rowLevels → rowLeaf row i ≡ leafAt rowLevels (treeOf (plan .high) f) i
         same i l =
@@ -76,11 +76,11 @@ shown-length n plan v = go (ltb v n)
 
 pub planTree-folded : (plan : Plan) (p : ℕ) → Folded (planTree plan p)
 unfolding planTree
-planTree-folded plan p = treeOf-folded (plan .high) (λ s. bit (choiceAt plan s) p)
+planTree-folded plan p = treeOf-folded (plan .high) (λ s. bit (planChoice plan s) p)
 
 pub planTree-height : (plan : Plan) (p : ℕ) → height (planTree plan p) ≤ plan .high
 unfolding planTree
-planTree-height plan p = treeOf-height (plan .high) (λ s. bit (choiceAt plan s) p)
+planTree-height plan p = treeOf-height (plan .high) (λ s. bit (planChoice plan s) p)
 
 -- the row of a free variable is that of its tree
 pub shown-tree : (n : ℕ) (plan : Plan) → Showable plan → (v : ℕ) → v < n → rowTree rowLevels (shownRow n plan v) ≡ planTree plan (n - 1 - v)

@@ -17,7 +17,7 @@ use Rattle.shares.specs.Tree.{Tree, Folded, height, leafAt}
 use Rattle.shares.specs.TreeLaws.{treeOf-ext, treeOf-leafAt, leafAt-treeOf}
 use Rattle.shares.specs.Constant.{bit, numberOf}
 use Rattle.shares.specs.BitLaws.{bits-same, number-lt, bit-number}
-use Rattle.show.specs.Rows.{rowBytes, rowCount, answerBytes, rowLeaf, rowTree, listOf, rowOf, rowPart, rowPlace, rowsOf}
+use Rattle.show.specs.Rows.{rowBytes, rowCount, answerBytes, rowLeaf, rowTree, listOf, rowOf, rowPart, rowRange, rowsOf}
 
 -- ---- a list and its elements
 
@@ -120,11 +120,11 @@ module _ (f : ℕ → List ℕ) (b : ℕ) (size : (v : ℕ) → length (f v) ≡
 
 -- ---- the row of one variable
 
--- the bytes at the place that is given are the part that is handed back
-pub place-part : (answer : List ℕ) (v : ℕ)
-    → take (rowPlace (length answer) v / 2 ^ 32) (drop (rowPlace (length answer) v % 2 ^ 32) answer) ≡ rowPart answer v
-unfolding rowPlace rowPart
-place-part answer v = go (decLt v rowCount) (leb answerBytes (length answer))
+-- the bytes of the range that is given are the part that is handed back
+pub range-part : (answer : List ℕ) (v : ℕ)
+    → take (rowRange (length answer) v / 2 ^ 32) (drop (rowRange (length answer) v % 2 ^ 32) answer) ≡ rowPart answer v
+unfolding rowRange rowPart
+range-part answer v = go (decLt v rowCount) (leb answerBytes (length answer))
   where
     go : Dec (v < rowCount) → (t : Bool)
         → take (cond (ltb v rowCount) (cond t (v * rowBytes + rowBytes * 2 ^ 32) 0) 0 / 2 ^ 32)

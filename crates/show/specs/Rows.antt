@@ -51,8 +51,8 @@ unfoldable pub rowPart : List ℕ → ℕ → List ℕ
 rowPart answer v = cond (ltb v rowCount) (cond (leb answerBytes (length answer)) (take rowBytes (drop (v * rowBytes) answer)) []) []
 
 -- where that part lies in a buffer of so many bytes: its offset in the low 32 bits, its length in the high 32
-unfoldable pub rowPlace : ℕ → ℕ → ℕ
-rowPlace bytes v = cond (ltb v rowCount) (cond (leb answerBytes bytes) (v * rowBytes + rowBytes * 2 ^ 32) 0) 0
+unfoldable pub rowRange : ℕ → ℕ → ℕ
+rowRange bytes v = cond (ltb v rowCount) (cond (leb answerBytes bytes) (v * rowBytes + rowBytes * 2 ^ 32) 0) 0
 
 -- the first n rows, one after the other
 unfoldable pub rowsOf : (ℕ → List ℕ) → ℕ → List ℕ

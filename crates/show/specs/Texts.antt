@@ -12,14 +12,14 @@ use Rattle.show.specs.declared.Written.{Written}
 use Rattle.show.specs.declared.Written.the-variants.{Length, Refused}
 
 -- document 01's length: a refusal gives 0
-abbrev pub lengthOf : Written → ℕ
-lengthOf (Length n) = n
-lengthOf (Refused number) = 0
+abbrev pub textLength : Written → ℕ
+textLength (Length n) = n
+textLength (Refused number) = 0
 
 -- document 01's refusal number: 0 where the text was written
-abbrev pub refusalOf : Written → ℕ
-refusalOf (Length n) = 0
-refusalOf (Refused number) = number
+abbrev pub textRefusal : Written → ℕ
+textRefusal (Length n) = 0
+textRefusal (Refused number) = number
 
 -- the text of a row
 unfoldable pub rowText : List ℕ → List ℕ
@@ -39,7 +39,7 @@ afterAnswer (Refused number) t buffer = buffer
 unfoldable pub textAfter : List ℕ → List ℕ → List ℕ
 textAfter row buffer = afterAnswer (textAnswer row buffer) (rowText row) buffer
 
--- the bytes t put into a buffer from a place on: the place after them, and the buffer with those bytes set
+-- the bytes t put into a buffer from an offset on: the offset after them, and the buffer with those bytes set
 pub record Put (t before : List ℕ) (at next : ℕ) (after : List ℕ) : Type 0 where
-  pub place : next ≡ at + length t
+  pub end : next ≡ at + length t
   pub bytes : after ≡ sets before at t

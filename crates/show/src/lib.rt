@@ -7,7 +7,7 @@ ghost use lib.Dec.{T, eqb, leb};
 ghost use lib.ListN.{length, getD, replicate};
 ghost use Rattle.shares.specs.Constant.{bit};
 ghost use Rattle.shares.specs.Text.{text};
-ghost use Rattle.show.specs.Rows.{rowLevels, rowBytes, rowCount, answerBytes, rowLeaf, rowOf, rowPart, rowPlace};
+ghost use Rattle.show.specs.Rows.{rowLevels, rowBytes, rowCount, answerBytes, rowLeaf, rowOf, rowPart, rowRange};
 ghost use Rattle.show.specs.Blocks.{Inside, blockTree, AllLeaves, BlockSet, wholeByte};
 ghost use Rattle.show.specs.Plans.{Showable, planTree, Shows, shownRow, shownAnswer};
 ghost use Rattle.show.specs.Texts.{rowText, textAnswer, textAfter, Put};
@@ -38,8 +38,8 @@ pub fn row(answer: &[u8], variable: usize) -> &[u8]
 }
 
 // Where that part lies in an answer buffer of `bytes` bytes: its offset in the low 32 bits, its length in the high 32.
-pub fn row_place(bytes: usize, variable: usize) -> u64
-    ensures { λ r. ⌜ r ≡ rowPlace bytes variable ⌝ }
+pub fn row_range(bytes: usize, variable: usize) -> u64
+    ensures { λ r. ⌜ r ≡ rowRange bytes variable ⌝ }
 {
     if variable < ROW_COUNT {
         if ANSWER_BYTES <= bytes {
@@ -60,7 +60,7 @@ fn power(k: usize) -> usize
     1 << k
 }
 
-// The bits of block `a` of a byte: as many ones as a block has leaves, moved to its place.
+// The bits of block `a` of a byte: as many ones as a block has leaves, moved to where it lies.
 fn mask(height: usize, a: usize) -> u8
     requires { ⌜ (height ≤ 3) × (a < 2 ^ (3 - height)) ⌝ }
     ensures { λ r. ⌜ ((i : ℕ) → i < 8 → bit r i ≡ eqb (i / 2 ^ height) a) ⌝ }
@@ -160,7 +160,7 @@ pub struct Plan {
     // how many sub-leaves hold another choice
     pub count: usize,
     // which sub-leaf, of 2^high
-    pub place: [u16; 32],
+    pub subleaf: [u16; 32],
     // the choice that stands there
     pub choice: [u16; 32],
 }
@@ -188,7 +188,7 @@ fn write_leaves(row: &mut [u8], plain: &[u16; 64], low: usize, p: usize)
 }
 
 // Sets the sub-leaves that hold another choice, in order.
-fn write_places(row: &mut [u8], plan: Plan, p: usize)
+fn write_sub_leaves(row: &mut [u8], plan: Plan, p: usize)
     requires { ⌜ Showable plan ⌝ }
     requires { ⌜ (length (now row) ≡ rowBytes) × (p < 16) × Shows plan 0 p (now row) ⌝ }
     ensures { λ _. ⌜ Shows plan (plan .count) p (now (row .exit)) ⌝ }
@@ -196,7 +196,7 @@ fn write_places(row: &mut [u8], plan: Plan, p: usize)
     let height = ROW_LEVELS - plan.high;
     let mut n: usize = 0;
     while n < plan.count {
-        let s = plan.place[n] as usize;
+        let s = plan.subleaf[n] as usize;
         write_block(row, height, s, digit(plan.choice[n], p));
         n += 1;
     }
@@ -210,7 +210,7 @@ pub fn write_row(row: &mut [u8], plan: Plan, p: usize)
 {
     let plain = plan.plain;
     write_leaves(row, &plain, plan.low, p);
-    write_places(row, plan, p);
+    write_sub_leaves(row, plan, p);
 }
 
 // Writes the row of variable v, of n free ones: zero where it is none of them.
@@ -280,7 +280,7 @@ fn text_length(row: &[u8], height: usize, q: usize) -> usize
     2 + left + right
 }
 
-// Writes the text of block q from a place of the buffer on, and gives the place after it.
+// Writes the text of block q from an offset of the buffer on, and gives the offset after it.
 fn write_text(row: &[u8], height: usize, q: usize, buffer: &mut [u8], at: usize) -> usize
     requires { ⌜ Inside height q (length (now row)) ⌝ }
     requires { ⌜ at + length (text (blockTree (now row) height q)) ≤ length (now buffer) ⌝ }

@@ -7,7 +7,7 @@ use Rattle.shares.specs.TreeLaws.{treeOf-folded}
 use Rattle.leaves.specs.Heights.{c}
 use Rattle.leaves.specs.Choices.{Row, at, least}
 use Rattle.leaves.specs.Problem.{Problem, solvable, candidate}
-use Rattle.leaves.specs.Second.{stuck, avoiding, canStick, firstAvoided}
+use Rattle.leaves.specs.Second.{withUnmet, withMissed, canBeUnmet, firstMissed}
 use Rattle.systems.specs.Clauses.{Assignment}
 use Rattle.systems.specs.Questions.{Kind, satisfiability, entailment, Question, questionHeight, firstCount, secondCount}
 use Rattle.systems.specs.Answers.{Answer, satisfied, unsatisfied, vacuous, entailed, unmet, missed}
@@ -19,19 +19,19 @@ module _ (h : ℕ) (q : Question) where
   canSolve = solvable (least (q .free)) h (firstAt h q)
 
   -- some solution of it cannot meet the second's positive clauses
-  abbrev pub canBreak : Bool
-  canBreak = canStick (least (q .free)) (least (q .own)) h (firstAt h q) (secondAt h q)
+  abbrev pub someUnmet : Bool
+  someUnmet = canBeUnmet (least (q .free)) (least (q .own)) h (firstAt h q) (secondAt h q)
 
   -- the lowest disequation of the second that some solution cannot have beside them; their count if there is none
   abbrev pub lowestMissed : ℕ
-  lowestMissed = firstAvoided (least (q .free)) (least (q .own)) h (firstAt h q) (secondAt h q)
+  lowestMissed = firstMissed (least (q .free)) (least (q .own)) h (firstAt h q) (secondAt h q)
 
   -- the answer to the question of either kind
   unfoldable pub decideKind : Kind → Answer
   decideKind satisfiability = cond canSolve satisfied unsatisfied
   decideKind entailment =
       cond canSolve
-      (cond canBreak unmet
+      (cond someUnmet unmet
       (cond (ltb lowestMissed (secondCount q)) (missed lowestMissed)
       entailed))
       vacuous
@@ -61,8 +61,8 @@ module _ (h : ℕ) (q : Question) where
   shownWith unsatisfied = fixed (firstAt h q) 0
   shownWith vacuous = fixed (firstAt h q) 0
   shownWith entailed = fixed (firstAt h q) 0
-  shownWith unmet = fixed (stuck (least (q .own)) (secondAt h q) (firstAt h q)) (c (firstCount q + 1))
-  shownWith (missed j) = fixed (avoiding (least (q .own)) (secondAt h q) (firstAt h q) j) (c (firstCount q + 1))
+  shownWith unmet = fixed (withUnmet (least (q .own)) (secondAt h q) (firstAt h q)) (c (firstCount q + 1))
+  shownWith (missed j) = fixed (withMissed (least (q .own)) (secondAt h q) (firstAt h q) j) (c (firstCount q + 1))
 
   -- what is shown
   abbrev pub shownAt : Assignment

@@ -14,7 +14,7 @@ use Rattle.leaves.specs.Choices.{Row, at, least}
 use Rattle.leaves.specs.Problem as leaf
 use Rattle.leaves.specs.ProblemLaws.{cut-solvable, solution-glued}
 use Rattle.leaves.specs.Second as leaf2
-use Rattle.leaves.specs.SecondLaws.{one-at-a-time, unstuck, unavoided, can-stick, can-avoid}
+use Rattle.leaves.specs.SecondLaws.{one-at-a-time, always-met, never-missed, can-be-unmet, can-be-missed}
 use Rattle.systems.specs.Clauses.{Assignment}
 use Rattle.systems.specs.Questions.{Kind, satisfiability, entailment, Question, WellFormed, Bounds, firstCount, secondCount}
 use Rattle.systems.specs.Solutions.{tallest, both, Solution, Extends, MeetsPositives, MeetsWith, Every, SomeNot, Entails}
@@ -22,8 +22,8 @@ use Rattle.systems.specs.Answers.{Answer, satisfied, unsatisfied, vacuou
 use Rattle.systems.specs.SystemLaws.{parts}
 use Rattle.systems.specs.AtLeaves.{firstAt, secondAt}
 use Rattle.systems.specs.AtomLaws.{Reads}
-use Rattle.systems.specs.Link.{rowsOf, rows-read, shares-read, shares-low, Read, read-any, first-iff, extension-iff, meets-iff, with-iff}
-use Rattle.systems.specs.Decide.{canSolve, canBreak, lowestMissed, decideKind, decideAt, sharesOf}
+use Rattle.systems.specs.Link.{rowsAt, rows-read, shares-read, shares-low, Read, read-any, first-iff, extension-iff, meets-iff, with-iff}
+use Rattle.systems.specs.Decide.{canSolve, someUnmet, lowestMissed, decideKind, decideAt, sharesOf}
 
 -- what extends can meet the positive clauses, and have each disequation beside them
 pub extends-positives : (q : Question) (σ : Assignment) → Extends q σ → MeetsPositives q σ
@@ -34,9 +34,9 @@ extends-with q σ j l E =
     let p = parts (q .constants) (both (q .free) σ (E .own)) (q .second) (E .holds) in
     record { own = E .own; allowed = tt; holds = (p .0, p .1 j l) }
 
--- the disequation j of the second can be avoided, at the leaves
-abbrev canMiss : ℕ → Question → ℕ → Bool
-canMiss h q = leaf2.canAvoid (least (q .free)) (least (q .own)) h (firstAt h q) (secondAt h q)
+-- some solution misses disequation j of the second, at the leaves
+abbrev someMissed : ℕ → Question → ℕ → Bool
+someMissed h q = leaf2.canBeMissed (least (q .free)) (least (q .own)) h (firstAt h q) (secondAt h q)
 
 -- solutions by trees whose height is among A are solutions at the leaves whose height is among A′
 module _ (h : ℕ) (q : Question) (F : WellFormed q) (B : Bounds h q) (A A′ : ℕ → Type 0) (R : Read h A A′) where
@@ -46,7 +46,7 @@ module _ (h : ℕ) (q : Question) (F : WellFormed q) (B : Bounds h q) (A A′ : 
       record {
         height = w;
         allowed = a;
-        leaves = rowsOf (q .free) w (S .values);
+        leaves = rowsAt (q .free) w (S .values);
         solves = first-iff h q F B w l (S .values) _ (rows-read (q .free) w (S .values) k) .0 (S .solves);
       }
 
@@ -65,7 +65,7 @@ module _ (h : ℕ) (q : Question) (F : WellFormed q) (B : Bounds h q) (A A′ : 
     unfolding to-leaves
     every-from E S =
         let (w, k, l, a) = R .up (tallest (q .free) (S .values)) (S .allowed) in
-        iff w l (S .values) (rowsOf (q .free) w (S .values)) (rows-read (q .free) w (S .values) k) .1 (E (to-leaves S))
+        iff w l (S .values) (rowsAt (q .free) w (S .values)) (rows-read (q .free) w (S .values) k) .1 (E (to-leaves S))
 
     pub some-not-from : leaf2.Counter A′ h (firstAt h q) Q → SomeNot A q P
     unfolding from-leaves
@@ -84,51 +84,51 @@ module _ (h : ℕ) (q : Question) (F : WellFormed q) (B : Bounds h q) (A A′ : 
       let L = to-leaves S in
       T-not (canSolve h q) t (cut-solvable (least (q .free)) h (firstAt h q) (L .height) (L .leaves) (L .solves))
 
-  can-break : Room A′ h (suc (firstCount q)) → T (canSolve h q) → T (canBreak h q) → SomeNot A q (MeetsPositives q)
+  can-break : Room A′ h (suc (firstCount q)) → T (canSolve h q) → T (someUnmet h q) → SomeNot A q (MeetsPositives q)
   can-break r t u =
       some-not-from (MeetsPositives q) (leaf2.positives (secondAt h q)) (meets-iff h q F B)
-      (can-stick (least (q .free)) (least (q .own)) h (firstAt h q) (secondAt h q) A′ r t u)
+      (can-be-unmet (least (q .free)) (least (q .own)) h (firstAt h q) (secondAt h q) A′ r t u)
 
-  cannot-break : T (not (canBreak h q)) → Every A q (MeetsPositives q)
+  cannot-break : T (not (someUnmet h q)) → Every A q (MeetsPositives q)
   cannot-break u =
       every-from (MeetsPositives q) (leaf2.positives (secondAt h q)) (meets-iff h q F B)
-      (unstuck (least (q .free)) (least (q .own)) h (firstAt h q) (secondAt h q) A′ u)
+      (always-met (least (q .free)) (least (q .own)) h (firstAt h q) (secondAt h q) A′ u)
 
-  can-miss : Room A′ h (firstCount q) → (j : ℕ) → j < secondCount q → T (canMiss h q j) → SomeNot A q (MeetsWith j q)
+  can-miss : Room A′ h (firstCount q) → (j : ℕ) → j < secondCount q → T (someMissed h q j) → SomeNot A q (MeetsWith j q)
   can-miss r j l t =
       some-not-from (MeetsWith j q) (leaf2.only j (secondAt h q)) (λ w hw σ s R. with-iff h q F B w hw σ s R j l)
-      (can-avoid (least (q .free)) (least (q .own)) h (firstAt h q) (secondAt h q) A′ r j t)
+      (can-be-missed (least (q .free)) (least (q .own)) h (firstAt h q) (secondAt h q) A′ r j t)
 
-  -- each solution meets disequation j at the leaves, where none can break the positive clauses and j cannot be avoided
-  cannot-avoid : T (not (canBreak h q)) → (j : ℕ) → T (not (canMiss h q j)) → leaf2.Entails A′ h (firstAt h q) (leaf2.only j (secondAt h q))
-  cannot-avoid u j t =
-      unavoided (least (q .free)) (least (q .own)) h (firstAt h q) (secondAt h q) A′ j t
-      (unstuck (least (q .free)) (least (q .own)) h (firstAt h q) (secondAt h q) A′ u)
+  -- each solution meets disequation j at the leaves, where none leaves the positive clauses unmet and none misses j
+  never-misses : T (not (someUnmet h q)) → (j : ℕ) → T (not (someMissed h q j)) → leaf2.Entails A′ h (firstAt h q) (leaf2.only j (secondAt h q))
+  never-misses u j t =
+      never-missed (least (q .free)) (least (q .own)) h (firstAt h q) (secondAt h q) A′ j t
+      (always-met (least (q .free)) (least (q .own)) h (firstAt h q) (secondAt h q) A′ u)
 
-  cannot-miss : T (not (canBreak h q)) → (j : ℕ) → j < secondCount q → T (not (canMiss h q j)) → Every A q (MeetsWith j q)
+  cannot-miss : T (not (someUnmet h q)) → (j : ℕ) → j < secondCount q → T (not (someMissed h q j)) → Every A q (MeetsWith j q)
   cannot-miss u j l t =
-      every-from (MeetsWith j q) (leaf2.only j (secondAt h q)) (λ w hw σ s R. with-iff h q F B w hw σ s R j l) (cannot-avoid u j t)
+      every-from (MeetsWith j q) (leaf2.only j (secondAt h q)) (λ w hw σ s R. with-iff h q F B w hw σ s R j l) (never-misses u j t)
 
-  all-extend : T (not (canBreak h q)) → ((j : ℕ) → j < secondCount q → T (not (canMiss h q j))) → Entails A q
+  all-extend : T (not (someUnmet h q)) → ((j : ℕ) → j < secondCount q → T (not (someMissed h q j))) → Entails A q
   all-extend u f =
       every-from (Extends q) (secondAt h q) (λ w hw σ s R. extension-iff h q F B w hw σ s R anyHeight anyHeight (read-any w))
       (λ S. one-at-a-time (least (q .own)) h (secondAt h q) (S .height) (S .leaves) (S .solves .tall)
-      (unstuck (least (q .free)) (least (q .own)) h (firstAt h q) (secondAt h q) A′ u S)
-      (λ j l. cannot-avoid u j (f j l) S))
+      (always-met (least (q .free)) (least (q .own)) h (firstAt h q) (secondAt h q) A′ u S)
+      (λ j l. never-misses u j (f j l) S))
 
   -- ---- the lowest disequation that can be missed
 
-  lowest-missed : lowestMissed h q < secondCount q → T (canMiss h q (lowestMissed h q))
-  unfolding leaf2.firstAvoided
-  lowest-missed l = first-below (secondCount q) (canMiss h q) l
+  lowest-missed : lowestMissed h q < secondCount q → T (someMissed h q (lowestMissed h q))
+  unfolding leaf2.firstMissed
+  lowest-missed l = first-below (secondCount q) (someMissed h q) l
 
-  none-lower : (i : ℕ) → i < lowestMissed h q → T (not (canMiss h q i))
-  unfolding leaf2.firstAvoided
-  none-lower i l = first-least (secondCount q) (canMiss h q) i l
+  none-lower : (i : ℕ) → i < lowestMissed h q → T (not (someMissed h q i))
+  unfolding leaf2.firstMissed
+  none-lower i l = first-least (secondCount q) (someMissed h q) i l
 
-  lowest-le : (j : ℕ) → T (canMiss h q j) → lowestMissed h q ≤ j
-  unfolding leaf2.firstAvoided
-  lowest-le j t = first-min (secondCount q) (canMiss h q) j t
+  lowest-le : (j : ℕ) → T (someMissed h q j) → lowestMissed h q ≤ j
+  unfolding leaf2.firstMissed
+  lowest-le j t = first-min (secondCount q) (someMissed h q) j t
 
   -- ---- the decision says what is so
 
@@ -137,7 +137,7 @@ module _ (h : ℕ) (q : Question) (F : WellFormed q) (B : Bounds h q) (A A′ : 
   says-right satisfiability r = cond-law (Says A q) (canSolve h q) satisfied unsatisfied (can-solve r) cannot-solve
   says-right entailment r =
       cond-law (Says A q) (canSolve h q) _ vacuous
-      (λ t. cond-law (Says A q) (canBreak h q) unmet _
+      (λ t. cond-law (Says A q) (someUnmet h q) unmet _
       (can-break (room-less (omega arith) r) t)
       (λ u. cond-law (Says A q) (ltb (lowestMissed h q) (secondCount q)) (missed (lowestMissed h q)) entailed
       (λ v.
@@ -162,7 +162,7 @@ module _ (h : ℕ) (q : Question) (F : WellFormed q) (B : Bounds h q) (A A′ : 
       cond-law (λ x. x ≡ vacuous) (canSolve h q) _ _ (λ t. absurd (n (can-solve (room-less (omega arith) r) t))) (λ t. refl)
   says-only entailed r (S, E) =
       cond-law (λ x. x ≡ entailed) (canSolve h q) _ _
-      (λ t. cond-law (λ x. x ≡ entailed) (canBreak h q) _ _
+      (λ t. cond-law (λ x. x ≡ entailed) (someUnmet h q) _ _
       (λ u. let (N, n) = can-break (room-less (omega arith) r) t u in absurd (n (extends-positives q (N .values) (E N))))
       (λ u. cond-law (λ x. x ≡ entailed) (ltb (lowestMissed h q) (secondCount q)) _ _
       (λ v.
@@ -173,14 +173,14 @@ module _ (h : ℕ) (q : Question) (F : WellFormed q) (B : Bounds h q) (A A′ : 
       (λ t. absurd (cannot-solve t S))
   says-only unmet r (S, n) =
       cond-law (λ x. x ≡ unmet) (canSolve h q) _ _
-      (λ t. cond-law (λ x. x ≡ unmet) (canBreak h q) _ _ (λ u. refl) (λ u. absurd (n (cannot-break u S))))
+      (λ t. cond-law (λ x. x ≡ unmet) (someUnmet h q) _ _ (λ u. refl) (λ u. absurd (n (cannot-break u S))))
       (λ t. absurd (cannot-solve t S))
   says-only (missed j) r (l, M, (S, n), E) =
       cond-law (λ x. x ≡ missed j) (canSolve h q) _ _
-      (λ t. cond-law (λ x. x ≡ missed j) (canBreak h q) _ _
+      (λ t. cond-law (λ x. x ≡ missed j) (someUnmet h q) _ _
       (λ u. let (N, m) = can-break (room-less (omega arith) r) t u in absurd (m (M N)))
       (λ u.
-      let avoids : T (canMiss h q j) = holds (canMiss h q j) (λ x. n (cannot-miss u j l x S)) in
+      let avoids : T (someMissed h q j) = holds (someMissed h q j) (λ x. n (cannot-miss u j l x S)) in
       let low : lowestMissed h q ≤ j = lowest-le j avoids in
       let below : lowestMissed h q < secondCount q = omega arith in
       let no-lower : ¬ (lowestMissed h q < j) =
@@ -199,7 +199,7 @@ unfolding decideKind
 decide-kind h q satisfiability = cond-law (λ a. kindOf a ≡ satisfiability) (canSolve h q) _ _ (λ t. refl) (λ t. refl)
 decide-kind h q entailment =
     cond-law (λ a. kindOf a ≡ entailment) (canSolve h q) _ _
-    (λ t. cond-law (λ a. kindOf a ≡ entailment) (canBreak h q) _ _ (λ u. refl)
+    (λ t. cond-law (λ a. kindOf a ≡ entailment) (someUnmet h q) _ _ (λ u. refl)
     (λ u. cond-law (λ a. kindOf a ≡ entailment) (ltb (lowestMissed h q) (secondCount q)) _ _ (λ v. refl) (λ v. refl)))
     (λ t. refl)
 

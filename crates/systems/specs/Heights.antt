@@ -18,8 +18,8 @@ use Rattle.leaves.specs.HeightLaws.{c-enough, room-any, room-at, room-exact}
 use Rattle.leaves.specs.Choices.{Row, at, least}
 use Rattle.leaves.specs.Problem.{Problem, Solves, candidate}
 use Rattle.leaves.specs.ProblemLaws.{cut-solvable, candidate-solves, solution-glued}
-use Rattle.leaves.specs.Second.{stuck, avoiding, canAvoid, firstAvoided}
-use Rattle.leaves.specs.SecondLaws.{extension-room, stuck-solvable, stuck-first, stuck-counter, avoiding-first, avoiding-counter}
+use Rattle.leaves.specs.Second.{withUnmet, withMissed, canBeMissed, firstMissed}
+use Rattle.leaves.specs.SecondLaws.{extension-room, unmet-solvable, unmet-first, unmet-counter, missed-first, missed-counter}
 use Rattle.systems.specs.Clauses.{Term, variable, constant, Constants, Assignment}
 use Rattle.systems.specs.Questions.{Kind, satisfiability, entailment, Question, Defined, Within, WellFormed, Bounds, tallestConstant, questionHeight, firstCount, secondCount}
 use Rattle.systems.specs.Solutions.{tallest, heightOf, SolvesFirst, Solution, Extends, ExtendsBy, SomeNot, Entails}
@@ -27,7 +27,7 @@ use Rattle.systems.specs.Answers.{Answer, satisfied, unsatisfied, vacuou
 use Rattle.systems.specs.SystemLaws.{in-system}
 use Rattle.systems.specs.AtLeaves.{firstAt, secondAt}
 use Rattle.systems.specs.AtomLaws.{Reads}
-use Rattle.systems.specs.Decide.{canSolve, canBreak, lowestMissed, decideKind, decideAt, decide, fixed, shownWith, shownAt}
+use Rattle.systems.specs.Decide.{canSolve, someUnmet, lowestMissed, decideKind, decideAt, decide, fixed, shownWith, shownAt}
 use Rattle.systems.specs.Link.{rows-read, shares-read, shares-low, Read, read-any, read-most, first-iff, extension-iff, meets-iff, with-iff}
 use Rattle.systems.specs.Exact.{extends-positives, extends-with, to-leaves, from-leaves, says-right, decide-kind, answers-iff}
 use Rattle.systems.specs.HeightRule.{HeightRule}
@@ -170,36 +170,36 @@ module _ (h : ℕ) (q : Question) (F : WellFormed q) (B : Bounds h q) where
   room-more : suc (firstCount q) ≤ 2 ^ c (firstCount q + 1)
   room-more = omega (arith, c-enough (firstCount q + 1))
 
-  shown-unmet : T (canSolve h q) → T (canBreak h q) → Shown h q unmet (shownWith h q unmet)
+  shown-unmet : T (canSolve h q) → T (someUnmet h q) → Shown h q unmet (shownWith h q unmet)
   shown-unmet t u =
       let k = c (firstCount q + 1) in
-      let P = stuck (least (q .own)) (secondAt h q) (firstAt h q) in
-      let S = candidate-solves (least (q .free)) h P (stuck-solvable (least (q .free)) (least (q .own)) h (firstAt h q) (secondAt h q) t u) k room-more in
-      let S₁ = stuck-first (least (q .own)) h (firstAt h q) (secondAt h q) (h + k) _ S in
+      let P = withUnmet (least (q .own)) (secondAt h q) (firstAt h q) in
+      let S = candidate-solves (least (q .free)) h P (unmet-solvable (least (q .free)) (least (q .own)) h (firstAt h q) (secondAt h q) t u) k room-more in
+      let S₁ = unmet-first (least (q .own)) h (firstAt h q) (secondAt h q) (h + k) _ S in
       record {
         solves = fixed-solves P k S₁;
         low = fixed-low P k S₁;
-        fails = λ m. stuck-counter (least (q .own)) h (firstAt h q) (secondAt h q) (h + k) _ S
+        fails = λ m. unmet-counter (least (q .own)) h (firstAt h q) (secondAt h q) (h + k) _ S
             (meets-iff h q F B (h + k) (le-add-right h k) _ _ (fixed-reads P k S₁) .0 m);
       }
 
-  shown-missed : (j : ℕ) → j < secondCount q → T (canAvoid (least (q .free)) (least (q .own)) h (firstAt h q) (secondAt h q) j)
+  shown-missed : (j : ℕ) → j < secondCount q → T (canBeMissed (least (q .free)) (least (q .own)) h (firstAt h q) (secondAt h q) j)
       → Shown h q (missed j) (shownWith h q (missed j))
-  unfolding canAvoid
+  unfolding canBeMissed
   shown-missed j l t =
       let k = c (firstCount q + 1) in
-      let P = avoiding (least (q .own)) (secondAt h q) (firstAt h q) j in
+      let P = withMissed (least (q .own)) (secondAt h q) (firstAt h q) j in
       let S = candidate-solves (least (q .free)) h P t k (omega (arith, room-more)) in
-      let S₁ = avoiding-first (least (q .own)) h (firstAt h q) (secondAt h q) (h + k) _ j S in
+      let S₁ = missed-first (least (q .own)) h (firstAt h q) (secondAt h q) (h + k) _ j S in
       record {
         solves = fixed-solves P k S₁;
         low = fixed-low P k S₁;
-        fails = λ m. avoiding-counter (least (q .own)) h (firstAt h q) (secondAt h q) (h + k) _ j S
+        fails = λ m. missed-counter (least (q .own)) h (firstAt h q) (secondAt h q) (h + k) _ j S
             (with-iff h q F B (h + k) (le-add-right h k) _ _ (fixed-reads P k S₁) j l .0 m);
       }
 
   shown-rule : T (shows (decideAt h q)) → Shown h q (decideAt h q) (shownAt h q)
-  unfolding decideKind firstAvoided
+  unfolding decideKind firstMissed
   shown-rule = go (q .kind)
     where
       M : Answer → Type 0
@@ -209,7 +209,7 @@ module _ (h : ℕ) (q : Question) (F : WellFormed q) (B : Bounds h q) where
       go satisfiability = cond-law M (canSolve h q) satisfied unsatisfied (λ t _. shown-satisfied t) (λ _ f. absurd f)
       go entailment =
           cond-law M (canSolve h q) _ vacuous
-          (λ t. cond-law M (canBreak h q) unmet _
+          (λ t. cond-law M (someUnmet h q) unmet _
           (λ u _. shown-unmet t u)
           (λ u. cond-law M (ltb (lowestMissed h q) (secondCount q)) (missed (lowestMissed h q)) entailed
           (λ v _. let l = ltb→lt (lowestMissed h q) (secondCount q) v in shown-missed (lowestMissed h q) l (first-below (secondCount q) _ l))

@@ -47,11 +47,11 @@ tallest-at (suc n) k σ h v l = go (eq-or-lt-of-le (le-of-suc-le-suc l)) (talles
 -- ---- shares no taller than k are rows at 2 ^ k leaves, and back
 
 -- the row at each leaf
-unfoldable pub rowsOf : (n k : ℕ) → Assignment → ℕ → Row Bool n
-rowsOf n k σ i = table n (λ v. leafAt k (σ v .tree) i)
+unfoldable pub rowsAt : (n k : ℕ) → Assignment → ℕ → Row Bool n
+rowsAt n k σ i = table n (λ v. leafAt k (σ v .tree) i)
 
-pub rows-read : (n k : ℕ) (σ : Assignment) → tallest n σ ≤ k → Reads n k σ (λ i. at false (rowsOf n k σ i))
-unfolding rowsOf
+pub rows-read : (n k : ℕ) (σ : Assignment) → tallest n σ ≤ k → Reads n k σ (λ i. at false (rowsAt n k σ i))
+unfolding rowsAt
 rows-read n k σ h = record { low = tallest-at n k σ h; bits = λ i l v m. at-table false n (λ v. leafAt k (σ v .tree) i) v m }
 
 pub shares-read : (n k : ℕ) (s : ℕ → Row Bool n) → Reads n k (sharesOf k s) (λ i. at false (s i))
@@ -61,14 +61,14 @@ shares-read n k s = record { low = λ v l. treeOf-height k _; bits = λ i l v m.
 pub shares-low : (n k : ℕ) (s : ℕ → Row Bool n) → tallest n (sharesOf k s) ≤ k
 shares-low n k s = tallest-le n k (sharesOf k s) (shares-read n k s .low)
 
-pub shares-rows : (n k : ℕ) (σ : Assignment) → tallest n σ ≤ k → (v : ℕ) → v < n → sharesOf k (rowsOf n k σ) v ≡ σ v
+pub shares-rows : (n k : ℕ) (σ : Assignment) → tallest n σ ≤ k → (v : ℕ) → v < n → sharesOf k (rowsAt n k σ) v ≡ σ v
 unfolding sharesOf
 shares-rows n k σ h v l =
     share-path _ (σ v)
     (treeOf-ext k _ (leafAt k (σ v .tree)) (λ i m. rows-read n k σ h .bits i m v l)
     ∙ treeOf-leafAt k (σ v .tree) (σ v .folded) (tallest-at n k σ h v l))
 
-pub rows-shares : (n k : ℕ) (s : ℕ → Row Bool n) (i : ℕ) → i < 2 ^ k → rowsOf n k (sharesOf k s) i ≡ s i
+pub rows-shares : (n k : ℕ) (s : ℕ → Row Bool n) (i : ℕ) → i < 2 ^ k → rowsAt n k (sharesOf k s) i ≡ s i
 rows-shares n k s i l =
     row-path false n _ (s i) (λ v m. rows-read n k (sharesOf k s) (shares-low n k s) .bits i l v m ∙ sym (shares-read n k s .bits i l v m))
 
@@ -134,7 +134,7 @@ module _ (h : ℕ) (q : Question) (F : WellFormed q) (B : Bounds h q) where
     beside-iff P Q iff A A′ r = (
       λ E.
           let (v, k, l, a) = r .up (tallest (q .own) (E .own)) (E .allowed) in
-          let rows = rowsOf (q .own) v (E .own) in
+          let rows = rowsAt (q .own) v (E .own) in
           record { height = v; allowed = a; own = rows; extends = iff v l (E .own) rows (rows-read (q .own) v (E .own) k) .0 (E .holds) },
       λ E. record {
         own = sharesOf (E .height) (E .own);
@@ -194,15 +194,15 @@ module _ (h : ℕ) (q : Question) (F : WellFormed q) (B : Bounds h q) where
 
 pub record LeafByLeaf (h : ℕ) (q : Question) : Type 0 where
   -- shares no taller than k are rows at 2 ^ k leaves, and back
-  pub shares : (k : ℕ) (σ : Assignment) → heightOf q σ ≤ k → (v : ℕ) → v < q .free → sharesOf k (rowsOf (q .free) k σ) v ≡ σ v
-  pub rows : (k : ℕ) (s : ℕ → Row Bool (q .free)) (i : ℕ) → i < 2 ^ k → rowsOf (q .free) k (sharesOf k s) i ≡ s i
+  pub shares : (k : ℕ) (σ : Assignment) → heightOf q σ ≤ k → (v : ℕ) → v < q .free → sharesOf k (rowsAt (q .free) k σ) v ≡ σ v
+  pub rows : (k : ℕ) (s : ℕ → Row Bool (q .free)) (i : ℕ) → i < 2 ^ k → rowsAt (q .free) k (sharesOf k s) i ≡ s i
   pub low : (k : ℕ) (s : ℕ → Row Bool (q .free)) → heightOf q (sharesOf k s) ≤ k
   -- they solve the first system exactly if the rows solve its problem at the leaves
   pub solution : (k : ℕ) → h ≤ k → (σ : Assignment) → heightOf q σ ≤ k
-      → SolvesFirst q σ ↔ Solves h (firstAt h q) k (rowsOf (q .free) k σ)
+      → SolvesFirst q σ ↔ Solves h (firstAt h q) k (rowsAt (q .free) k σ)
   -- and extend exactly if the rows do
   pub extension : (k : ℕ) → h ≤ k → (σ : Assignment) → heightOf q σ ≤ k
-      → Extends q σ ↔ leaf.Extension anyHeight h (secondAt h q) k (rowsOf (q .free) k σ)
+      → Extends q σ ↔ leaf.Extension anyHeight h (secondAt h q) k (rowsAt (q .free) k σ)
 
 pub leaf-by-leaf : (h : ℕ) (q : Question) → WellFormed q → Bounds h q → LeafByLeaf h q
 leaf-by-leaf h q F B = record {

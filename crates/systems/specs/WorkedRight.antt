@@ -12,7 +12,7 @@ use Rattle.shares.specs.Constant.{bit}
 use Rattle.leaves.specs.Heights.{c, atMost, exactly}
 use Rattle.leaves.specs.Choices.{someChoice, at, pickRow, least}
 use Rattle.leaves.specs.Problem.{plainAt, specialAt, solvable}
-use Rattle.leaves.specs.Second.{meets, meetsWith, canStick, canAvoid, firstAvoided}
+use Rattle.leaves.specs.Second.{meets, meetsWith, canBeUnmet, canBeMissed, firstMissed}
 use Rattle.leaves.specs.AtHeight.{solvesTest, solvableAt, solvable-at}
 use Rattle.systems.specs.Clauses.{positives, disequations}
 use Rattle.systems.specs.Questions.{Question, WellFormed, tallestConstant, questionHeight}
@@ -115,7 +115,7 @@ all-of (x ∷ l) t = (right-of x (and-left (rightTest x) _ t), all-of l (and-rig
 -- ---- the table is right
 
 computed : T (allTest worked)
-unfolding allTest decideKind tallestConstant treeOf fold twins height bit joins joinLeaf positives disequations termAt atomAt allAt bothAt solvable plainAt specialAt someChoice everyBelow someBelow firstBelow pickRow at c meets meetsWith canStick canAvoid firstAvoided solvesTest solvableAt
+unfolding allTest decideKind tallestConstant treeOf fold twins height bit joins joinLeaf positives disequations termAt atomAt allAt bothAt solvable plainAt specialAt someChoice everyBelow someBelow firstBelow pickRow at c meets meetsWith canBeUnmet canBeMissed firstMissed solvesTest solvableAt
 computed = tt
 
 pub worked-right : AllRight worked

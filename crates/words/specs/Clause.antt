@@ -26,10 +26,10 @@ allClauses clauses x start count = everyBelow count (λ k. clauseTest clauses x 
 unfoldable pub position : ℕ → ℕ → ℕ → ℕ
 position n m t = cond (ltb t n) (n - 1 - t) (2 * n + m - 1 - t)
 
--- the value of term t in choice z, where constant i has bit i of `leaf`
+-- the value of term t in choice z, where constant i has bit i of `values`
 unfoldable pub termValue : ℕ → ℕ → ℕ → ℕ → ℕ → Bool
-termValue n m leaf z t =
-    cond (ltb t (n + m)) (bit z (position n m t)) (cond (ltb t 32) false (bit leaf (t - 32)))
+termValue n m values z t =
+    cond (ltb t (n + m)) (bit z (position n m t)) (cond (ltb t 32) false (bit values (t - 32)))
 
 -- a section that can be read: it lies within 768 bytes, and each of its bytes is below 64
 pub record Clauses (clauses : List ℕ) (start count : ℕ) : Type 0 where

@@ -1,4 +1,4 @@
--- A word turned by k places, and a word folded: or-ed with itself, turned by every multiple of 2 ^ n. Assumes nothing.
+-- A word turned by k bits, and a word folded: or-ed with itself, turned by every multiple of 2 ^ n. Assumes nothing.
 use mathlib.Core.Path.{_≡_, sym, ap, ap₂, _∙_, subst, fun-ext}
 use mathlib.Core.Bool.{Bool, _&&_, _||_, or-false}
 use Prim.Native.Nat.{ℕ, suc, _+_, _-_, _*_, _/_, _%_, _^_, _≤_, _<_}
@@ -17,7 +17,7 @@ use Rattle.shares.specs.BitLaws.{bit-or}
 use Rattle.shares.specs.BitParts.{bit-shift, bit-mod, bit-beyond, bit-raised-low, bit-raised}
 use Rattle.words.specs.Sets.{Merged}
 
--- ---- turned by k places
+-- ---- turned by k bits
 
 pub turned-bit : (x k i : ℕ) → x < 2 ^ 64 → k < 64 → i < 64 → bit (bitOr (x / 2 ^ k) (x * 2 ^ (64 - k) % 2 ^ 64)) i ≡ bit x ((i + k) % 64)
 turned-bit x k i hx hk hi =
@@ -35,17 +35,17 @@ turned-bit x k i hx hk hi =
 -- ---- folded
 
 -- bit i of r is set where a bit of x is, i turned by one of the first 2 ^ (p - n) multiples of 2 ^ n
-abbrev pub Folded : ℕ → ℕ → ℕ → ℕ → Type 0
-Folded n p x r = (i : ℕ) → i < 64 → bit r i ≡ someBelow (2 ^ (p - n)) (λ j. bit x ((i + j * 2 ^ n) % 64))
+abbrev pub FoldedTo : ℕ → ℕ → ℕ → ℕ → Type 0
+FoldedTo n p x r = (i : ℕ) → i < 64 → bit r i ≡ someBelow (2 ^ (p - n)) (λ j. bit x ((i + j * 2 ^ n) % 64))
 
-pub folded-start : (n x : ℕ) → Folded n n x x
+pub folded-start : (n x : ℕ) → FoldedTo n n x x
 unfolding someBelow
 folded-start n x i h =
     let e : n - n ≡ 0 = omega arith in
     let here : i ≡ (i + 0 * 2 ^ n) % 64 = sym (ap (λ k. (i + k) % 64) (zero-mul (2 ^ n)) ∙ mod-eq-of-lt (rw (add-zero i) h) ∙ add-zero i) in
     ap (bit x) here ∙ sym (or-false (bit x ((i + 0 * 2 ^ n) % 64))) ∙ sym (ap (λ k. someBelow (2 ^ k) (λ j. bit x ((i + j * 2 ^ n) % 64))) e)
 
-pub folded-more : (n p x r s : ℕ) → n ≤ p → Folded n p x r → ((i : ℕ) → i < 64 → bit s i ≡ (bit r i || bit r ((i + 2 ^ p) % 64))) → Folded n (p + 1) x s
+pub folded-more : (n p x r s : ℕ) → n ≤ p → FoldedTo n p x r → ((i : ℕ) → i < 64 → bit s i ≡ (bit r i || bit r ((i + 2 ^ p) % 64))) → FoldedTo n (p + 1) x s
 folded-more n p x r s h f turn i l =
     turn i l ∙ ap₂ _||_ (f i l) (f ((i + 2 ^ p) % 64) (mod-lt (i + 2 ^ p) (omega arith)) ∙ ap (someBelow half) (fun-ext shifted))
     ∙ sym (ap (λ k. someBelow k at) double ∙ some-add half half at)
@@ -71,7 +71,7 @@ folded-more n p x r s h f turn i l =
         ∙ ap (λ k. k % 64) (add-assoc i (2 ^ p) (j * 2 ^ n) ∙ ap (_+_ i) (sym (add-mul half j (2 ^ n) ∙ ap (λ k. k + j * 2 ^ n) whole))))
 
 -- folded to the end, a bit is set where a bit with the same low n digits is
-pub folded-whole : (n x r : ℕ) → n ≤ 6 → Folded n 6 x r → Merged n x r
+pub folded-whole : (n x r : ℕ) → n ≤ 6 → FoldedTo n 6 x r → Merged n x r
 folded-whole n x r h f i l =
     f i l
     ∙ same-test (someBelow (2 ^ (6 - n)) at) (someBelow 64 same)

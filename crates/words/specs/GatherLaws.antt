@@ -22,7 +22,7 @@ use Rattle.words.specs.Sets.{wordCount, Words, someOwn, Periodic, Gather
 
 -- ---- a free choice in a word
 
--- with six digits or more, the word and the place in it are apart
+-- with six digits or more, the word and the bit in it are apart
 mod-high : (n w i : ℕ) → 6 ≤ n → i < 64 → (64 * w + i) % 2 ^ n ≡ w % 2 ^ (n - 6) * 64 + i
 mod-high n w i h l =
     let e : n ≡ (n - 6) + 6 = omega arith in
@@ -54,11 +54,11 @@ unfolding wordCount
 words-le n h = pow-mono {j = 6} (omega arith)
 
 -- the remainder by a count of words is a mask
-pub word-place : (v n : ℕ) → bitAnd v (wordCount n - 1) ≡ v % wordCount n
+pub word-free : (v n : ℕ) → bitAnd v (wordCount n - 1) ≡ v % wordCount n
 unfolding wordCount
-word-place v n = and-mask v (n - 6)
+word-free v n = and-mask v (n - 6)
 
--- places i of word w and j of word u are the same free choice
+-- bits i of word w and j of word u are the same free choice
 pub same-free : (n u w i j : ℕ) → w < wordCount n → i < 64 → j < 64
     → ((64 * u + j) % 2 ^ n ≡ (64 * w + i) % 2 ^ n) ↔ ((u % wordCount n ≡ w) × (j % 2 ^ n ≡ i % 2 ^ n))
 unfolding wordCount
@@ -109,8 +109,8 @@ module _ (n m : ℕ) (p : ℕ → Bool) (periodic : Periodic (n + m) p) where
     λ t.
         let (z, l, e, v) = own-found ((64 * w + i) % 2 ^ n) (mod-lt (64 * w + i) (pow-pos n)) t in
         let cut : 64 * (z / 64) + z % 64 ≡ z = omega arith in
-        let place = same-free n (z / 64) w i (z % 64) hw hi (mod-lt z (omega arith)) .0 (ap (λ k. k % 2 ^ n) cut ∙ e) in
-        (z / 64, z % 64, in-words (n + m) z l, mod-lt z (omega arith), place .0, place .1, subst (λ k. T (p k)) (sym cut) v),
+        let same = same-free n (z / 64) w i (z % 64) hw hi (mod-lt z (omega arith)) .0 (ap (λ k. k % 2 ^ n) cut ∙ e) in
+        (z / 64, z % 64, in-words (n + m) z l, mod-lt z (omega arith), same .0, same .1, subst (λ k. T (p k)) (sym cut) v),
     λ (u, j, hu, hj, e, f, v).
         subst (λ x. T (someOwn n m p x)) (same-free n u w i j hw hi hj .1 (e, f)) (own-intro (64 * u + j) v),
   )
@@ -133,7 +133,7 @@ gathered-none n p word h w l i k = ap (λ x. bit x i) (h w l) ∙ bit-zero i
 pub gathered-more : (n : ℕ) (p : ℕ → Bool) (v at : ℕ) (old new : ℕ → ℕ) → at ≡ v % wordCount n → Gathered n p v old
     → ((i : ℕ) → i < 64 → bit (new at) i ≡ (bit (old at) i || p (64 * v + i)))
     → ((w : ℕ) → w < wordCount n → (w ≡ at → ⊥) → new w ≡ old w) → Gathered n p (v + 1) new
-gathered-more n p v at old new place g here others w l i k =
+gathered-more n p v at old new word-is g here others w l i k =
     go (ℕ-discrete w at) ∙ sym (ap (λ c. someBelow c falls) (add-one v) ∙ some-more v falls)
   where
     falls : ℕ → Bool
@@ -142,10 +142,10 @@ gathered-more n p v at old new place g here others w l i k =
     go : Dec (w ≡ at) → bit (new w) i ≡ (someBelow v falls || falls v)
     go (yes e) =
         ap (λ y. bit (new y) i) e ∙ here i k ∙ ap (λ y. bit (old y) i || p (64 * v + i)) (sym e)
-        ∙ ap₂ _||_ (g w l i k) (sym (ap (λ b. b && p (64 * v + i)) (eq-eqb (v % wordCount n) w (sym (e ∙ place)))))
+        ∙ ap₂ _||_ (g w l i k) (sym (ap (λ b. b && p (64 * v + i)) (eq-eqb (v % wordCount n) w (sym (e ∙ word-is)))))
     go (no apart) =
         ap (λ y. bit y i) (others w l apart) ∙ g w l i k
-        ∙ sym (ap (λ b. someBelow v falls || (b && p (64 * v + i))) (ne-eqb (v % wordCount n) w (λ q. apart (sym (place ∙ q)))) ∙ or-false (someBelow v falls))
+        ∙ sym (ap (λ b. someBelow v falls || (b && p (64 * v + i))) (ne-eqb (v % wordCount n) w (λ q. apart (sym (word-is ∙ q)))) ∙ or-false (someBelow v falls))
 
 -- the choice of a word that a gathered bit stands for, and back
 gathered-found : (n : ℕ) (p : ℕ → Bool) (v w i : ℕ) → T (someBelow v (λ u. eqb (u % wordCount n) w && p (64 * u + i)))

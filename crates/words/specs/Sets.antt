@@ -23,15 +23,15 @@ Words count word p = (w : ℕ) → w < count → (i : ℕ) → i < 64 → bit (w
 
 -- all clauses of a section pass in choice z
 unfoldable pub allPass : List ℕ → ℕ → ℕ → ℕ → ℕ → ℕ → ℕ → Bool
-allPass clauses start count n m leaf z = allClauses clauses (termValue n m leaf z) start count
+allPass clauses start count n m values z = allClauses clauses (termValue n m values z) start count
 
 -- the clause at byte `at` fails in choice z
 unfoldable pub clauseFails : List ℕ → ℕ → ℕ → ℕ → ℕ → ℕ → Bool
-clauseFails clauses at n m leaf z = not (clauseTest clauses (termValue n m leaf z) at)
+clauseFails clauses at n m values z = not (clauseTest clauses (termValue n m values z) at)
 
 -- all clauses of a section pass in choice z, and the clause at byte `at` fails
 unfoldable pub allPassBut : List ℕ → ℕ → ℕ → ℕ → ℕ → ℕ → ℕ → ℕ → Bool
-allPassBut clauses start count at n m leaf z = allPass clauses start count n m leaf z && clauseFails clauses at n m leaf z
+allPassBut clauses start count at n m values z = allPass clauses start count n m values z && clauseFails clauses at n m values z
 
 -- some choice of the m own variables passes the test p beside choice x of the n free ones
 unfoldable pub someOwn : ℕ → ℕ → (ℕ → Bool) → ℕ → Bool
@@ -47,6 +47,6 @@ Gathered n p v word =
     (w : ℕ) → w < wordCount n → (i : ℕ) → i < 64
     → bit (word w) i ≡ someBelow v (λ u. eqb (u % wordCount n) w && p (64 * u + i))
 
--- bit i of r is set where some bit of x is whose place has the same low n digits as i
+-- bit i of r is set where some bit of x is whose number has the same low n digits as i
 abbrev pub Merged : ℕ → ℕ → ℕ → Type 0
 Merged n x r = (i : ℕ) → i < 64 → bit r i ≡ someBelow 64 (λ j. eqb (j % 2 ^ n) (i % 2 ^ n) && bit x j)

@@ -7,12 +7,12 @@ use Rattle.shares.specs.Constant.{bit}
 use Rattle.words.specs.Clause.{position, termValue}
 
 -- bit i of the word x is the value of term t in choice 64 * w + i
-abbrev pub Right : ℕ → ℕ → ℕ → ℕ → ℕ → ℕ → Type 0
-Right n m leaf w t x = (i : ℕ) → i < 64 → bit x i ≡ termValue n m leaf (64 * w + i) t
+abbrev pub TermWord : ℕ → ℕ → ℕ → ℕ → ℕ → ℕ → Type 0
+TermWord n m values w t x = (i : ℕ) → i < 64 → bit x i ≡ termValue n m values (64 * w + i) t
 
 -- every term's word is right at word w
 abbrev pub Terms : ℕ → ℕ → ℕ → ℕ → List ℕ → Type 0
-Terms n m leaf w terms = (t : ℕ) → t < 64 → Right n m leaf w t (getD terms t 0)
+Terms n m values w terms = (t : ℕ) → t < 64 → TermWord n m values w t (getD terms t 0)
 
 -- bit i of the word x is the digit that variable t has in choice 64 * w + i
 abbrev pub Digits : ℕ → ℕ → ℕ → ℕ → ℕ → Type 0
@@ -24,6 +24,6 @@ pub record Changed (n m from w : ℕ) (old new : List ℕ) : Type 0 where
   pub kept : (t : ℕ) → (t < n + m → position n m t < from) → getD new t 0 ≡ getD old t 0
 
 -- the words from 32 are those of the constants, and every other word is as it was
-pub record ConstantWords (leaf : ℕ) (old new : List ℕ) : Type 0 where
-  pub set : (t : ℕ) → 32 ≤ t → t < 64 → (i : ℕ) → i < 64 → bit (getD new t 0) i ≡ bit leaf (t - 32)
+pub record ConstantWords (values : ℕ) (old new : List ℕ) : Type 0 where
+  pub set : (t : ℕ) → 32 ≤ t → t < 64 → (i : ℕ) → i < 64 → bit (getD new t 0) i ≡ bit values (t - 32)
   pub kept : (t : ℕ) → t < 32 → getD new t 0 ≡ getD old t 0

@@ -22,44 +22,44 @@ low-digit w v i p h l = here w ∙ sym (here v)
     here : (u : ℕ) → bit (64 * u + i) p ≡ bit i p
     here u = let e : 64 * u + i ≡ u * 2 ^ 6 + i = omega arith in ap (λ z. bit z p) e ∙ bit-low 6 u i h p l
 
-pub terms-started : (n m leaf : ℕ) (zero first last : List ℕ) → n + m ≤ 12 → ((t : ℕ) → t < 32 → getD zero t 0 ≡ 0)
-    → ConstantWords leaf zero first → Changed n m 0 0 first last → Terms n m leaf 0 last
-terms-started n m leaf zero first last h none c v t l i k = go (decLt t (n + m)) (decLt t 32)
+pub terms-started : (n m values : ℕ) (zero first last : List ℕ) → n + m ≤ 12 → ((t : ℕ) → t < 32 → getD zero t 0 ≡ 0)
+    → ConstantWords values zero first → Changed n m 0 0 first last → Terms n m values 0 last
+terms-started n m values zero first last h none c v t l i k = go (decLt t (n + m)) (decLt t 32)
   where
-    go : Dec (t < n + m) → Dec (t < 32) → bit (getD last t 0) i ≡ termValue n m leaf (64 * 0 + i) t
-    go (yes a) d = v .set t a (omega arith) i k ∙ sym (value-variable n m leaf (64 * 0 + i) t a)
+    go : Dec (t < n + m) → Dec (t < 32) → bit (getD last t 0) i ≡ termValue n m values (64 * 0 + i) t
+    go (yes a) d = v .set t a (omega arith) i k ∙ sym (value-variable n m values (64 * 0 + i) t a)
     go (no a) (yes b) =
         ap (λ x. bit x i) (v .kept t (λ q. absurd (a q)) ∙ c .kept t b ∙ none t b) ∙ bit-zero i
-        ∙ sym (value-none n m leaf (64 * 0 + i) t (omega arith) b)
+        ∙ sym (value-none n m values (64 * 0 + i) t (omega arith) b)
     go (no a) (no b) =
         ap (λ x. bit x i) (v .kept t (λ q. absurd (a q))) ∙ c .set t (omega arith) l i k
-        ∙ sym (value-constant n m leaf (64 * 0 + i) t (omega arith) (omega arith))
+        ∙ sym (value-constant n m values (64 * 0 + i) t (omega arith) (omega arith))
 
-pub terms-moved : (n m w : ℕ) (old new : List ℕ) → Changed n m 6 w old new → (leaf v : ℕ) → Terms n m leaf v old → Terms n m leaf w new
-terms-moved n m w old new c leaf v r t l i k = go (decLt t (n + m)) (decLe 6 (position n m t))
+pub terms-moved : (n m w : ℕ) (old new : List ℕ) → Changed n m 6 w old new → (values v : ℕ) → Terms n m values v old → Terms n m values w new
+terms-moved n m w old new c values v r t l i k = go (decLt t (n + m)) (decLe 6 (position n m t))
   where
-    go : Dec (t < n + m) → Dec (6 ≤ position n m t) → bit (getD new t 0) i ≡ termValue n m leaf (64 * w + i) t
-    go (yes a) (yes b) = c .set t a b i k ∙ sym (value-variable n m leaf (64 * w + i) t a)
+    go : Dec (t < n + m) → Dec (6 ≤ position n m t) → bit (getD new t 0) i ≡ termValue n m values (64 * w + i) t
+    go (yes a) (yes b) = c .set t a b i k ∙ sym (value-variable n m values (64 * w + i) t a)
     go (yes a) (no b) =
-        ap (λ x. bit x i) (c .kept t (λ q. omega arith)) ∙ r t l i k ∙ value-variable n m leaf (64 * v + i) t a
-        ∙ low-digit v w i (position n m t) k (omega arith) ∙ sym (value-variable n m leaf (64 * w + i) t a)
+        ap (λ x. bit x i) (c .kept t (λ q. omega arith)) ∙ r t l i k ∙ value-variable n m values (64 * v + i) t a
+        ∙ low-digit v w i (position n m t) k (omega arith) ∙ sym (value-variable n m values (64 * w + i) t a)
     go (no a) d =
-        ap (λ x. bit x i) (c .kept t (λ q. absurd (a q))) ∙ r t l i k ∙ value-fixed n m leaf (64 * v + i) (64 * w + i) t (omega arith)
+        ap (λ x. bit x i) (c .kept t (λ q. absurd (a q))) ∙ r t l i k ∙ value-fixed n m values (64 * v + i) (64 * w + i) t (omega arith)
 
 -- ---- clauses over a right table
 
-module _ (n m leaf w : ℕ) (terms clauses : List ℕ) (right : Terms n m leaf w terms) where
+module _ (n m values w : ℕ) (terms clauses : List ℕ) (right : Terms n m values w terms) where
   pub table-clause : (at : ℕ) → Clauses clauses at 1 → (i : ℕ) → i < 64
-      → clauseTest clauses (λ t. bit (getD terms t 0) i) at ≡ clauseTest clauses (termValue n m leaf (64 * w + i)) at
-  table-clause at c i h = clause-ext (λ t. bit (getD terms t 0) i) (termValue n m leaf (64 * w + i)) c (λ t l. right t l i h)
+      → clauseTest clauses (λ t. bit (getD terms t 0) i) at ≡ clauseTest clauses (termValue n m values (64 * w + i)) at
+  table-clause at c i h = clause-ext (λ t. bit (getD terms t 0) i) (termValue n m values (64 * w + i)) c (λ t l. right t l i h)
 
   pub table-section : (start count : ℕ) → Clauses clauses start count → (i : ℕ) → i < 64
-      → allClauses clauses (λ t. bit (getD terms t 0) i) start count ≡ allPass clauses start count n m leaf (64 * w + i)
+      → allClauses clauses (λ t. bit (getD terms t 0) i) start count ≡ allPass clauses start count n m values (64 * w + i)
   unfolding allPass
-  table-section start count c i h = section-ext (λ t. bit (getD terms t 0) i) (termValue n m leaf (64 * w + i)) c (λ t l. right t l i h)
+  table-section start count c i h = section-ext (λ t. bit (getD terms t 0) i) (termValue n m values (64 * w + i)) c (λ t l. right t l i h)
 
   pub table-but : (start count at : ℕ) → Clauses clauses start count → Clauses clauses at 1 → (i : ℕ) → i < 64
       → (allClauses clauses (λ t. bit (getD terms t 0) i) start count && not (clauseTest clauses (λ t. bit (getD terms t 0) i) at))
-      ≡ allPassBut clauses start count at n m leaf (64 * w + i)
+      ≡ allPassBut clauses start count at n m values (64 * w + i)
   unfolding allPassBut clauseFails
   table-but start count at c d i h = ap₂ _&&_ (table-section start count c i h) (ap not (table-clause at d i h))

@@ -38,62 +38,62 @@ position-back n m t h = go (decLt t n)
 
 -- ---- a term's value by its kind
 
-module _ (n m leaf z t : ℕ) where
-  pub value-variable : t < n + m → termValue n m leaf z t ≡ bit z (position n m t)
+module _ (n m values z t : ℕ) where
+  pub value-variable : t < n + m → termValue n m values z t ≡ bit z (position n m t)
   unfolding termValue
   value-variable h = rw (lt-ltb t (n + m) h)
 
-  pub value-constant : n + m ≤ t → 32 ≤ t → termValue n m leaf z t ≡ bit leaf (t - 32)
+  pub value-constant : n + m ≤ t → 32 ≤ t → termValue n m values z t ≡ bit values (t - 32)
   unfolding termValue
   value-constant h k = rw (le-ltb t (n + m) h, le-ltb t 32 k)
 
-  pub value-none : n + m ≤ t → t < 32 → termValue n m leaf z t ≡ false
+  pub value-none : n + m ≤ t → t < 32 → termValue n m values z t ≡ false
   unfolding termValue
   value-none h k = rw (le-ltb t (n + m) h, lt-ltb t 32 k)
 
 -- no constant depends on the choice
-pub value-fixed : (n m leaf z z′ t : ℕ) → n + m ≤ t → termValue n m leaf z t ≡ termValue n m leaf z′ t
+pub value-fixed : (n m values z z′ t : ℕ) → n + m ≤ t → termValue n m values z t ≡ termValue n m values z′ t
 unfolding termValue
-value-fixed n m leaf z z′ t h = rw (le-ltb t (n + m) h)
+value-fixed n m values z z′ t h = rw (le-ltb t (n + m) h)
 
 -- ---- a choice is a free choice x and an own choice y
 
-module _ (n m leaf y x : ℕ) (h : x < 2 ^ n) where
-  pub value-free : (t : ℕ) → t < n → termValue n m leaf (y * 2 ^ n + x) t ≡ bit x (n - 1 - t)
+module _ (n m values y x : ℕ) (h : x < 2 ^ n) where
+  pub value-free : (t : ℕ) → t < n → termValue n m values (y * 2 ^ n + x) t ≡ bit x (n - 1 - t)
   value-free t l =
-      value-variable n m leaf (y * 2 ^ n + x) t (omega arith)
+      value-variable n m values (y * 2 ^ n + x) t (omega arith)
       ∙ ap (bit (y * 2 ^ n + x)) (position-free n m t l) ∙ bit-low n y x h (n - 1 - t) (omega arith)
 
-  pub value-own : (u : ℕ) → u < m → termValue n m leaf (y * 2 ^ n + x) (n + u) ≡ bit y (m - 1 - u)
+  pub value-own : (u : ℕ) → u < m → termValue n m values (y * 2 ^ n + x) (n + u) ≡ bit y (m - 1 - u)
   value-own u l =
       let e : 2 * n + m - 1 - (n + u) ≡ n + (m - 1 - u) = omega arith in
-      value-variable n m leaf (y * 2 ^ n + x) (n + u) (omega arith)
+      value-variable n m values (y * 2 ^ n + x) (n + u) (omega arith)
       ∙ ap (bit (y * 2 ^ n + x)) (position-own n m (n + u) (omega arith) ∙ e) ∙ bit-high n y x h (m - 1 - u)
 
 -- ---- only the low n + m digits of a choice count
 
-module _ (n m leaf z : ℕ) where
-  value-mod : (t : ℕ) → termValue n m leaf z t ≡ termValue n m leaf (z % 2 ^ (n + m)) t
+module _ (n m values z : ℕ) where
+  value-mod : (t : ℕ) → termValue n m values z t ≡ termValue n m values (z % 2 ^ (n + m)) t
   value-mod t = go (decLt t (n + m))
     where
-      go : Dec (t < n + m) → termValue n m leaf z t ≡ termValue n m leaf (z % 2 ^ (n + m)) t
+      go : Dec (t < n + m) → termValue n m values z t ≡ termValue n m values (z % 2 ^ (n + m)) t
       go (yes l) =
-          value-variable n m leaf z t l ∙ sym (bit-mod z (n + m) (position n m t) (position-lt n m t l))
-          ∙ sym (value-variable n m leaf (z % 2 ^ (n + m)) t l)
-      go (no g) = value-fixed n m leaf z (z % 2 ^ (n + m)) t (omega arith)
+          value-variable n m values z t l ∙ sym (bit-mod z (n + m) (position n m t) (position-lt n m t l))
+          ∙ sym (value-variable n m values (z % 2 ^ (n + m)) t l)
+      go (no g) = value-fixed n m values z (z % 2 ^ (n + m)) t (omega arith)
 
-  pub values-mod : termValue n m leaf z ≡ termValue n m leaf (z % 2 ^ (n + m))
+  pub values-mod : termValue n m values z ≡ termValue n m values (z % 2 ^ (n + m))
   values-mod = fun-ext value-mod
 
-  pub pass-mod : (clauses : List ℕ) (start count : ℕ) → allPass clauses start count n m leaf z ≡ allPass clauses start count n m leaf (z % 2 ^ (n + m))
+  pub pass-mod : (clauses : List ℕ) (start count : ℕ) → allPass clauses start count n m values z ≡ allPass clauses start count n m values (z % 2 ^ (n + m))
   unfolding allPass
   pass-mod clauses start count = ap (λ x. allClauses clauses x start count) values-mod
 
-  pub fails-mod : (clauses : List ℕ) (at : ℕ) → clauseFails clauses at n m leaf z ≡ clauseFails clauses at n m leaf (z % 2 ^ (n + m))
+  pub fails-mod : (clauses : List ℕ) (at : ℕ) → clauseFails clauses at n m values z ≡ clauseFails clauses at n m values (z % 2 ^ (n + m))
   unfolding clauseFails
   fails-mod clauses at = ap (λ x. not (clauseTest clauses x at)) values-mod
 
   pub but-mod : (clauses : List ℕ) (start count at : ℕ)
-      → allPassBut clauses start count at n m leaf z ≡ allPassBut clauses start count at n m leaf (z % 2 ^ (n + m))
+      → allPassBut clauses start count at n m values z ≡ allPassBut clauses start count at n m values (z % 2 ^ (n + m))
   unfolding allPassBut
   but-mod clauses start count at = ap₂ _&&_ (pass-mod clauses start count) (fails-mod clauses at)

@@ -9,7 +9,7 @@ ghost use Rattle.shares.specs.Constant.{bit};
 ghost use Rattle.shares.specs.Tree.{joins};
 ghost use Rattle.words.specs.Clause.{testValue, clauseTest, allClauses, position, Clauses};
 ghost use Rattle.words.specs.Sets.{wordCount, inSet, Words, allPass, clauseFails, allPassBut, someOwn, Gathered, Merged};
-ghost use Rattle.words.specs.Table.{Right, Terms, Changed, ConstantWords};
+ghost use Rattle.words.specs.Table.{TermWord, Terms, Changed, ConstantWords};
 
 // Bit i of the result is the test of a join at the bits i of a, b and c.
 fn join_word(a: u64, b: u64, c: u64) -> u64
@@ -80,15 +80,15 @@ fn section_word(terms: &[u64; 64], clauses: &[u8; 768], start: usize, count: usi
     r
 }
 
-// The values at leaf number `place` of the constants, constant i at bit i.
-pub fn leaf_values(constants: &[u64; 32], count: usize, place: usize) -> u64
-    requires { ⌜ (count ≤ 32) × (place < 64) ⌝ }
-    ensures { λ r. ⌜ ((i : ℕ) → bit r i ≡ (ltb i count && bit (getD (now (constants .entry)) i 0) place)) ⌝ }
+// The values at leaf number `leaf` of the constants, constant i at bit i.
+pub fn leaf_values(constants: &[u64; 32], count: usize, leaf: usize) -> u64
+    requires { ⌜ (count ≤ 32) × (leaf < 64) ⌝ }
+    ensures { λ r. ⌜ ((i : ℕ) → bit r i ≡ (ltb i count && bit (getD (now (constants .entry)) i 0) leaf)) ⌝ }
 {
     let mut r: u64 = 0;
     let mut i: usize = 0;
     while i < count {
-        r = r | (((constants[i] >> place) & 1) << i);
+        r = r | (((constants[i] >> leaf) & 1) << i);
         i += 1;
     }
     r
@@ -131,9 +131,9 @@ fn digit_word(p: usize, w: usize) -> u64
 }
 
 // The word at w of the term whose number is byte `at`, where there are no own variables.
-fn value_word(clauses: &[u8; 768], at: usize, n: usize, leaf: u64, w: usize) -> u64
+fn value_word(clauses: &[u8; 768], at: usize, n: usize, values: u64, w: usize) -> u64
     requires { ⌜ (n ≤ 12) × (at < 768) × (getD (now clauses) at 0 < 64) ⌝ }
-    ensures { λ r. ⌜ Right n 0 leaf w (getD (now (clauses .entry)) at 0) r ⌝ }
+    ensures { λ r. ⌜ TermWord n 0 values w (getD (now (clauses .entry)) at 0) r ⌝ }
 {
     let t = wide(clauses[at]);
     if t < n {
@@ -142,11 +142,11 @@ fn value_word(clauses: &[u8; 768], at: usize, n: usize, leaf: u64, w: usize) -> 
     if t < 32 {
         return 0;
     }
-    spread(digit(leaf, t - 32))
+    spread(digit(values, t - 32))
 }
 
 // The digit that a variable has, and the variable that has a digit.
-fn place_of(n: usize, m: usize, t: usize) -> usize
+fn position_of(n: usize, m: usize, t: usize) -> usize
     requires { ⌜ (n + m ≤ 12) × (t < n + m) ⌝ }
     ensures { λ r. ⌜ r ≡ position n m t ⌝ }
 {
@@ -157,16 +157,16 @@ fn place_of(n: usize, m: usize, t: usize) -> usize
 }
 
 // Puts the words of the constants into a table that is empty there, from term 32 to the last that is not 0.
-fn set_constants(leaf: u64, terms: &mut [u64])
+fn set_constants(values: u64, terms: &mut [u64])
     requires { ⌜ (length (now terms) ≡ 64) × ((t : ℕ) → 32 ≤ t → t < 64 → getD (now terms) t 0 ≡ 0) ⌝ }
-    ensures { λ r. ⌜ ConstantWords leaf (now (terms .entry)) (now (terms .exit)) ⌝ }
+    ensures { λ r. ⌜ ConstantWords values (now (terms .entry)) (now (terms .exit)) ⌝ }
 {
     let mut t: usize = 32;
     while t < 64 {
-        if leaf >> (t - 32) == 0 {
+        if values >> (t - 32) == 0 {
             return;
         }
-        terms[t] = spread(digit(leaf, t - 32));
+        terms[t] = spread(digit(values, t - 32));
         t += 1;
     }
 }
@@ -178,25 +178,25 @@ fn set_variables(n: usize, m: usize, from: usize, w: usize, terms: &mut [u64])
 {
     let mut p = from;
     while p < n + m {
-        let t = place_of(n, m, p);
+        let t = position_of(n, m, p);
         terms[t] = digit_word(p, w);
         p += 1;
     }
 }
 
 // Makes the table of terms at word 0 of a table that is empty.
-fn start_terms(n: usize, m: usize, leaf: u64, terms: &mut [u64])
+fn start_terms(n: usize, m: usize, values: u64, terms: &mut [u64])
     requires { ⌜ (n + m ≤ 12) × (length (now terms) ≡ 64) × ((t : ℕ) → t < 64 → getD (now terms) t 0 ≡ 0) ⌝ }
-    ensures { λ r. ⌜ Terms n m leaf 0 (now (terms .exit)) ⌝ }
+    ensures { λ r. ⌜ Terms n m values 0 (now (terms .exit)) ⌝ }
 {
-    set_constants(leaf, terms);
+    set_constants(values, terms);
     set_variables(n, m, 0, 0, terms);
 }
 
 // Takes the table of terms from any word to word w: only the digits above the sixth change.
 fn move_terms(n: usize, m: usize, w: usize, terms: &mut [u64])
     requires { ⌜ (n + m ≤ 12) × (length (now terms) ≡ 64) ⌝ }
-    ensures { λ r. ⌜ ((leaf v : ℕ) → Terms n m leaf v (now (terms .entry)) → Terms n m leaf w (now (terms .exit))) ⌝ }
+    ensures { λ r. ⌜ ((values v : ℕ) → Terms n m values v (now (terms .entry)) → Terms n m values w (now (terms .exit))) ⌝ }
 {
     set_variables(n, m, 6, w, terms);
 }
@@ -209,7 +209,7 @@ fn word_at(set: &[u64; 64], w: usize) -> u64
     set[w]
 }
 
-// The place of the lowest bit of x that is set, or 64.
+// The number of the lowest bit of x that is set, or 64.
 pub fn lowest(x: u64) -> usize
     ensures { λ r. ⌜ r ≡ firstBelow 64 (bit x) ⌝ }
 {
@@ -254,14 +254,14 @@ pub fn remove(set: &mut [u64], other: &[u64; 64], count: usize)
 }
 
 // The choices of word w in which the clause at byte `at` fails, where there are no own variables.
-fn fails_word(clauses: &[u8; 768], at: usize, n: usize, leaf: u64, w: usize) -> u64
+fn fails_word(clauses: &[u8; 768], at: usize, n: usize, values: u64, w: usize) -> u64
     requires { ⌜ n ≤ 12 ⌝ }
     requires { ⌜ Clauses (now clauses) at 1 ⌝ }
-    ensures { λ r. ⌜ ((i : ℕ) → i < 64 → bit r i ≡ clauseFails (now (clauses .entry)) at n 0 leaf (64 * w + i)) ⌝ }
+    ensures { λ r. ⌜ ((i : ℕ) → i < 64 → bit r i ≡ clauseFails (now (clauses .entry)) at n 0 values (64 * w + i)) ⌝ }
 {
-    let a = value_word(clauses, at + 1, n, leaf, w);
-    let b = value_word(clauses, at + 2, n, leaf, w);
-    let c = value_word(clauses, at + 3, n, leaf, w);
+    let a = value_word(clauses, at + 1, n, values, w);
+    let b = value_word(clauses, at + 2, n, values, w);
+    let c = value_word(clauses, at + 3, n, values, w);
     !test_word(clauses[at], a, b, c)
 }
 
@@ -271,14 +271,14 @@ pub fn failing_word(
     clauses: &[u8; 768],
     at: usize,
     n: usize,
-    leaf: u64,
+    values: u64,
     w: usize,
 ) -> u64
     requires { ⌜ (w < 64) × (n ≤ 12) ⌝ }
     requires { ⌜ Clauses (now clauses) at 1 ⌝ }
-    ensures { λ r. ⌜ ((i : ℕ) → i < 64 → bit r i ≡ (inSet (now (set .entry)) (64 * w + i) && clauseFails (now (clauses .entry)) at n 0 leaf (64 * w + i))) ⌝ }
+    ensures { λ r. ⌜ ((i : ℕ) → i < 64 → bit r i ≡ (inSet (now (set .entry)) (64 * w + i) && clauseFails (now (clauses .entry)) at n 0 values (64 * w + i))) ⌝ }
 {
-    word_at(set, w) & fails_word(clauses, at, n, leaf, w)
+    word_at(set, w) & fails_word(clauses, at, n, values, w)
 }
 
 // How many words hold 2^d choices.
@@ -292,7 +292,7 @@ pub fn word_count(d: usize) -> usize
     1 << (d - 6)
 }
 
-// The word turned by k places: bit i of the result is bit i + k of x, counted round.
+// The word turned by k bits: bit i of the result is bit i + k of x, counted round.
 fn turned(x: u64, k: usize) -> u64
     requires { ⌜ (0 < k) × (k < 64) ⌝ }
     ensures { λ r. ⌜ ((i : ℕ) → i < 64 → bit r i ≡ bit x ((i + k) % 64)) ⌝ }
@@ -300,7 +300,7 @@ fn turned(x: u64, k: usize) -> u64
     (x >> k) | (x << (64 - k))
 }
 
-// The word or-ed with itself under each digit from n: the places with the same low n digits become equal.
+// The word or-ed with itself under each digit from n: the bits with the same low n digits become equal.
 fn merge_word(x: u64, n: usize) -> u64
     ensures { λ r. ⌜ Merged n x r ⌝ }
 {
@@ -424,7 +424,7 @@ fn gather(
     rows: usize,
     n: usize,
     m: usize,
-    leaf: u64,
+    values: u64,
     meets: &mut [u64],
     with: &mut [u64],
 )
@@ -433,14 +433,14 @@ fn gather(
     requires { ⌜ Clauses (now clauses) from rows ⌝ }
     requires { ⌜ ((w : ℕ) → w < wordCount n → getD (now meets) w 0 ≡ 0) ⌝ }
     requires { ⌜ ((j : ℕ) → j < rows → (w : ℕ) → w < wordCount n → getD (now with) (64 * j + w) 0 ≡ 0) ⌝ }
-    ensures { λ r. ⌜ Gathered n (allPass (now (clauses .entry)) start count n m leaf) (wordCount (n + m)) (λ w. getD (now (meets .exit)) w 0) ⌝ }
-    ensures { λ r. ⌜ ((j : ℕ) → j < rows → Gathered n (allPassBut (now (clauses .entry)) start count (from + 4 * j) n m leaf) (wordCount (n + m)) (λ w. getD (now (with .exit)) (64 * j + w) 0)) ⌝ }
+    ensures { λ r. ⌜ Gathered n (allPass (now (clauses .entry)) start count n m values) (wordCount (n + m)) (λ w. getD (now (meets .exit)) w 0) ⌝ }
+    ensures { λ r. ⌜ ((j : ℕ) → j < rows → Gathered n (allPassBut (now (clauses .entry)) start count (from + 4 * j) n m values) (wordCount (n + m)) (λ w. getD (now (with .exit)) (64 * j + w) 0)) ⌝ }
     ensures { λ r. ⌜ ((w : ℕ) → wordCount n ≤ w → getD (now (meets .exit)) w 0 ≡ getD (now (meets .entry)) w 0) ⌝ }
 {
     let words = word_count(n);
     let total = word_count(n + m);
     let mut terms = [0u64; 64];
-    start_terms(n, m, leaf, &mut terms);
+    start_terms(n, m, values, &mut terms);
     let mut v: usize = 0;
     while v < total {
         move_terms(n, m, v, &mut terms);
@@ -469,21 +469,21 @@ pub fn fill_sets(
     rows: usize,
     n: usize,
     m: usize,
-    leaf: u64,
+    values: u64,
     meets: &mut [u64],
     with: &mut [u64],
 )
     requires { ⌜ (n + m ≤ 12) × (length (now meets) ≡ 64) × (64 * rows ≤ length (now with)) ⌝ }
     requires { ⌜ Clauses (now clauses) start count ⌝ }
     requires { ⌜ Clauses (now clauses) from rows ⌝ }
-    ensures { λ r. ⌜ Words (wordCount n) (λ w. getD (now (meets .exit)) w 0) (λ z. someOwn n m (allPass (now (clauses .entry)) start count n m leaf) (z % 2 ^ n)) ⌝ }
+    ensures { λ r. ⌜ Words (wordCount n) (λ w. getD (now (meets .exit)) w 0) (λ z. someOwn n m (allPass (now (clauses .entry)) start count n m values) (z % 2 ^ n)) ⌝ }
     ensures { λ r. ⌜ ((w : ℕ) → wordCount n ≤ w → getD (now (meets .exit)) w 0 ≡ getD (now (meets .entry)) w 0) ⌝ }
-    ensures { λ r. ⌜ ((j : ℕ) → j < rows → Words (wordCount n) (λ w. getD (now (with .exit)) (64 * j + w) 0) (λ z. someOwn n m (allPassBut (now (clauses .entry)) start count (from + 4 * j) n m leaf) (z % 2 ^ n))) ⌝ }
+    ensures { λ r. ⌜ ((j : ℕ) → j < rows → Words (wordCount n) (λ w. getD (now (with .exit)) (64 * j + w) 0) (λ z. someOwn n m (allPassBut (now (clauses .entry)) start count (from + 4 * j) n m values) (z % 2 ^ n))) ⌝ }
 {
     let words = word_count(n);
     clear(meets, 0, words);
     clear_rows(with, rows, words);
-    gather(clauses, start, count, from, rows, n, m, leaf, meets, with);
+    gather(clauses, start, count, from, rows, n, m, values, meets, with);
     merge_rows(meets, 1, n);
     merge_rows(with, rows, n);
 }
@@ -495,16 +495,16 @@ pub fn fill_meets(
     count: usize,
     n: usize,
     m: usize,
-    leaf: u64,
+    values: u64,
     out: &mut [u64; 64],
 )
     requires { ⌜ n + m ≤ 12 ⌝ }
     requires { ⌜ Clauses (now clauses) start count ⌝ }
-    ensures { λ r. ⌜ Words (wordCount n) (λ w. getD (now (out .exit)) w 0) (λ z. someOwn n m (allPass (now (clauses .entry)) start count n m leaf) (z % 2 ^ n)) ⌝ }
+    ensures { λ r. ⌜ Words (wordCount n) (λ w. getD (now (out .exit)) w 0) (λ z. someOwn n m (allPass (now (clauses .entry)) start count n m values) (z % 2 ^ n)) ⌝ }
     ensures { λ r. ⌜ ((w : ℕ) → wordCount n ≤ w → getD (now (out .exit)) w 0 ≡ getD (now (out .entry)) w 0) ⌝ }
 {
     let mut none = [0u64; 1];
-    fill_sets(clauses, start, count, 0, 0, n, m, leaf, out, &mut none);
+    fill_sets(clauses, start, count, 0, 0, n, m, values, out, &mut none);
 }
 
 // The set of the choices in which all clauses of a section pass, where there are no own variables.
@@ -513,13 +513,13 @@ pub fn fill_set(
     start: usize,
     count: usize,
     n: usize,
-    leaf: u64,
+    values: u64,
     out: &mut [u64; 64],
 )
     requires { ⌜ n ≤ 12 ⌝ }
     requires { ⌜ Clauses (now clauses) start count ⌝ }
-    ensures { λ r. ⌜ Words (wordCount n) (λ w. getD (now (out .exit)) w 0) (allPass (now (clauses .entry)) start count n 0 leaf) ⌝ }
+    ensures { λ r. ⌜ Words (wordCount n) (λ w. getD (now (out .exit)) w 0) (allPass (now (clauses .entry)) start count n 0 values) ⌝ }
     ensures { λ r. ⌜ ((w : ℕ) → wordCount n ≤ w → getD (now (out .exit)) w 0 ≡ getD (now (out .entry)) w 0) ⌝ }
 {
-    fill_meets(clauses, start, count, n, 0, leaf, out);
+    fill_meets(clauses, start, count, n, 0, values, out);
 }

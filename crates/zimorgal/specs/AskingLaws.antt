@@ -20,7 +20,7 @@ use Rattle.questions.specs.FormatLaws.{longest, Limited, accepted-formed, accep
 use Rattle.questions.specs.declared.Section.the-variants.{FirstDisequation, SecondDisequation}
 use Rattle.show.specs.Rows.{answerBytes}
 use Rattle.zimorgal.specs.Asking.{workBytes, Asked, turnedAway, answered, lentTo, asked, outcomeOf, zeros}
-use Rattle.zimorgal.specs.Packing.{Fits}
+use Rattle.zimorgal.specs.Packing.{InBytes}
 
 -- ---- the cases
 
@@ -122,7 +122,7 @@ reason-low unmet = omega arith
 reason-low (missed j) = omega arith
 
 -- every result fits its bytes
-refusal-fits : (n place : ℕ) → n ≤ 12 → place ≤ longest → Fits (outcomeOf (turnedAway n place))
+refusal-fits : (n place : ℕ) → n ≤ 12 → place ≤ longest → InBytes (outcomeOf (turnedAway n place))
 refusal-fits n place l m = record {
   verdict = omega arith;
   refusal = omega arith;
@@ -132,7 +132,7 @@ refusal-fits n place l m = record {
   number = omega arith;
 }
 
-answer-fits : (q : Question) → WellFormed q → Limited q → Fits (outcomeOf (answered q))
+answer-fits : (q : Question) → WellFormed q → Limited q → InBytes (outcomeOf (answered q))
 answer-fits q F L = record {
   verdict = omega (arith, verdict-low (decide q));
   refusal = omega arith;
@@ -142,14 +142,14 @@ answer-fits q F L = record {
   number = omega (arith, number-low q F L (decide q) (exact q F (decide q) .1 refl .1));
 }
 
-pub outcome-fits : (s : List ℕ) (a w : ℕ) → Fits (outcomeOf (asked s a w))
+pub outcome-fits : (s : List ℕ) (a w : ℕ) → InBytes (outcomeOf (asked s a w))
 unfolding asked
 outcome-fits s a w = go (read s) refl
   where
     M : Asked → Type 0
-    M g = Fits (outcomeOf g)
+    M g = InBytes (outcomeOf g)
 
-    go : (o : Result) → read s ≡ o → Fits (outcomeOf (lentTo o a w))
+    go : (o : Result) → read s ≡ o → InBytes (outcomeOf (lentTo o a w))
     go (refused n place) h = refusal-fits n place (omega (arith, refusal-number s n place h)) (refusal-place s n place h)
     go (accepted q) h =
         cond-law M (ltb a answerBytes) _ _ (λ _. refusal-fits 11 0 (omega arith) (omega arith))

@@ -13,7 +13,7 @@ use Rattle.shares.specs.BitLaws.{bits-same}
 use Rattle.shares.specs.Answer.{joinOf}
 use Rattle.shares.specs.declared.Joined.{Joined}
 use Rattle.shares.specs.declared.Joined.the-variants.{Constant}
-use Rattle.show.specs.Texts.{lengthOf, refusalOf, textAnswer}
+use Rattle.show.specs.Texts.{textLength, textRefusal, textAnswer}
 use Rattle.show.specs.TextLaws.{answer-length}
 use Rattle.show.specs.declared.Written.{Written}
 use Rattle.show.specs.declared.Written.the-variants.{Length, Refused}
@@ -21,8 +21,8 @@ use Rattle.zimorgal.specs.Calls.{textNumber, undefinedJoin, numberJoin}
 
 -- the length and the refusal number of the text call
 pub text-reads-back : (row buffer : List ℕ)
-    → (textNumber (textAnswer row buffer) % 2 ^ 32 ≡ lengthOf (textAnswer row buffer))
-    × (textNumber (textAnswer row buffer) / 2 ^ 32 ≡ refusalOf (textAnswer row buffer))
+    → (textNumber (textAnswer row buffer) % 2 ^ 32 ≡ textLength (textAnswer row buffer))
+    × (textNumber (textAnswer row buffer) / 2 ^ 32 ≡ textRefusal (textAnswer row buffer))
 text-reads-back row buffer = (omega (arith, answer-length row buffer), omega (arith, answer-length row buffer))
 
 not-both : (t : Tree) → none ≡ some t → ⊥

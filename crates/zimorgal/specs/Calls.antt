@@ -5,12 +5,12 @@ use Prim.Native.Nat.{ℕ, _+_, _*_, _^_}
 use lib.Dec.{eqb}
 use Rattle.shares.specs.Tree.{Tree}
 use Rattle.shares.specs.Constant.{constant}
-use Rattle.show.specs.Texts.{lengthOf, refusalOf}
+use Rattle.show.specs.Texts.{textLength, textRefusal}
 use Rattle.show.specs.declared.Written.{Written}
 
 -- a text's length in the low 32 bits, the refusal number in the byte after them
 abbrev pub textNumber : Written → ℕ
-textNumber w = lengthOf w + 2 ^ 32 * refusalOf w
+textNumber w = textLength w + 2 ^ 32 * textRefusal w
 
 -- a number that is no join
 abbrev pub undefinedJoin : ℕ

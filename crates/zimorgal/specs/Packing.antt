@@ -18,7 +18,7 @@ unpacked n = record {
 }
 
 -- each field fits its bytes
-pub record Fits (o : Outcome) : Type 0 where
+pub record InBytes (o : Outcome) : Type 0 where
   pub verdict : o .verdict < 2 ^ 8
   pub refusal : o .refusal < 2 ^ 8
   pub place : o .place < 2 ^ 16

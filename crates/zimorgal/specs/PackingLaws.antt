@@ -3,9 +3,9 @@ use mathlib.Core.Path.{_≡_}
 use Prim.Native.Nat.{_/_, _%_, _^_, _<_}
 use native.Mathlib.Omega.{arith}
 use Rattle.zimorgal.specs.declared.Outcome.{Outcome}
-use Rattle.zimorgal.specs.Packing.{packed, unpacked, Fits}
+use Rattle.zimorgal.specs.Packing.{packed, unpacked, InBytes}
 
-module _ (o : Outcome) (f : Fits o) where
+module _ (o : Outcome) (f : InBytes o) where
   -- the eighth byte is 0
   pub packed-fits : packed o < 2 ^ 56
   packed-fits = omega arith

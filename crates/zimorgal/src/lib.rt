@@ -13,12 +13,12 @@ ghost use Rattle.shares.specs.Constant.{constant};
 ghost use Rattle.shares.specs.Answer.{joinOf};
 ghost use Rattle.systems.specs.Questions as model;
 ghost use Rattle.systems.specs.Answers.{shows};
-ghost use Rattle.show.specs.Rows.{rowCount, answerBytes, rowPart, rowPlace};
+ghost use Rattle.show.specs.Rows.{rowCount, answerBytes, rowPart, rowRange};
 ghost use Rattle.show.specs.Plans.{Showable, shownAnswer};
 ghost use Rattle.show.specs.Texts.{textAnswer, textAfter};
 ghost use Rattle.decide.specs.Decision.{answerOf};
 ghost use Rattle.zimorgal.specs.Asking.{workBytes, answered, askedWith, refusalOutcome, answerOutcome, outcomeOf, zeros, answerAfter, workAfter};
-ghost use Rattle.zimorgal.specs.Packing.{packed, unpacked, Fits};
+ghost use Rattle.zimorgal.specs.Packing.{packed, unpacked, InBytes};
 ghost use Rattle.zimorgal.specs.Calls.{textNumber, undefinedJoin, numberJoin};
 ghost use Rattle.zimorgal.specs.Exact.{Exact};
 ghost use Rattle.zimorgal.specs.Demand3.{Demand3};
@@ -57,7 +57,7 @@ fn refused(refusal: u8, place: usize) -> Outcome
 }
 
 // The result of an answer.
-fn answered(verdict: u8, height: usize, reason: u8, number: usize) -> Outcome
+fn answer_outcome(verdict: u8, height: usize, reason: u8, number: usize) -> Outcome
     ensures { λ r. ⌜ r ≡ record { verdict = verdict; refusal = 0; place = 0; height = height; reason = reason; number = number } ⌝ }
 {
     Outcome {
@@ -75,12 +75,12 @@ fn outcome_of(finding: Finding, height: usize) -> Outcome
     ensures { λ r. ⌜ r ≡ answerOutcome (answerOf finding) height ⌝ }
 {
     match finding {
-        Finding::Satisfied => answered(1, height, 0, 0),
-        Finding::Unsatisfied => answered(2, height, 0, 0),
-        Finding::Vacuous => answered(1, height, 1, 0),
-        Finding::Entailed => answered(1, height, 0, 0),
-        Finding::Unmet => answered(2, height, 2, 0),
-        Finding::Missed(j) => answered(2, height, 3, j),
+        Finding::Satisfied => answer_outcome(1, height, 0, 0),
+        Finding::Unsatisfied => answer_outcome(2, height, 0, 0),
+        Finding::Vacuous => answer_outcome(1, height, 1, 0),
+        Finding::Entailed => answer_outcome(1, height, 0, 0),
+        Finding::Unmet => answer_outcome(2, height, 2, 0),
+        Finding::Missed(j) => answer_outcome(2, height, 3, j),
     }
 }
 
@@ -99,7 +99,7 @@ fn is_shown(finding: Finding) -> bool
 }
 
 // The height of the plan that is shown, 0 if none is.
-fn height_of(decision: Decision) -> usize
+fn height_given(decision: Decision) -> usize
     ensures { λ r. ⌜ r ≡ cond (shows (answerOf (decision .finding))) (decision .plan .high) 0 ⌝ }
 {
     let finding = decision.finding;
@@ -115,7 +115,7 @@ fn found(decision: Decision) -> Outcome
     ensures { λ r. ⌜ r ≡ answerOutcome (answerOf (decision .finding)) (cond (shows (answerOf (decision .finding))) (decision .plan .high) 0) ⌝ }
 {
     let finding = decision.finding;
-    let height = height_of(decision);
+    let height = height_given(decision);
     outcome_of(finding, height)
 }
 
@@ -135,7 +135,7 @@ fn show_solution(answer: &mut [u8], n: usize, decision: Decision)
 }
 
 // Sets the first bytes of the work area to zero.
-fn clear(work: &mut [u8])
+fn clear_work(work: &mut [u8])
     requires { ⌜ workBytes ≤ length (now work) ⌝ }
     ensures { λ _. ⌜ now (work .exit) ≡ zeros workBytes ++ drop workBytes (now (work .entry)) ⌝ }
 {
@@ -174,13 +174,13 @@ pub fn ask(question: &[u8], answer: &mut [u8], work: &mut [u8]) -> Outcome
         reading.own,
     );
     show_solution(answer, reading.free, decision);
-    clear(work);
+    clear_work(work);
     found(decision)
 }
 
 // The result as one number: each field is multiplied to its place.
 fn pack(outcome: Outcome) -> u64
-    requires { ⌜ Fits outcome ⌝ }
+    requires { ⌜ InBytes outcome ⌝ }
     ensures { λ r. ⌜ r ≡ packed outcome ⌝ }
 {
     let low = wide(outcome.verdict) + 256 * wide(outcome.refusal) + 65536 * (outcome.place as u64);
@@ -213,10 +213,10 @@ pub extern "C" fn zimorgal_ask(question: &[u8], answer: &mut [u8], work: &mut [u
 // Where the row of a variable lies in an answer buffer: the offset in the low 32 bits, the length in the high 32.
 #[no_mangle]
 pub extern "C" fn zimorgal_row(answer: &[u8], variable: usize) -> u64
-    ensures place { λ r. ⌜ r ≡ rowPlace (length (now (answer .entry))) variable ⌝ }
+    ensures place { λ r. ⌜ r ≡ rowRange (length (now (answer .entry))) variable ⌝ }
     ensures part { λ r. ⌜ take (r / 2 ^ 32) (drop (r % 2 ^ 32) (now (answer .entry))) ≡ rowPart (now (answer .entry)) variable ⌝ }
 {
-    show::row_place(answer.len(), variable)
+    show::row_range(answer.len(), variable)
 }
 
 // The text of a row: the length in the low 32 bits, the refusal number in the byte after them.

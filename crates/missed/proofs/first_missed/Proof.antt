@@ -10,10 +10,10 @@ use Rattle.missed.proofs.first_missed.Statement.{statement}
 use Rattle.missed.proofs.first_missed.Tie as tie
 
 abbrev Inv-loop : tie.InvT-loop
-Inv-loop alive met first second lowest₀ lowest = (k : ℕ) → k < lowest → isMissed alive met first k ≡ false
+Inv-loop possible met first second lowest₀ lowest = (k : ℕ) → k < lowest → isMissed possible met first k ≡ false
 
 abbrev μ-loop : tie.MeasureT-loop
-μ-loop alive met first second lowest₀ lowest = second - lowest
+μ-loop possible met first second lowest₀ lowest = second - lowest
 
 loop-holds : tie.Need-loop-holds Inv-loop μ-loop
 loop-holds c k l = absurd (omega arith)

@@ -1,7 +1,7 @@
 -- `plans::fill_leaf` meets its contract, by cases on the search. Assumes nothing.
 use native.Mathlib.Omega.{arith}
 use borrow.Author.Needs.{needs}
-use Rattle.plans.specs.LeafLaws.{sets-first, sets-stuck, sets-avoiding}
+use Rattle.plans.specs.LeafLaws.{sets-first, sets-unmet, sets-missed}
 use Rattle.plans.specs.Tests.{stored}
 use Rattle.plans.proofs.fill_leaf.Statement.{statement}
 use Rattle.plans.proofs.fill_leaf.Tie as tie
@@ -27,8 +27,8 @@ fill-meets-requires c κs = let s = c .before .before .before .before .before .b
 enum-known-search : tie.Need-enum-known-search
 enum-known-search c = search needs
 
-avoid-requires : tie.Need-avoid-requires
-avoid-requires c κs = let s = c .before .before .before .before .before .before .before in (s .pre .0, (rw (c .before .before .search .given .1) at (s .pre .1), search needs))
+keep-missed-requires : tie.Need-keep-missed-requires
+keep-missed-requires c κs = let s = c .before .before .before .before .before .before .before in (s .pre .0, (rw (c .before .before .search .given .1) at (s .pre .1), search needs))
 
 returns : tie.Need-returns
 returns c =
@@ -40,13 +40,13 @@ returns-2 : tie.Need-returns-2
 returns-2 c =
     let a = c .before .before .before .before .before .before .before .before .args in
     rw (c .before .before .before .enum-told2 .given .1)
-    (λ constants defined. sets-stuck (stored (a .clauses .now) (a .counts .now) constants defined (a .free) (a .own)) _ _ _ (c .before .before .before .before .before .before .before .count-of .ensures) (c .before .before .before .before .before .fill-set .ensures .0) _ _ (c .before .before .count-of2 .ensures) (c .fill-meets .ensures .0))
+    (λ constants defined. sets-unmet (stored (a .clauses .now) (a .counts .now) constants defined (a .free) (a .own)) _ _ _ (c .before .before .before .before .before .before .before .count-of .ensures) (c .before .before .before .before .before .fill-set .ensures .0) _ _ (c .before .before .count-of2 .ensures) (c .fill-meets .ensures .0))
 
 returns-3 : tie.Need-returns-3
 returns-3 c =
     let a = c .before .before .before .before .before .before .before .before .args in
     rw (c .before .before .before .search .given .1)
-    (λ constants defined. sets-avoiding (stored (a .clauses .now) (a .counts .now) constants defined (a .free) (a .own)) _ _ _ (c .before .before .before .before .before .before .before .count-of .ensures) (c .before .before .before .before .before .fill-set .ensures .0) _ _ _ (c .avoid .ensures constants defined))
+    (λ constants defined. sets-missed (stored (a .clauses .now) (a .counts .now) constants defined (a .free) (a .own)) _ _ _ (c .before .before .before .before .before .before .before .count-of .ensures) (c .before .before .before .before .before .fill-set .ensures .0) _ _ _ (c .keep-missed .ensures constants defined))
 
 pub fill-leaf-spec : {M : Type 1} → statement M
 fill-leaf-spec =
@@ -59,7 +59,7 @@ fill-leaf-spec =
     count-of-requires-2
     fill-meets-requires
     enum-known-search
-    avoid-requires
+    keep-missed-requires
     returns
     returns-2
     returns-3)

@@ -13,13 +13,13 @@ use Rattle.plans.proofs.fill_plan.Statement.{statement}
 use Rattle.plans.proofs.fill_plan.Tie as tie
 
 abbrev Inv-loop : tie.InvT-loop
-Inv-loop clauses counts constants defined free own h search k plain₀ place₀ choice₀ leaves b₀ plain place choice b =
-    (b ≤ leaves) × (length plain ≡ 64) × (length place ≡ 32) × (length choice ≡ 32)
+Inv-loop clauses counts constants defined free own h search k plain₀ subleaf₀ choice₀ leaves b₀ plain subleaf choice b =
+    (b ≤ leaves) × (length plain ≡ 64) × (length subleaf ≡ 32) × (length choice ≡ 32)
     × Plains free h (testsOf (stored clauses counts constants defined free own) h search) b plain
-    × After free h (testsOf (stored clauses counts constants defined free own) h search) k b place choice
+    × After free h (testsOf (stored clauses counts constants defined free own) h search) k b subleaf choice
 
 abbrev μ-loop : tie.MeasureT-loop
-μ-loop clauses counts constants defined free own h search k plain₀ place₀ choice₀ leaves b₀ plain place choice b =
+μ-loop clauses counts constants defined free own h search k plain₀ subleaf₀ choice₀ leaves b₀ plain subleaf choice b =
     leaves - b
 
 power-requires : tie.Need-power-requires Inv-loop μ-loop

@@ -13,11 +13,11 @@ use Rattle.plans.proofs.least_special.Statement.{statement}
 use Rattle.plans.proofs.least_special.Tie as tie
 
 abbrev Inv-loop : tie.InvT-loop
-Inv-loop clauses free leaf extra set other count e w₀ w = (w ≤ count)
-    × ((z : ℕ) → z < 64 * w → (inSet set z && specialIn clauses free leaf (inSet other) extra e z) ≡ false)
+Inv-loop clauses free values extra set other count e w₀ w = (w ≤ count)
+    × ((z : ℕ) → z < 64 * w → (inSet set z && specialIn clauses free values (inSet other) extra e z) ≡ false)
 
 abbrev μ-loop : tie.MeasureT-loop
-μ-loop clauses free leaf extra set other count e w₀ w = count - w
+μ-loop clauses free values extra set other count e w₀ w = count - w
 
 loop-holds : tie.Need-loop-holds Inv-loop μ-loop
 loop-holds c = (omega arith, λ z l. absurd (omega arith))

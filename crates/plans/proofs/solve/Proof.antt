@@ -68,20 +68,20 @@ fill-plan-requires c κs =
       ),
     )
 
-add-all-placed : tie.Need-add-all-placed
-add-all-placed c = omega (arith, few (c .before .before .before .before .before .before .before .before))
+add-all-assigned : tie.Need-add-all-assigned
+add-all-assigned c = omega (arith, few (c .before .before .before .before .before .before .before .before))
 
-all-placed-requires : tie.Need-all-placed-requires
-all-placed-requires c κs = omega (arith, few (c .before .before .before .before .before .before .before .before))
+all-assigned-requires : tie.Need-all-assigned-requires
+all-assigned-requires c κs = omega (arith, few (c .before .before .before .before .before .before .before .before))
 
-both-requires : tie.Need-both-requires
-both-requires c κs = search needs
+both-hold-requires : tie.Need-both-hold-requires
+both-hold-requires c κs = search needs
 
-all-placed-requires-2 : tie.Need-all-placed-requires-2
-all-placed-requires-2 c κs = omega (arith, few (c .before .before .before .before .before .before .before .before .before .before .before))
+all-assigned-requires-2 : tie.Need-all-assigned-requires-2
+all-assigned-requires-2 c κs = omega (arith, few (c .before .before .before .before .before .before .before .before .before .before .before))
 
-both-requires-2 : tie.Need-both-requires-2
-both-requires-2 c κs = search needs
+both-hold-requires-2 : tie.Need-both-hold-requires-2
+both-hold-requires-2 c κs = search needs
 
 add-t19 : tie.Need-add-t19
 add-t19 c = omega (arith, splits (c .before .before .before .before .before .before .before .before .before .before .before .before .before) .1, c .before .before .before .before .before .before .before .before .before .before .before .before .before .before .before .before .before .pre .1)
@@ -97,7 +97,7 @@ returns c =
     let k = splits (c .before .before .before .before .before .before .before .before .before .before .before .before .before) in
     let filled = c .before .before .before .before .before .before .before .before .before .fill-plan .result in
     solved S (a .h) (a .search) _ _ _ (fits S (a .h) (a .search) (s .pre .1 .2) (k .1) (k .2)) (k .0) (c .before .before .before .before .before .before .before .before .before .before .before .before .before .before .before .extra-of .ensures) (c .before .before .before .before .before .before .before .before .before .before .before .before .before .before .before .before .count-of .ensures) _ _ _ filled _ _
-    (c .before .before .before .before .before .before .before .before .before .fill-plan .ensures) (c .before .before .before .both .ensures ∙ ap (_&&_ filled) (c .before .before .before .before .all-placed .ensures)) (c .both2 .ensures ∙ ap (_&&_ filled) (c .before .all-placed2 .ensures))
+    (c .before .before .before .before .before .before .before .before .before .fill-plan .ensures) (c .before .before .before .both-hold .ensures ∙ ap (_&&_ filled) (c .before .before .before .before .all-assigned .ensures)) (c .both-hold2 .ensures ∙ ap (_&&_ filled) (c .before .all-assigned2 .ensures))
 
 pub solve-spec : {M : Type 1} → statement M
 solve-spec =
@@ -111,11 +111,11 @@ solve-spec =
     slice-aggregate-fill-plan-2
     slice-aggregate-fill-plan-3
     fill-plan-requires
-    add-all-placed
-    all-placed-requires
-    both-requires
-    all-placed-requires-2
-    both-requires-2
+    add-all-assigned
+    all-assigned-requires
+    both-hold-requires
+    all-assigned-requires-2
+    both-hold-requires-2
     add-t19
     add-t30
     returns)

@@ -13,9 +13,9 @@ use Rattle.plans.proofs.values_at.Tie as tie
 power : (c : tie.Start) → (1 * 2 ^ (5 - c .args .h)) % 2 ^ 64 ≡ 2 ^ (5 - c .args .h)
 power c = power-shift (5 - c .args .h) (omega arith)
 
--- the place of the leaf
-place-lt : (c : tie.Start) → c .args .b * ((1 * 2 ^ (5 - c .args .h)) % 2 ^ 64) < 32
-place-lt c = rw (power c) (first-lt {w = 5} (c .pre .1) (c .pre .2))
+-- the number of the leaf among those of a constant
+leaf-lt : (c : tie.Start) → c .args .b * ((1 * 2 ^ (5 - c .args .h)) % 2 ^ 64) < 32
+leaf-lt c = rw (power c) (first-lt {w = 5} (c .pre .1) (c .pre .2))
 
 sub-leaf-values : tie.Need-sub-leaf-values
 sub-leaf-values c = search needs
@@ -24,10 +24,10 @@ shl-leaf-values : tie.Need-shl-leaf-values
 shl-leaf-values c = search needs
 
 mul-leaf-values : tie.Need-mul-leaf-values
-mul-leaf-values c = omega (arith, place-lt c)
+mul-leaf-values c = omega (arith, leaf-lt c)
 
 leaf-values-requires : tie.Need-leaf-values-requires
-leaf-values-requires c κs = (c .pre .0, omega (arith, place-lt c))
+leaf-values-requires c κs = (c .pre .0, omega (arith, leaf-lt c))
 
 returns : tie.Need-returns
 returns c clauses counts free own =

@@ -25,8 +25,8 @@ add-entries c = let s = c .before .before .before .before .before .before .befor
 word-count-requires : tie.Need-word-count-requires
 word-count-requires c κs = search needs
 
-place-all-requires : tie.Need-place-all-requires
-place-all-requires c κs = let s = c .before .before .before .before .before .before .before .before .before .before .before .before in
+assign-all-requires : tie.Need-assign-all-requires
+assign-all-requires c κs = let s = c .before .before .before .before .before .before .before .before .before .before .before .before in
     let R = s .pre .0 in
     let x = c .before .before .before .before .before .before .extra-of .ensures in
     let n = c .before .before .before .before .before .count-of .ensures in (
@@ -55,7 +55,7 @@ returns c =
     let a = c .before .before .before .before .before .before .before .before .before .before .before .before .before .before .before .before .before .before .before .args in
     let x = c .before .before .before .before .before .before .before .before .before .before .before .before .before .extra-of .ensures in
     λ constants defined. visited (stored (a .clauses .now) (a .counts .now) constants defined (a .free) (a .own)) _ _ _ _ _ _ _ _ _ _ _ _ _ x (ap₂ _+_ x (c .before .before .before .before .before .before .before .before .before .before .before .before .count-of .ensures)) (c .before .before .before .before .before .before .before .before .before .before .before .word-count .ensures)
-    (c .before .before .before .before .before .before .before .before .before .before .before .before .before .before .fill-leaf .ensures constants defined) (c .before .before .before .before .before .before .place-all .ensures) (c .least .ensures)
+    (c .before .before .before .before .before .before .before .before .before .before .before .before .before .before .fill-leaf .ensures constants defined) (c .before .before .before .before .before .before .assign-all .ensures) (c .least .ensures)
 
 pub visit-leaf-spec : {M : Type 1} → statement M
 visit-leaf-spec =
@@ -66,7 +66,7 @@ visit-leaf-spec =
     count-of-requires
     add-entries
     word-count-requires
-    place-all-requires
+    assign-all-requires
     least-requires
     same-length
     same-length-2

@@ -26,17 +26,17 @@ returns-3 c = simp (lt-ltb 0 _ (c .before .before .before .if1 .left), eq-eqb _ 
 shared-slice-read-kind : tie.Need-shared-slice-read-kind
 shared-slice-read-kind c = search needs
 
-shared-slice-read-count-of : tie.Need-shared-slice-read-count-of
-shared-slice-read-count-of c = search needs
+shared-slice-read-number-of-byte : tie.Need-shared-slice-read-number-of-byte
+shared-slice-read-number-of-byte c = search needs
 
-count-of-requires : tie.Need-count-of-requires
-count-of-requires c κs = search needs
+number-of-byte-requires : tie.Need-number-of-byte-requires
+number-of-byte-requires c κs = search needs
 
-shared-slice-read-count-of-2 : tie.Need-shared-slice-read-count-of-2
-shared-slice-read-count-of-2 c = search needs
+shared-slice-read-number-of-byte-2 : tie.Need-shared-slice-read-number-of-byte-2
+shared-slice-read-number-of-byte-2 c = search needs
 
-count-of-requires-2 : tie.Need-count-of-requires-2
-count-of-requires-2 c κs = search needs
+number-of-byte-requires-2 : tie.Need-number-of-byte-requires-2
+number-of-byte-requires-2 c κs = search needs
 
 head-fits-requires : tie.Need-head-fits-requires
 head-fits-requires c κs = search needs
@@ -44,14 +44,14 @@ head-fits-requires c κs = search needs
 returns-4 : tie.Need-returns-4
 returns-4 c =
     rw (c .if4 .taken) at
-    (whole-head (c .before .before .before .before .before .before .before .before .before .before .before .before .args .bytes .now) _ _ _ (c .before .before .before .before .before .before .before .before .before .before .if1 .left) (c .before .before .before .before .before .before .before .before .if2 .left) (c .before .before .before .before .before .before .before .if3 .left) (c .before .before .before .before .count-of .ensures .0)
-    (c .before .before .count-of2 .ensures .0) (c .before .head-fits .ensures))
+    (whole-head (c .before .before .before .before .before .before .before .before .before .before .before .before .args .bytes .now) _ _ _ (c .before .before .before .before .before .before .before .before .before .before .if1 .left) (c .before .before .before .before .before .before .before .before .if2 .left) (c .before .before .before .before .before .before .before .if3 .left) (c .before .before .before .before .number-of-byte .ensures .0)
+    (c .before .before .number-of-byte2 .ensures .0) (c .before .head-fits .ensures))
 
 returns-5 : tie.Need-returns-5
 returns-5 c =
     rw (c .if4 .left) at
-    (whole-head (c .before .before .before .before .before .before .before .before .before .before .before .before .args .bytes .now) _ _ _ (c .before .before .before .before .before .before .before .before .before .before .if1 .left) (c .before .before .before .before .before .before .before .before .if2 .left) (c .before .before .before .before .before .before .before .if3 .left) (c .before .before .before .before .count-of .ensures .0)
-    (c .before .before .count-of2 .ensures .0) (c .before .head-fits .ensures))
+    (whole-head (c .before .before .before .before .before .before .before .before .before .before .before .before .args .bytes .now) _ _ _ (c .before .before .before .before .before .before .before .before .before .before .if1 .left) (c .before .before .before .before .before .before .before .before .if2 .left) (c .before .before .before .before .before .before .before .if3 .left) (c .before .before .before .before .number-of-byte .ensures .0)
+    (c .before .before .number-of-byte2 .ensures .0) (c .before .head-fits .ensures))
 
 pub read-head-spec : {M : Type 1} → statement M
 read-head-spec =
@@ -62,10 +62,10 @@ read-head-spec =
     returns-2
     returns-3
     shared-slice-read-kind
-    shared-slice-read-count-of
-    count-of-requires
-    shared-slice-read-count-of-2
-    count-of-requires-2
+    shared-slice-read-number-of-byte
+    number-of-byte-requires
+    shared-slice-read-number-of-byte-2
+    number-of-byte-requires-2
     head-fits-requires
     returns-4
     returns-5)

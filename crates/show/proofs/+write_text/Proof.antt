@@ -84,7 +84,7 @@ module _ (t : ℕ) where
   add-result-2 : lts.Need-add-result-2 claims here write-text.Post
   add-result-2 c =
       let start = c .before .before .before .before .before .before .before .before .before .before .before .before in
-      omega (arith, returns-2 c .place, start .pre .1 .1, start .good)
+      omega (arith, returns-2 c .end, start .pre .1 .1, start .good)
 
   same-length-2 : lts.Need-same-length-2 claims here write-text.Post
   same-length-2 c = put-length (returns-2 c)

@@ -1,6 +1,6 @@
 -- `show::is_constant` is the test of the leaves of the block. Assumes nothing.
 use native.Mathlib.Omega.{arith}
-use Rattle.show.proofs.Parts.{size-pos, byte-at, place-at, test-at, part-fits, test-part}
+use Rattle.show.proofs.Parts.{size-pos, byte-at, bits-at, test-at, part-fits, test-part}
 use borrow.Author.Needs.{needs}
 use Rattle.show.proofs.is_constant.Statement.{statement}
 use Rattle.show.proofs.is_constant.Tie as tie
@@ -18,7 +18,7 @@ rem-is-block : tie.Need-rem-is-block
 rem-is-block c = size-pos (c .before .before .before .before .args .row .now) _ _ (c .before .before .before .before .pre) (c .before .before .if1 .taken) _ (c .before .power .ensures)
 
 is-block-requires : tie.Need-is-block-requires
-is-block-requires c κs = place-at (c .before .before .before .before .args .row .now) _ _ (c .before .before .before .before .pre) (c .before .before .if1 .taken) _ (c .before .power .ensures)
+is-block-requires c κs = bits-at (c .before .before .before .before .args .row .now) _ _ (c .before .before .before .before .pre) (c .before .before .if1 .taken) _ (c .before .power .ensures)
 
 returns : tie.Need-returns
 returns c = test-at (c .before .before .before .before .before .args .row .now) _ _ (c .before .before .before .before .before .pre) (c .before .before .before .if1 .taken) _ (c .before .before .power .ensures) _ (c .is-block .result) (c .is-block .ensures)

@@ -1,6 +1,6 @@
 -- `show::mask` gives the bits of the block. Assumes nothing.
 use native.Mathlib.Omega.{arith}
-use Rattle.show.proofs.Numbers.{mask-size, mask-place, ones-pos, mask-fits, mask-right}
+use Rattle.show.proofs.Numbers.{mask-size, mask-shift, ones-pos, mask-fits, mask-right}
 use borrow.Author.Needs.{needs}
 use Rattle.show.proofs.mask.Statement.{statement}
 use Rattle.show.proofs.mask.Tie as tie
@@ -15,10 +15,10 @@ sub-ones : tie.Need-sub-ones
 sub-ones c = ones-pos _ _ (c .before .before .pre) _ (c .before .power .ensures) _ (c .power2 .ensures)
 
 mul-power : tie.Need-mul-power
-mul-power c = omega (arith, mask-place _ _ (c .before .before .pre) _ (c .before .power .ensures))
+mul-power c = omega (arith, mask-shift _ _ (c .before .before .pre) _ (c .before .power .ensures))
 
 power-requires-3 : tie.Need-power-requires-3
-power-requires-3 c κs = omega (arith, mask-place _ _ (c .before .before .pre) _ (c .before .power .ensures))
+power-requires-3 c κs = omega (arith, mask-shift _ _ (c .before .before .pre) _ (c .before .power .ensures))
 
 mul-result : tie.Need-mul-result
 mul-result c = omega (arith, mask-fits _ _ (c .before .before .before .pre) _ (c .before .before .power .ensures) _ (c .before .power2 .ensures) _ (c .power3 .ensures))

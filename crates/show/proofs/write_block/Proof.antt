@@ -1,6 +1,6 @@
 -- `show::write_block` sets the leaves of the block and no other. Assumes nothing.
 use native.Mathlib.Omega.{arith}
-use Rattle.show.proofs.Parts.{size-pos, byte-at, place-at, set-at, part-fits, fill-at}
+use Rattle.show.proofs.Parts.{size-pos, byte-at, bits-at, set-at, part-fits, fill-at}
 use borrow.Author.Needs.{needs}
 use Rattle.show.proofs.write_block.Statement.{statement}
 use Rattle.show.proofs.write_block.Tie as tie
@@ -18,7 +18,7 @@ rem-with-block : tie.Need-rem-with-block
 rem-with-block c = size-pos (c .before .before .before .before .args .row .now) _ _ (c .before .before .before .before .pre) (c .before .before .if1 .taken) _ (c .before .power .ensures)
 
 with-block-requires : tie.Need-with-block-requires
-with-block-requires c κs = place-at (c .before .before .before .before .args .row .now) _ _ (c .before .before .before .before .pre) (c .before .before .if1 .taken) _ (c .before .power .ensures)
+with-block-requires c κs = bits-at (c .before .before .before .before .args .row .now) _ _ (c .before .before .before .before .pre) (c .before .before .if1 .taken) _ (c .before .power .ensures)
 
 slice-write-row : tie.Need-slice-write-row
 slice-write-row c = byte-at (c .before .before .before .before .before .args .row .now) _ _ (c .before .before .before .before .before .pre) (c .before .before .before .if1 .taken) _ (c .before .before .power .ensures)

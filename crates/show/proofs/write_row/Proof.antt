@@ -8,8 +8,8 @@ use Rattle.show.proofs.write_row.Tie as tie
 write-leaves-requires : tie.Need-write-leaves-requires
 write-leaves-requires c κs = let start = c .before .before .before .before in (start .pre .0 .blocks, start .pre .1 .0, start .pre .1 .1)
 
-write-places-requires : tie.Need-write-places-requires
-write-places-requires c κs =
+write-sub-leaves-requires : tie.Need-write-sub-leaves-requires
+write-sub-leaves-requires c κs =
     let start = c .before .before .before .before .before .before .before .before in (
       start .pre .0,
       (
@@ -25,10 +25,10 @@ same-length c = search needs
 returns : tie.Need-returns
 returns c =
     let start = c .before .before .before .before .before .before .before .before .before .before .before in
-    shows-all _ (start .pre .0) _ _ (c .before .before .write-places .kept .0 ∙ c .before .before .before .before .before .before .write-leaves .kept .0 ∙ start .pre .1 .0)
-    (λ j. c .slice-known3 .given j .fits) (c .before .before .write-places .ensures)
+    shows-all _ (start .pre .0) _ _ (c .before .before .write-sub-leaves .kept .0 ∙ c .before .before .before .before .before .before .write-leaves .kept .0 ∙ start .pre .1 .0)
+    (λ j. c .slice-known3 .given j .fits) (c .before .before .write-sub-leaves .ensures)
 
 pub write-row-spec : {M : Type 1} → statement M
 write-row-spec =
     tie.close
-    (tie.spec write-leaves-requires write-places-requires same-length returns)
+    (tie.spec write-leaves-requires write-sub-leaves-requires same-length returns)

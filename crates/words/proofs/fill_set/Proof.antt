@@ -16,8 +16,8 @@ returns c =
     let a = c .before .before .args in (
       λ w l i h.
           c .fill-meets .ensures .0 w l i h
-          ∙ own-none (a .n) (allPass (a .clauses .now) (a .start) (a .count) (a .n) 0 (a .leaf))
-          (λ z. pass-mod (a .n) 0 (a .leaf) z (a .clauses .now) (a .start) (a .count)) (64 * w + i),
+          ∙ own-none (a .n) (allPass (a .clauses .now) (a .start) (a .count) (a .n) 0 (a .values))
+          (λ z. pass-mod (a .n) 0 (a .values) z (a .clauses .now) (a .start) (a .count)) (64 * w + i),
       c .fill-meets .ensures .1,
     )
 

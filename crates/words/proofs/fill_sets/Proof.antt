@@ -60,16 +60,16 @@ returns c =
     let first = c .before .before .before .before .before .before .merge-rows in
     let rest = c .before .before .merge-rows2 in
     let le = words-le (a .n) (omega (arith, s .pre .0)) in (
-      gathered-set (a .n) (a .m) (allPass (a .clauses .now) (a .start) (a .count) (a .n) (a .m) (a .leaf))
+      gathered-set (a .n) (a .m) (allPass (a .clauses .now) (a .start) (a .count) (a .n) (a .m) (a .values))
           (λ w. getD (gathered .last .1 .1 .1 .1 .1 .1 .1 .1 .0) w 0) (λ w. getD (first .last .0) w 0)
-          (λ z. pass-mod (a .n) (a .m) (a .leaf) z (a .clauses .now) (a .start) (a .count)) (gathered .ensures .0)
+          (λ z. pass-mod (a .n) (a .m) (a .values) z (a .clauses .now) (a .start) (a .count)) (gathered .ensures .0)
           (first .ensures .0 0 (omega arith)) (λ w h n. first .ensures .1 w (λ j l q. n (omega arith))),
       (
         λ w h. first .ensures .1 w (λ j l q. omega (arith, words-pos (a .n), h)) ∙ gathered .ensures .1 .1 w h ∙ cleared .ensures .1 w (λ q. omega (arith, words, h)),
         λ j k.
-            gathered-set (a .n) (a .m) (allPassBut (a .clauses .now) (a .start) (a .count) (a .from + 4 * j) (a .n) (a .m) (a .leaf))
+            gathered-set (a .n) (a .m) (allPassBut (a .clauses .now) (a .start) (a .count) (a .from + 4 * j) (a .n) (a .m) (a .values))
             (λ w. getD (gathered .last .1 .1 .1 .1 .1 .1 .1 .1 .1 .0) (64 * j + w) 0) (λ w. getD (rest .last .0) (64 * j + w) 0)
-            (λ z. but-mod (a .n) (a .m) (a .leaf) z (a .clauses .now) (a .start) (a .count) (a .from + 4 * j)) (gathered .ensures .1 .0 j k)
+            (λ z. but-mod (a .n) (a .m) (a .values) z (a .clauses .now) (a .start) (a .count) (a .from + 4 * j)) (gathered .ensures .1 .0 j k)
             (subst (λ i. Merged (a .n) (getD (gathered .last .1 .1 .1 .1 .1 .1 .1 .1 .1 .0) i 0) (getD (rest .last .0) i 0)) (sym (add-zero (64 * j))) (rest .ensures .0 j k))
             (λ w h n. rest .ensures .1 (64 * j + w) (λ u v q. n (omega (arith, le, h, q)))),
       ),

@@ -11,43 +11,43 @@ use Rattle.words.specs.Sets.{wordCount, allPass, allPassBut, Gathered}
 use Rattle.words.specs.Table.{Terms}
 use Rattle.words.specs.TableLaws.{table-section, table-but}
 use Rattle.words.specs.ClauseLaws.{clauses-at}
-use Rattle.words.specs.GatherLaws.{words-pos, words-le, word-place, gathered-none, gathered-more}
+use Rattle.words.specs.GatherLaws.{words-pos, words-le, word-free, gathered-none, gathered-more}
 use Rattle.words.proofs.gather.Statement.{statement}
 use Rattle.words.proofs.gather.Tie as tie
 
 abbrev Inv-loop : tie.InvT-loop
-Inv-loop clauses start count from rows n m leaf meets₀ with₀ words total terms₀ v₀ meets with terms v =
-    (v ≤ total) × (length terms ≡ 64) × ((u : ℕ) × Terms n m leaf u terms) × (length meets ≡ 64) × (length with ≡ length with₀)
-    × Gathered n (allPass clauses start count n m leaf) v (λ w. getD meets w 0)
-    × ((j : ℕ) → j < rows → Gathered n (allPassBut clauses start count (from + 4 * j) n m leaf) v (λ w. getD with (64 * j + w) 0))
+Inv-loop clauses start count from rows n m values meets₀ with₀ words total terms₀ v₀ meets with terms v =
+    (v ≤ total) × (length terms ≡ 64) × ((u : ℕ) × Terms n m values u terms) × (length meets ≡ 64) × (length with ≡ length with₀)
+    × Gathered n (allPass clauses start count n m values) v (λ w. getD meets w 0)
+    × ((j : ℕ) → j < rows → Gathered n (allPassBut clauses start count (from + 4 * j) n m values) v (λ w. getD with (64 * j + w) 0))
     × ((w : ℕ) → wordCount n ≤ w → getD meets w 0 ≡ getD meets₀ w 0)
 
 abbrev μ-loop : tie.MeasureT-loop
-μ-loop clauses start count from rows n m leaf meets₀ with₀ words total terms₀ v₀ meets with terms v = total - v
+μ-loop clauses start count from rows n m values meets₀ with₀ words total terms₀ v₀ meets with terms v = total - v
 
 -- the tests that the words are filled with
 abbrev passing : tie.Start Inv-loop μ-loop → ℕ → Bool
-passing s = let a = s .args in allPass (a .clauses .now) (a .start) (a .count) (a .n) (a .m) (a .leaf)
+passing s = let a = s .args in allPass (a .clauses .now) (a .start) (a .count) (a .n) (a .m) (a .values)
 
 abbrev passing-but : tie.Start Inv-loop μ-loop → ℕ → ℕ → Bool
-passing-but s j = let a = s .args in allPassBut (a .clauses .now) (a .start) (a .count) (a .from + 4 * j) (a .n) (a .m) (a .leaf)
+passing-but s j = let a = s .args in allPassBut (a .clauses .now) (a .start) (a .count) (a .from + 4 * j) (a .n) (a .m) (a .values)
 
 -- the table is right at word v
 right : (c : tie.After-move-terms Inv-loop μ-loop)
     → (let a = c .before .before .before .before .before .before .before .before .before .before .before .args in
-    Terms (a .n) (a .m) (a .leaf) (c .before .before .before .loop .v) (c .move-terms .last .1 .1 .1 .0))
+    Terms (a .n) (a .m) (a .values) (c .before .before .before .loop .v) (c .move-terms .last .1 .1 .1 .0))
 right c = let l = c .before .before .before .loop in c .move-terms .ensures _ (l .inv .2 .0) (l .inv .2 .1)
 
 -- the word that the choices of word v are added to
-place : (c : tie.At-loop Inv-loop μ-loop)
+free-word : (c : tie.At-loop Inv-loop μ-loop)
     → (let n = c .before .before .before .before .before .before .before .before .args .n in
     bitAnd (c .loop .v) (c .before .before .before .before .before .word-count .result - 1) ≡ c .loop .v % wordCount n)
-place c = rw (c .before .before .before .before .before .word-count .ensures) (word-place (c .loop .v) _)
+free-word c = rw (c .before .before .before .before .before .word-count .ensures) (word-free (c .loop .v) _)
 
-place-lt : (c : tie.At-loop Inv-loop μ-loop) → bitAnd (c .loop .v) (c .before .before .before .before .before .word-count .result - 1) < 64
-place-lt c =
+free-word-lt : (c : tie.At-loop Inv-loop μ-loop) → bitAnd (c .loop .v) (c .before .before .before .before .before .word-count .result - 1) < 64
+free-word-lt c =
     let s = c .before .before .before .before .before .before .before .before in
-    rw (place c) (omega (arith, mod-lt (c .loop .v) (words-pos (s .args .n)), words-le (s .args .n) (omega (arith, s .pre .0))))
+    rw (free-word c) (omega (arith, mod-lt (c .loop .v) (words-pos (s .args .n)), words-le (s .args .n) (omega (arith, s .pre .0))))
 
 word-count-requires : tie.Need-word-count-requires Inv-loop μ-loop
 word-count-requires c κs = omega arith
@@ -91,7 +91,7 @@ sub-add-choices c =
 add-choices-requires : tie.Need-add-choices-requires Inv-loop μ-loop
 add-choices-requires c κs =
     let s = c .before .before .before .before .before .before .before .before .before .before .before .before .before .before .before in
-    ((place-lt (c .before .before .before .before .before .before .before), omega arith, omega arith), (s .pre .1 .0, s .pre .1 .1 .0))
+    ((free-word-lt (c .before .before .before .before .before .before .before), omega arith, omega arith), (s .pre .1 .0, s .pre .1 .1 .0))
 
 add-v : tie.Need-add-v Inv-loop μ-loop
 add-v c = omega arith
@@ -114,18 +114,18 @@ loop-again c =
       (l .v, right moved),
       omega (arith, r .kept .1 .1 .1 .1 .1 .1 .1 .0),
       omega (arith, r .kept .1 .1 .1 .1 .1 .1 .1 .1 .0),
-      gathered-more (a .n) (passing s) (l .v) at _ _ (place at-loop) (l .inv .5)
-          (λ i h. r .ensures .0 i h ∙ ap (_||_ (bit (getD (l .meets) at 0) i)) (table-section (a .n) (a .m) (a .leaf) (l .v) terms (a .clauses .now) (right moved) (a .start) (a .count) (s .pre .1 .0) i h))
+      gathered-more (a .n) (passing s) (l .v) at _ _ (free-word at-loop) (l .inv .5)
+          (λ i h. r .ensures .0 i h ∙ ap (_||_ (bit (getD (l .meets) at 0) i)) (table-section (a .n) (a .m) (a .values) (l .v) terms (a .clauses .now) (right moved) (a .start) (a .count) (s .pre .1 .0) i h))
           (λ w h n. r .ensures .1 .0 w n),
       λ j k.
-          gathered-more (a .n) (passing-but s j) (l .v) at _ _ (place at-loop) (l .inv .6 j k)
+          gathered-more (a .n) (passing-but s j) (l .v) at _ _ (free-word at-loop) (l .inv .6 j k)
           (λ i h.
           r .ensures .1 .1 .0 j k i h
           ∙ ap (_||_ (bit (getD (l .with) (64 * j + at) 0) i))
-          (table-but (a .n) (a .m) (a .leaf) (l .v) terms (a .clauses .now) (right moved) (a .start) (a .count) (a .from + 4 * j) (s .pre .1 .0)
+          (table-but (a .n) (a .m) (a .values) (l .v) terms (a .clauses .now) (right moved) (a .start) (a .count) (a .from + 4 * j) (s .pre .1 .0)
           (clauses-at (s .pre .1 .1 .0) j k) i h))
-          (λ w h n. r .ensures .1 .1 .1 (64 * j + w) (λ u v q. n (omega (arith, place-lt at-loop, words-le (a .n) (omega (arith, s .pre .0)))))),
-      λ w h. r .ensures .1 .0 w (λ q. let e : w ≡ at = q in omega (arith, place at-loop, mod-lt (l .v) (words-pos (a .n)))) ∙ l .inv .7 w h,
+          (λ w h n. r .ensures .1 .1 .1 (64 * j + w) (λ u v q. n (omega (arith, free-word-lt at-loop, words-le (a .n) (omega (arith, s .pre .0)))))),
+      λ w h. r .ensures .1 .0 w (λ q. let e : w ≡ at = q in omega (arith, free-word at-loop, mod-lt (l .v) (words-pos (a .n)))) ∙ l .inv .7 w h,
     )
 
 same-length : tie.Need-same-length Inv-loop μ-loop

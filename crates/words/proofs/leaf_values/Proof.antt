@@ -17,10 +17,10 @@ use Rattle.words.proofs.leaf_values.Statement.{statement}
 use Rattle.words.proofs.leaf_values.Tie as tie
 
 abbrev Inv-loop : tie.InvT-loop
-Inv-loop constants count place r₀ i₀ r i = (i ≤ count) × ((j : ℕ) → bit r j ≡ (ltb j i && bit (getD constants j 0) place))
+Inv-loop constants count leaf r₀ i₀ r i = (i ≤ count) × ((j : ℕ) → bit r j ≡ (ltb j i && bit (getD constants j 0) leaf))
 
 abbrev μ-loop : tie.MeasureT-loop
-μ-loop constants count place r₀ i₀ r i = count - i
+μ-loop constants count leaf r₀ i₀ r i = count - i
 
 loop-holds : tie.Need-loop-holds Inv-loop μ-loop
 loop-holds c = (omega arith, λ j. rw (le-ltb j 0 (omega arith)) (bit-zero j))
@@ -57,15 +57,15 @@ loop-again c =
     let l = c .before .before .loop in
     let a = c .before .before .before .args in
     let x = getD (a .constants .now) (l .i) 0 in
-    let v = x / 2 ^ a .place % 2 in
-    let v-lt : v < 2 = mod-lt (x / 2 ^ a .place) (omega arith) in
-    let moved : (bitAnd (x / 2 ^ a .place) 1 * 2 ^ l .i) % 2 ^ 64 ≡ v * 2 ^ l .i =
-    ap (λ y. (y * 2 ^ l .i) % 2 ^ 64) (and-mask (x / 2 ^ a .place) 1) ∙ shl-exact 1 (l .i) 64 v-lt (omega arith) in (
+    let v = x / 2 ^ a .leaf % 2 in
+    let v-lt : v < 2 = mod-lt (x / 2 ^ a .leaf) (omega arith) in
+    let moved : (bitAnd (x / 2 ^ a .leaf) 1 * 2 ^ l .i) % 2 ^ 64 ≡ v * 2 ^ l .i =
+    ap (λ y. (y * 2 ^ l .i) % 2 ^ 64) (and-mask (x / 2 ^ a .leaf) 1) ∙ shl-exact 1 (l .i) 64 v-lt (omega arith) in (
       omega arith,
       λ j.
           ap (λ y. bit (bitOr (l .r) y) j) moved ∙ bit-or (l .r) (v * 2 ^ l .i) j
-          ∙ ap₂ _||_ (l .inv .1 j) (bit-digit v (l .i) j v-lt ∙ ap (_&&_ (eqb j (l .i))) (digit-of x (a .place)))
-          ∙ below-or (l .i) j (λ k. bit (getD (a .constants .now) k 0) (a .place)),
+          ∙ ap₂ _||_ (l .inv .1 j) (bit-digit v (l .i) j v-lt ∙ ap (_&&_ (eqb j (l .i))) (digit-of x (a .leaf)))
+          ∙ below-or (l .i) j (λ k. bit (getD (a .constants .now) k 0) (a .leaf)),
     )
 
 returns : tie.Need-returns Inv-loop μ-loop

@@ -8,12 +8,12 @@ use Rattle.shares.specs.Constant.{bit}
 use Rattle.shares.specs.BitLaws.{bit-or}
 use Rattle.words.specs.Shifts.{power-shift}
 use Rattle.words.specs.GatherLaws.{merged-same}
-use Rattle.words.specs.FoldLaws.{Folded, folded-start, folded-more, folded-whole}
+use Rattle.words.specs.FoldLaws.{FoldedTo, folded-start, folded-more, folded-whole}
 use Rattle.words.proofs.merge_word.Statement.{statement}
 use Rattle.words.proofs.merge_word.Tie as tie
 
 abbrev Inv-loop : tie.InvT-loop
-Inv-loop x n r₀ p₀ r p = (n ≤ p) × (p ≤ 6) × Folded n p x r
+Inv-loop x n r₀ p₀ r p = (n ≤ p) × (p ≤ 6) × FoldedTo n p x r
 
 abbrev μ-loop : tie.MeasureT-loop
 μ-loop x n r₀ p₀ r p = 6 - p
@@ -57,7 +57,7 @@ returns-2 c =
     let l = c .before .loop in
     let e : l .p ≡ 6 = omega arith in
     let a = c .before .before .before .args in
-    folded-whole (a .n) (a .x) (l .r) (omega arith) (subst (λ k. Folded (a .n) k (a .x) (l .r)) e (l .inv .2))
+    folded-whole (a .n) (a .x) (l .r) (omega arith) (subst (λ k. FoldedTo (a .n) k (a .x) (l .r)) e (l .inv .2))
 
 pub merge-word-spec : {M : Type 1} → statement M
 merge-word-spec =

@@ -14,13 +14,13 @@ use Rattle.words.proofs.set_constants.Statement.{statement}
 use Rattle.words.proofs.set_constants.Tie as tie
 
 abbrev Inv-loop : tie.InvT-loop
-Inv-loop leaf terms₀ t₀ terms t = (32 ≤ t) × (t ≤ 64) × (length terms ≡ 64)
-    × ((j : ℕ) → 32 ≤ j → j < t → (i : ℕ) → i < 64 → bit (getD terms j 0) i ≡ bit leaf (j - 32))
+Inv-loop values terms₀ t₀ terms t = (32 ≤ t) × (t ≤ 64) × (length terms ≡ 64)
+    × ((j : ℕ) → 32 ≤ j → j < t → (i : ℕ) → i < 64 → bit (getD terms j 0) i ≡ bit values (j - 32))
     × ((j : ℕ) → t ≤ j → j < 64 → getD terms j 0 ≡ 0)
     × ((j : ℕ) → j < 32 → getD terms j 0 ≡ getD terms₀ j 0)
 
 abbrev μ-loop : tie.MeasureT-loop
-μ-loop leaf terms₀ t₀ terms t = 64 - t
+μ-loop values terms₀ t₀ terms t = 64 - t
 
 -- a number has no bit from k on, if nothing is left of it after k places
 none-left : (x k j : ℕ) → x / 2 ^ k ≡ 0 → k ≤ j → bit x j ≡ false
@@ -43,11 +43,11 @@ same-length c = omega arith
 returns : tie.Need-returns Inv-loop μ-loop
 returns c =
     let l = c .before .before .loop in
-    let leaf = c .before .before .before .before .args .leaf in
+    let values = c .before .before .before .before .args .values in
     record {
       set = λ j p q i h. elim (decLt j (l .t)) [
         | yes a ↦ l .inv .3 j p a i h
-        | no a ↦ ap (λ x. bit x i) (l .inv .4 j (omega arith) q) ∙ bit-zero i ∙ sym (none-left leaf (l .t - 32) (j - 32) (c .if1 .taken) (omega arith))
+        | no a ↦ ap (λ x. bit x i) (l .inv .4 j (omega arith) q) ∙ bit-zero i ∙ sym (none-left values (l .t - 32) (j - 32) (c .if1 .taken) (omega arith))
       ];
       kept = l .inv .5;
     }
@@ -81,7 +81,7 @@ loop-again c =
       omega arith,
       omega arith,
       simp length-set (l .inv .2),
-      store-law (λ j x. 32 ≤ j → j < l .t + 1 → (i : ℕ) → i < 64 → bit x i ≡ bit (a .leaf) (j - 32)) (l .terms) (l .t) (c .spread .result) in-list
+      store-law (λ j x. 32 ≤ j → j < l .t + 1 → (i : ℕ) → i < 64 → bit x i ≡ bit (a .values) (j - 32)) (l .terms) (l .t) (c .spread .result) in-list
           (λ j n p q. l .inv .3 j p (omega arith)) (λ p q i h. c .spread .ensures i h ∙ c .before .digit .ensures),
       store-law (λ j x. l .t + 1 ≤ j → j < 64 → x ≡ 0) (l .terms) (l .t) (c .spread .result) in-list (λ j n p. l .inv .4 j (omega arith)) (λ p. absurd (omega arith)),
       store-law (λ j x. j < 32 → x ≡ getD (a .terms .now) j 0) (l .terms) (l .t) (c .spread .result) in-list

@@ -17,7 +17,7 @@ same-length c = search needs
 returns : tie.Need-returns
 returns c =
     let s = c .before .before .before .before .before .before .before .before .before in
-    terms-started (s .args .n) (s .args .m) (s .args .leaf) _ _ _ (s .pre .0) (λ t l. s .pre .2 t (omega arith)) (c .before .before .before .before .before .before .set-constants .ensures) (c .before .before .set-variables .ensures)
+    terms-started (s .args .n) (s .args .m) (s .args .values) _ _ _ (s .pre .0) (λ t l. s .pre .2 t (omega arith)) (c .before .before .before .before .before .before .set-constants .ensures) (c .before .before .set-variables .ensures)
 
 pub start-terms-spec : {M : Type 1} → statement M
 start-terms-spec =

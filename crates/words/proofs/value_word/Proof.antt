@@ -31,14 +31,14 @@ returns c i h =
     let t = c .before .before .wide .result in
     let z = 64 * a .w + i in
     c .digit-word .ensures i h ∙ ap (bit z) (sym (position-free (a .n) 0 t (c .before .if1 .taken)))
-    ∙ sym (value-variable (a .n) 0 (a .leaf) z t (omega (arith, c .before .if1 .taken))) ∙ ap (termValue (a .n) 0 (a .leaf) z) (c .before .before .wide .ensures)
+    ∙ sym (value-variable (a .n) 0 (a .values) z t (omega (arith, c .before .if1 .taken))) ∙ ap (termValue (a .n) 0 (a .values) z) (c .before .before .wide .ensures)
 
 returns-2 : tie.Need-returns-2
 returns-2 c i h =
     let a = c .before .before .before .before .args in
     let z = 64 * a .w + i in
-    bit-zero i ∙ sym (value-none (a .n) 0 (a .leaf) z (c .before .before .wide .result) (omega (arith, c .before .if1 .left)) (c .if2 .taken))
-    ∙ ap (termValue (a .n) 0 (a .leaf) z) (c .before .before .wide .ensures)
+    bit-zero i ∙ sym (value-none (a .n) 0 (a .values) z (c .before .before .wide .result) (omega (arith, c .before .if1 .left)) (c .if2 .taken))
+    ∙ ap (termValue (a .n) 0 (a .values) z) (c .before .before .wide .ensures)
 
 digit-requires : tie.Need-digit-requires
 digit-requires c κs = omega (arith, c .before .before .wide .ensures, c .before .before .before .before .pre .2)
@@ -51,8 +51,8 @@ returns-3 c i h =
     let a = c .before .before .before .before .before .before .args in
     let z = 64 * a .w + i in
     c .spread .ensures i h ∙ c .before .digit .ensures
-    ∙ sym (value-constant (a .n) 0 (a .leaf) z (c .before .before .before .before .wide .result) (omega (arith, c .before .before .before .if1 .left)) (c .before .before .if2 .left))
-    ∙ ap (termValue (a .n) 0 (a .leaf) z) (c .before .before .before .before .wide .ensures)
+    ∙ sym (value-constant (a .n) 0 (a .values) z (c .before .before .before .before .wide .result) (omega (arith, c .before .before .before .if1 .left)) (c .before .before .if2 .left))
+    ∙ ap (termValue (a .n) 0 (a .values) z) (c .before .before .before .before .wide .ensures)
 
 pub value-word-spec : {M : Type 1} → statement M
 value-word-spec =

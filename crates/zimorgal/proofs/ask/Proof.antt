@@ -61,8 +61,8 @@ show-solution-requires c κs =
     let D = c .before .decide .ensures (T .question) (T .stands) (T .formed) in
     ((test .if2 .left, omega (arith, T .stands .variables)), plan-formed (T .question) _ D)
 
-clear-requires : tie.Need-clear-requires
-clear-requires c κs = search needs
+clear-work-requires : tie.Need-clear-work-requires
+clear-work-requires c κs = search needs
 
 found-requires : tie.Need-found-requires
 found-requires c κs = search needs
@@ -81,7 +81,7 @@ returns-4 c =
     let start = reading .before .before .before .before .before .before .before .args in
     let T = answer-taken (start .question .now) _ _ _ _ (reading .read .ensures) (tests .before .before .if1 .left) in
     given-answer (start .question .now) (start .answer .now) (start .work .now) _ T (tests .before .if2 .left) (tests .if3 .left)
-    _ (shown .before .before .decide .ensures) _ (c .found .ensures) _ (shown .show-solution .ensures) _ (c .before .before .before .clear .ensures)
+    _ (shown .before .before .decide .ensures) _ (c .found .ensures) _ (shown .show-solution .ensures) _ (c .before .before .before .clear-work .ensures)
 
 pub ask-spec : {M : Type 1} → statement M
 ask-spec =
@@ -96,7 +96,7 @@ ask-spec =
     returns-3
     decide-requires
     show-solution-requires
-    clear-requires
+    clear-work-requires
     found-requires
     same-length
     same-length-2

@@ -6,14 +6,14 @@ use borrow.Author.Needs.{needs}
 use Rattle.zimorgal.proofs.found.Statement.{statement}
 use Rattle.zimorgal.proofs.found.Tie as tie
 
-height-of-requires : tie.Need-height-of-requires
-height-of-requires c κs = search needs
+height-given-requires : tie.Need-height-given-requires
+height-given-requires c κs = search needs
 
 outcome-of-requires : tie.Need-outcome-of-requires
 outcome-of-requires c κs = search needs
 
 returns : tie.Need-returns
-returns c = c .outcome-of .ensures ∙ ap (answerOutcome (answerOf (c .before .before .args .decision .finding))) (c .before .height-of .ensures)
+returns c = c .outcome-of .ensures ∙ ap (answerOutcome (answerOf (c .before .before .args .decision .finding))) (c .before .height-given .ensures)
 
 pub found-spec : {M : Type 1} → statement M
-found-spec = tie.close (tie.spec height-of-requires outcome-of-requires returns)
+found-spec = tie.close (tie.spec height-given-requires outcome-of-requires returns)

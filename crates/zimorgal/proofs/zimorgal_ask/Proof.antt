@@ -1,6 +1,6 @@
 -- `zimorgal::zimorgal_ask` gives what asking gives as one number, and every field fits its bytes. Assumes nothing.
 use mathlib.Core.Path.{sym, subst}
-use Rattle.zimorgal.specs.Packing.{Fits}
+use Rattle.zimorgal.specs.Packing.{InBytes}
 use Rattle.zimorgal.specs.AskingLaws.{outcome-fits}
 use Rattle.zimorgal.specs.AskedRight.{given-packed}
 use borrow.Author.Needs.{needs}
@@ -11,7 +11,7 @@ ask-requires : tie.Need-ask-requires
 ask-requires c κs = search needs
 
 pack-requires : tie.Need-pack-requires
-pack-requires c κs = subst Fits (sym (c .before .before .before .before .ask .ensures .0)) (outcome-fits _ _ _)
+pack-requires c κs = subst InBytes (sym (c .before .before .before .before .ask .ensures .0)) (outcome-fits _ _ _)
 
 same-length : tie.Need-same-length
 same-length c = search needs

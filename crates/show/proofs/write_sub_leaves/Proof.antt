@@ -1,0 +1,92 @@
+-- `show::write_sub_leaves` shows every choice with a sub-leaf of its own. The loop's invariant: the first n are shown. Assumes nothing.
+use native.Mathlib.Omega.{arith}
+use mathlib.Core.Path.{_≡_, refl, sym, _∙_, subst}
+use Prim.Native.Nat.{ℕ, _≤_, _-_}
+use lib.ListN.{length, getD}
+use Rattle.show.specs.Blocks.{Inside}
+use Rattle.show.specs.Plans.{Shows}
+use Rattle.show.specs.PlanLaws.{leaf-inside, sub-leaf-small, shows-more}
+use Rattle.show.proofs.write_sub_leaves.Statement.{statement}
+use Rattle.show.proofs.write_sub_leaves.Tie as tie
+
+abbrev Inv-loop : tie.InvT-loop
+Inv-loop row₀ p plan height n₀ row n = (n ≤ plan .count) × (length row ≡ length row₀) × Shows plan n p row
+
+abbrev μ-loop : tie.MeasureT-loop
+μ-loop row₀ p plan height n₀ row n = plan .count - n
+
+sub-height : tie.Need-sub-height Inv-loop μ-loop
+sub-height c = omega arith
+
+loop-holds : tie.Need-loop-holds Inv-loop μ-loop
+loop-holds c = (omega arith, refl, c .before .pre .1 .2)
+
+mul-s : tie.Need-mul-s Inv-loop μ-loop
+mul-s c = omega (arith, c .before .before .before .pre .0 .few)
+
+element-copy-out-s : tie.Need-element-copy-out-s Inv-loop μ-loop
+element-copy-out-s c = omega (arith, c .before .before .before .pre .0 .few)
+
+cast-s : tie.Need-cast-s Inv-loop μ-loop
+cast-s c = omega (arith, sub-leaf-small _ (c .before .before .before .before .pre .0) _ (c .before .loop-test .taken))
+
+mul-digit : tie.Need-mul-digit Inv-loop μ-loop
+mul-digit c = omega (arith, c .before .before .before .before .before .pre .0 .few)
+
+element-copy-out-digit : tie.Need-element-copy-out-digit Inv-loop μ-loop
+element-copy-out-digit c = omega (arith, c .before .before .before .before .before .pre .0 .few)
+
+digit-requires : tie.Need-digit-requires Inv-loop μ-loop
+digit-requires c κs = c .before .before .before .before .before .before .pre .1 .1
+
+write-block-requires : tie.Need-write-block-requires Inv-loop μ-loop
+write-block-requires c κs =
+    let start = c .before .before .before .before .before .before .before in
+    let l = c .before .before .before .before .before .loop in
+    let ok = start .pre .0 in
+    subst (Inside (10 - start .args .t2 .high) (getD (start .args .t2 .subleaf) (l .n) 0)) (sym (l .inv .1 ∙ start .pre .1 .0))
+    (leaf-inside (ok .within) (ok .sub-leaves (l .n) (c .before .before .before .before .loop-test .taken)))
+
+add-n : tie.Need-add-n Inv-loop μ-loop
+add-n c = omega (arith, c .before .before .before .before .before .before .before .before .before .before .pre .0 .few, c .before .before .before .before .before .before .before .loop-test .taken)
+
+loop-less : tie.Need-loop-less Inv-loop μ-loop
+loop-less c = omega arith
+
+loop-again : tie.Need-loop-again Inv-loop μ-loop
+loop-again c =
+    let l = c .before .before .before .before .before .before .before .before .loop in (
+      omega arith,
+      c .before .before .write-block .kept .0 ∙ l .inv .1,
+      shows-more _ (c .before .before .before .before .before .before .before .before .before .before .pre .0) _ _ _ (l .row) _ (l .inv .2) (c .before .before .write-block .ensures) (c .before .before .before .digit .ensures),
+    )
+
+same-length : tie.Need-same-length Inv-loop μ-loop
+same-length c = c .before .loop .inv .1
+
+returns : tie.Need-returns Inv-loop μ-loop
+returns c =
+    let a = c .before .before .before .args in
+    let e : c .before .loop .n ≡ a .t2 .count = omega arith in
+    subst (λ (n : ℕ). Shows (a .t2) n (a .p) (c .before .loop .row)) e (c .before .loop .inv .2)
+
+pub write-sub-leaves-spec : {M : Type 1} → statement M
+write-sub-leaves-spec =
+    tie.close
+    (tie.spec
+    Inv-loop
+    μ-loop
+    sub-height
+    loop-holds
+    mul-s
+    element-copy-out-s
+    cast-s
+    mul-digit
+    element-copy-out-digit
+    digit-requires
+    write-block-requires
+    add-n
+    loop-less
+    loop-again
+    same-length
+    returns)
