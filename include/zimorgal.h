@@ -1,5 +1,8 @@
 /* Zimorgal: exact answers to questions about tree shares. The C interface of libzimorgal.a; for C++ see zimorgal.hpp.
 
+   docs/SPEC.md of the sources is the whole specification, and docs/PROVED.md says what is proved of these calls.
+   Nothing checks the declarations here against the Rattle source; they are tested.
+
    A share is a binary tree with empty and full leaves; it says which part of a thing a thread holds. A question asks
    whether a system of share clauses is satisfiable, or whether one system entails another. It is a string of bytes,
    here in hexadecimal:
@@ -24,7 +27,7 @@
    - The parts lent to one call must lie apart, no byte in two of them, and nothing else may touch them during the
      call.
    - Nothing is kept between calls and nothing is allocated. Any number of threads may call at once, each with buffers
-     of its own. A call takes about 40 KB of the thread's stack (tests/cpp/run measures it).
+     of its own. A call takes some 40 KB of the thread's stack (tests/cpp/run measures it).
    - A refusal leaves every lent byte unchanged. */
 #ifndef ZIMORGAL_H
 #define ZIMORGAL_H
@@ -79,7 +82,10 @@ enum zimorgal_reason {
        bits  8 to 15   refusal number, 0 if not refused
        bits 16 to 31   place of the fault: the offset of the command at fault; for bytes after the end that of the first
                        of them, for a missing command the length of the question, for a buffer 0
-       bits 32 to 39   height: the shown solution is no taller, 0 if none is shown
+       bits 32 to 39   the height given with a shown solution: h + c(d) for a satisfiability, h + c(d+1) for an
+                       entailment, where h is the height of the tallest constant, d counts the disequations of the
+                       first system and c(n) is the least k with n <= 2^k. The solution is no taller; it may be
+                       lower. 0 if none is shown
        bits 40 to 47   reason
        bits 48 to 55   disequation number, for reason 3: which disequation of the second system, in order, from 0
        bits 56 to 63   0

@@ -1,5 +1,5 @@
 // Zimorgal for C++17: questions about tree shares, put together by name and asked. Nothing here uses the heap or
-// throws.
+// throws. The calls of zimorgal.h are proved; this header is only tested.
 //
 //     zimorgal::Question question;
 //     zimorgal::Error error = question.start_satisfiability(2);
@@ -372,7 +372,7 @@ struct Result {
     Verdict verdict;
     Refusal refusal;
     std::uint16_t place;  // of a refusal: the offset in the question
-    std::uint8_t height;  // the shown solution is no taller
+    std::uint8_t height;  // given with a shown solution, which is no taller
     Reason reason;
     std::uint8_t disequation;  // for Reason::disequation_unmet: of the second system, in order, from 0
 };

@@ -19,8 +19,11 @@ pub struct Family {
 
 pub fn all() -> Vec<Family> {
     let mut families = vec![
-        by_hand("worked questions of document 01", worked::DOCUMENT_01),
-        by_hand("figure 1 of document 000, as entailments", worked::FIGURE_1),
+        by_hand("worked questions of SPEC 12", worked::WORKED),
+        by_hand(
+            "figure 1 of Le, Nguyen, Chin, Hobor, as entailments",
+            worked::FIGURE_1,
+        ),
         small_random(),
         hidden(),
         small_entailments(),

@@ -1,4 +1,4 @@
-// Tests of zimorgal.hpp against document 01 and against the library. The last line is 'N passed, M failed'.
+// Tests of zimorgal.hpp against docs/SPEC.md and against the library. The last line is 'N passed, M failed'.
 #include <cstdio>
 #include <cstdlib>
 #include <cstring>
@@ -358,7 +358,7 @@ void answers(const char* what, const Question& question, Result expected, const 
     }
 }
 
-// Of document 01's worked questions one of each kind of result. Where a solution is shown it is the only one, or the
+// Of the worked questions of SPEC 12 one of each kind of result. Where a solution is shown it is the only one, or the
 // one that the examples of tests/cli have.
 void results() {
     answers("nothing asked", Question(), {Verdict::yes, Refusal::none, 0, 0, Reason::none, 0}, {}, true);
@@ -422,7 +422,7 @@ void results() {
     const Result fields = decode(0x001E'03'0A'039D'08'02);
     check(fields.verdict == Verdict::no && fields.refusal == Refusal::bad_term && fields.place == 925 &&
               fields.height == 10 && fields.reason == Reason::disequation_unmet && fields.disequation == 30,
-          "each field where document 01 has it");
+          "each field where SPEC 4.2 has it");
     check(decode(1).verdict == Verdict::yes && decode(0).verdict == Verdict::refused, "verdicts");
 
     for (unsigned i = 0; i <= 14; ++i)

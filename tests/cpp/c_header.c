@@ -1,4 +1,4 @@
-/* The C header from C: the example of document 01, and NULL with length 0 for every buffer. Status 0 if all is well. */
+/* The C header from C: the example of SPEC 12.13, and NULL with length 0 for every buffer. Status 0 if all is well. */
 #include <stdio.h>
 #include <string.h>
 

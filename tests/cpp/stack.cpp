@@ -1,4 +1,7 @@
-// Measures the stack that a call takes, on a thread whose stack is painted before. zimorgal.h says about 40 KB.
+// Measures the stack that a call takes, on a thread whose stack is painted before. zimorgal.h says some 40 KB. By itself,
+// from the repository's top folder:
+//
+//     g++ -std=c++17 -O1 -pthread -Iinclude tests/cpp/stack.cpp target/staticlib/libzimorgal.a -o stack && ./stack
 #include <pthread.h>
 
 #include <algorithm>

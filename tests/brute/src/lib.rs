@@ -1,4 +1,4 @@
-//! A brute-force solver for share questions, written from document 01 and apart from the library, and
+//! A brute-force solver for share questions, written from docs/SPEC.md and apart from the library, and
 //! what compares the two.
 //!
 //! - `tree`, `question`: the share model and the byte format;

@@ -1,4 +1,4 @@
-//! Faults of the byte format, worked by hand from document 01: each refusal, its place, and the order at
+//! Faults of the byte format, worked by hand from SPEC 7: each refusal, its place, and the order at
 //! one command; and families that put every byte in one place.
 
 use crate::question::Refusal;

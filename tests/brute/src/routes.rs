@@ -68,7 +68,7 @@ fn plain_trees(report: &mut Report) {
     }
     let quarters = [0x0000_00FF, 0x0000_FF00].map(tree_of_number);
     let joined = quarters[0].join(&quarters[1]).map(|t| t.text());
-    report.same("document 000's join", joined, Some("(*o)".to_string()));
+    report.same("the join of two quarters", joined, Some("(*o)".to_string()));
     report.same("full join full", Tree::Full.join(&Tree::Full), None);
     let mut random = Random::new(1);
     for _ in 0..200 {

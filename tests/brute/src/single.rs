@@ -1,6 +1,6 @@
 //! Route B: the question falls into 2^h leaves; at each leaf every choice of values is tried by itself,
 //! clause by clause. It gives the verdict, the reason, the disequation number, the height, and the one
-//! solution that change request 1 fixes.
+//! solution that the library's contract names (`shownAt`, crates/systems/specs/Decide.antt).
 
 use crate::question::{
     disequations, positive, split, Clause, Question, Relation, Split, Term, MOST_VARIABLES,

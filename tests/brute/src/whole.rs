@@ -1,5 +1,5 @@
 //! Route A: whole trees. Every assignment of folded trees up to a height is tried, by the definitions of
-//! document 01, with nothing decided leaf by leaf.
+//! SPEC 2, with nothing decided leaf by leaf.
 
 use crate::question::{disequations, positive, Clause, Question, Relation, Term};
 use crate::tree::{splits, Tree};

@@ -1,6 +1,7 @@
-//! Questions worked by hand: those of document 01, those of figure 1 of document 000, and one for each
-//! trap. The bytes are written out; `E`, `F`, `L`, `R` stand for the commands that define the empty share,
-//! the full one, the left half and the right half, and `|` only parts the commands for the reader.
+//! Questions worked by hand: those of SPEC 12, the properties of figure 1 of Le, Nguyen, Chin and Hobor,
+//! "A certified decision procedure for tree shares", and one for each mistake of SPEC 13. The bytes are
+//! written out; `E`, `F`, `L`, `R` stand for the commands that define the empty share, the full one, the left
+//! half and the right half, and `|` only parts the commands for the reader.
 
 /// A question, its answer, and the tree texts of the fixed solution where one is shown.
 pub struct Worked {
@@ -66,35 +67,35 @@ pub const FIVE_NOT_EMPTY: &str =
     "01 00 05 00 | E | 10 00 01 02 | 10 02 03 04 | 13 00 20 | 13 01 20 \
                                   | 13 02 20 | 13 03 20 | 13 04 20 | 00";
 
-/// The questions of document 01.
-pub const DOCUMENT_01: &[Worked] = &[
+/// The questions of SPEC 12. A name starts with the question's number there.
+pub const WORKED: &[Worked] = &[
     yes(
-        "the printing program's example",
+        "12.13: the printing program's example",
         "01 00 01 00 03 FF FF 00 00 03 FF FF FF FF 10 00 20 21 00",
         1,
         &["(o*)"],
     ),
-    yes("M: no variable, no clause", "01 00 00 00 | 00", 0, &[]),
+    yes("12.1: no variable, no clause", "01 00 00 00 | 00", 0, &[]),
     unshown(
-        "M: v0 join v0 is full",
+        "12.2: v0 join v0 is full",
         "01 00 01 00 | F | 10 00 00 20 | 00",
         false,
         0,
     ),
     unshown(
-        "M: v0 join v0 is v1, v1 not empty",
+        "12.3: v0 join v0 is v1, v1 not empty",
         "01 00 02 00 | E | 10 00 00 01 | 13 01 20 | 00",
         false,
         0,
     ),
     yes(
-        "M: v0 join v1 is v2, none empty",
+        "12.4: v0 join v1 is v2, none empty",
         THREE_NOT_EMPTY,
         2,
         &["((*o)o)", "((o*)(*o))", "(*(*o))"],
     ),
     yes(
-        "M: two joins, none of five empty",
+        "12.5: two joins, none of five empty",
         FIVE_NOT_EMPTY,
         3,
         &[
@@ -106,51 +107,51 @@ pub const DOCUMENT_01: &[Worked] = &[
         ],
     ),
     yes(
-        "M: v0 join v1 is full, v0 not L, v1 not empty",
+        "12.6: v0 join v1 is full, v0 not L, v1 not empty",
         "01 00 02 00 | F L E | 10 00 01 20 | 13 00 21 | 13 01 22 | 00",
         2,
         &["o", "*"],
     ),
     yes(
-        "M: not (full join full is full)",
+        "12.7: not (full join full is full)",
         "01 00 00 00 | F | 11 20 20 20 | 00",
         0,
         &[],
     ),
     unshown(
-        "M: v0 join v0 is full entails v0 empty",
+        "12.8: v0 join v0 is full entails v0 empty",
         "01 01 01 00 | F E | 10 00 00 20 | 22 00 21 | 00",
         true,
         1,
     ),
     not_entailed(
-        "M: v0 not empty, v1 is R, entails L join own v2 is v0",
+        "12.9: v0 not empty, v1 is R, entails L join own v2 is v0",
         "01 01 02 01 | E R L | 13 00 20 | 12 01 21 | 20 22 02 00 | 00",
         2,
         (2, 0),
         &["((o*)o)", "(o*)"],
     ),
     unshown(
-        "M: v0 not empty entails own v1 join own v2 is v0, neither empty",
+        "12.10: v0 not empty entails own v1 join own v2 is v0, neither empty",
         "01 01 01 02 | E | 13 00 20 | 20 01 02 00 | 23 01 20 | 23 02 20 | 00",
         true,
         0,
     ),
     not_entailed(
-        "M: v0 join v1 is full entails v0 not empty",
+        "12.11: v0 join v1 is full entails v0 not empty",
         "01 01 02 00 | F E | 10 00 01 20 | 23 00 21 | 00",
         0,
         (3, 0),
         &["o", "*"],
     ),
     unshown(
-        "M: v0 is L entails v0 not empty",
+        "12.12: v0 is L entails v0 not empty",
         "01 01 01 00 | L E | 12 00 20 | 23 00 21 | 00",
         true,
         0,
     ),
     not_entailed(
-        "v0 is L entails v0 is full",
+        "12.14: v0 is L entails v0 is full",
         "01 01 01 00 | L F | 12 00 20 | 22 00 21 | 00",
         1,
         (2, 0),
@@ -158,7 +159,7 @@ pub const DOCUMENT_01: &[Worked] = &[
     ),
 ];
 
-/// The properties of figure 1 of document 000, as entailments. All hold, with reason 0.
+/// The properties of that figure 1, as entailments. All hold, with reason 0.
 pub const FIGURE_1: &[Worked] = &[
     unshown(
         "functional",
@@ -212,34 +213,34 @@ pub const FIGURE_1: &[Worked] = &[
     ),
 ];
 
-/// Questions that a wrong reading of document 01 gets wrong.
-pub const TRAPS: &[Worked] = &[
+/// Questions that a wrong reading gets wrong. Those of a mistake of SPEC 13 start with its number.
+pub const MISTAKES: &[Worked] = &[
     yes(
-        "trap 1: a disequation needs more than height h",
+        "13.1: a disequation needs more than height h",
         "01 00 02 00 | E F | 10 00 01 21 | 13 00 20 | 13 01 20 | 00",
         1,
         &["(*o)", "(o*)"],
     ),
     yes(
-        "trap 2: no leaf meets both disequations",
+        "13.2: no leaf meets both disequations",
         "01 00 01 00 | E F | 13 00 20 | 13 00 21 | 00",
         1,
         &["(*o)"],
     ),
     yes(
-        "trap 3: a negated join holds where the join is undefined",
+        "13.3: a negated join holds where the join is undefined",
         "01 00 02 00 | F | 12 00 20 | 12 01 20 | 11 00 01 00 | 00",
         0,
         &["*", "*"],
     ),
     unshown(
-        "trap 4: one leaf is enough for a disequation of the second",
+        "13.4: one leaf is enough for a disequation of the second",
         "01 01 01 00 | L E F | 12 00 20 | 23 00 21 | 23 00 22 | 00",
         true,
         0,
     ),
     unshown(
-        "trap 5: own variables may be taller",
+        "13.5: own variables may be taller",
         "01 01 01 03 | E F | 12 00 21 | 20 01 02 03 | 12 00 00 | 23 01 20 | 23 02 20 | 23 03 00 | 00",
         true,
         0,
@@ -316,5 +317,5 @@ pub fn bytes(text: &str) -> Vec<u8> {
 }
 
 pub fn all() -> impl Iterator<Item = &'static Worked> {
-    DOCUMENT_01.iter().chain(FIGURE_1).chain(TRAPS)
+    WORKED.iter().chain(FIGURE_1).chain(MISTAKES)
 }

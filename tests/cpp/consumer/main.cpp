@@ -1,4 +1,4 @@
-// The example of document 01: which share joins the left half to the full one? Writes it.
+// SPEC 12.13: which share joins the left half to the full one? Writes it.
 #include <iostream>
 #include <zimorgal.hpp>
 

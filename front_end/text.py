@@ -18,8 +18,8 @@ one, after those of 'let'.
 import re
 from contextlib import contextmanager
 
-from hands.question import CONSTANTS, EQUALITY, FIRST, NEGATED, SECOND, Fault, Question, is_second
-from hands.trees import TreeFault, read_tree, write_tree
+from front_end.question import CONSTANTS, EQUALITY, FIRST, NEGATED, SECOND, Fault, Question, is_second
+from front_end.trees import TreeFault, read_tree, write_tree
 
 WORD = re.compile(r"=|[^\s=]+")
 NAME = re.compile(r"[A-Za-z_][A-Za-z_0-9]*")

@@ -1,4 +1,4 @@
-"""Runs the proved printing program."""
+"""Runs the printing program."""
 
 import os
 import re
