@@ -22,8 +22,8 @@ use Rattle.leaves.specs.Second.{withUnmet, withMissed, canBeMissed, firstMissed
 use Rattle.leaves.specs.SecondLaws.{extension-room, unmet-solvable, unmet-first, unmet-counter, missed-first, missed-counter}
 use Rattle.systems.specs.Clauses.{Term, variable, constant, Constants, Assignment}
 use Rattle.systems.specs.Questions.{Kind, satisfiability, entailment, Question, Defined, Within, WellFormed, Bounds, tallestConstant, questionHeight, firstCount, secondCount}
-use Rattle.systems.specs.Solutions.{tallest, heightOf, SolvesFirst, Solution, Extends, ExtendsBy, SomeNot, Entails}
-use Rattle.systems.specs.Answers.{Answer, satisfied, unsatisfied, vacuous, entailed, unmet, missed, kindOf, Says, Answers, Yes, verdict, needed, shows, Shown}
+use Rattle.systems.specs.Solutions.{tallest, heightOf, SolvesFirst, Solution, Extends, ExtendsBy, MeetsPositives, MeetsWith, SomeNot, Entails}
+use Rattle.systems.specs.Answers.{Answer, satisfied, unsatisfied, vacuous, entailed, unmet, missed, kindOf, Says, Answers, Yes, verdict, needed, shows, Fails, Shown}
 use Rattle.systems.specs.SystemLaws.{in-system}
 use Rattle.systems.specs.AtLeaves.{firstAt, secondAt}
 use Rattle.systems.specs.AtomLaws.{Reads}
@@ -55,6 +55,14 @@ question-bounds q F = record {
   first = in-system _ _ _ (λ t d _. term-within (q .free) (q .constants) t d) (q .first) (F .first) (F .first);
   second = in-system _ _ _ (λ t d _. term-within (q .free + q .own) (q .constants) t d) (q .second) (F .second) (F .second);
 }
+
+-- ---- what cannot meet the positive clauses, or have a disequation beside them, does not extend
+
+unmet-fails : (q : Question) (σ : Assignment) → ¬ MeetsPositives q σ → Fails q σ unmet
+unmet-fails q σ n = (λ E. n (extends-positives q σ E), n)
+
+missed-fails : (q : Question) (σ : Assignment) (j : ℕ) → j < secondCount q → ¬ MeetsWith j q σ → Fails q σ (missed j)
+missed-fails q σ j l n = (λ E. n (extends-with q σ j l E), n)
 
 -- ---- what a verdict says
 
@@ -92,8 +100,8 @@ module _ (A : ℕ → Type 0) (q : Question) where
   no-means unsatisfied s e = s
   no-means vacuous s e = absurd (one-two e)
   no-means entailed s e = absurd (one-two e)
-  no-means unmet (S, n) e = (S, λ E. n (extends-positives q (S .values) E))
-  no-means (missed j) s e = let (S, n) = s .2 in (S, λ E. n (extends-with q (S .values) j (s .0) E))
+  no-means unmet (S, n) e = (S, unmet-fails q (S .values) n .0)
+  no-means (missed j) s e = let (S, n) = s .2 in (S, missed-fails q (S .values) j (s .0) n .0)
 
 -- ---- the rule
 
@@ -179,8 +187,8 @@ module _ (h : ℕ) (q : Question) (F : WellFormed q) (B : Bounds h q) where
       record {
         solves = fixed-solves P k S₁;
         low = fixed-low P k S₁;
-        fails = λ m. unmet-counter (least (q .own)) h (firstAt h q) (secondAt h q) (h + k) _ S
-            (meets-iff h q F B (h + k) (le-add-right h k) _ _ (fixed-reads P k S₁) .0 m);
+        fails = unmet-fails q _ (λ m. unmet-counter (least (q .own)) h (firstAt h q) (secondAt h q) (h + k) _ S
+            (meets-iff h q F B (h + k) (le-add-right h k) _ _ (fixed-reads P k S₁) .0 m));
       }
 
   shown-missed : (j : ℕ) → j < secondCount q → T (canBeMissed (least (q .free)) (least (q .own)) h (firstAt h q) (secondAt h q) j)
@@ -194,8 +202,8 @@ module _ (h : ℕ) (q : Question) (F : WellFormed q) (B : Bounds h q) where
       record {
         solves = fixed-solves P k S₁;
         low = fixed-low P k S₁;
-        fails = λ m. missed-counter (least (q .own)) h (firstAt h q) (secondAt h q) (h + k) _ j S
-            (with-iff h q F B (h + k) (le-add-right h k) _ _ (fixed-reads P k S₁) j l .0 m);
+        fails = missed-fails q _ j l (λ m. missed-counter (least (q .own)) h (firstAt h q) (secondAt h q) (h + k) _ j S
+            (with-iff h q F B (h + k) (le-add-right h k) _ _ (fixed-reads P k S₁) j l .0 m));
       }
 
   shown-rule : T (shows (decideAt h q)) → Shown h q (decideAt h q) (shownAt h q)
