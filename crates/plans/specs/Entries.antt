@@ -15,7 +15,7 @@ use Rattle.plans.specs.declared.Search.{Search}
 use Rattle.show.specs.declared.Plan.{Plan}
 use Rattle.plans.specs.declared.Solved.{Solved}
 use Rattle.plans.specs.Numbers.{numbered, withoutFirst}
-use Rattle.plans.specs.Plan.{leafFor, rankOf, plainChoice, specialChoice, subLeafAfter, choiceAfter}
+use Rattle.plans.specs.Plan.{leafFor, rankOf, plainChoice, specialChoice, subLeafAfter, choiceAfter, noPlan}
 
 -- the tests at leaf b are those of the problem R, over choices of n variables
 pub record AtLeaf (n b : ℕ) (R : Problem ℕ) (allowed : ℕ → Bool) (special : ℕ → ℕ → Bool) : Type 0 where
@@ -87,9 +87,10 @@ pub record Made (n h : ℕ) (R : Problem ℕ) (k : ℕ) (plan : Plan) : Type 0 w
   pub sub-leaves : (j : ℕ) → j < R .count → getD (plan .subleaf) j 0 ≡ leafFor n h R j * 2 ^ k + rankOf n h R j
   pub choices : (j : ℕ) → j < R .count → getD (plan .choice) j 0 ≡ specialChoice n h R j (leafFor n h R j)
 
--- what a search gives: whether its problem is solvable, whether it is without the extra disequation, and if it is, the plan of the
--- problem's fixed solution
+-- what a search gives: whether its problem is solvable, whether it is without the extra disequation, and the plan of the problem's fixed
+-- solution if it is, `noPlan` if not
 pub record SolvedAs (S : Stored) (h : ℕ) (search : Search) (r : Solved) : Type 0 where
   pub found : r .found ≡ solvable (least (S .free)) h (numbered (S .free) (testsOf S h search))
   pub plainly : r .plainly ≡ solvable (least (S .free)) h (numbered (S .free) (withoutFirst (extraOf search) (testsOf S h search)))
   pub made : T (r .found) → Made (S .free) h (testsOf S h search) (c (roomOf search (getD (S .counts) 1 0))) (r .plan)
+  pub no-plan : T (not (r .found)) → r .plan ≡ noPlan

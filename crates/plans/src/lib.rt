@@ -12,7 +12,7 @@ ghost use Rattle.words.specs.Clause.{Clauses};
 ghost use Rattle.words.specs.Sets.{wordCount, inSet};
 ghost use Rattle.plans.specs.Tests.{stored, Readable, leafValues, secondDiffers, specialIn, extraOf, roomOf, Named, testsOf, Assigned};
 ghost use Rattle.plans.specs.Entries.{LeafSets, ForLeaf, After, Visited, LeafPlanned, Filled, SolvedAs};
-ghost use Rattle.plans.specs.Plan.{hasSubLeaf};
+ghost use Rattle.plans.specs.Plan.{hasSubLeaf, noPlan};
 
 // What is searched for.
 pub enum Search {
@@ -418,6 +418,23 @@ fn both_hold(a: bool, b: bool) -> bool
     a && b
 }
 
+// The plan that is given where no solution is found: no leaf, no entry.
+fn no_plan() -> Plan
+    ensures { λ r. ⌜ r ≡ noPlan ⌝ }
+{
+    let plain = [0u16; 64];
+    let subleaf = [0u16; 32];
+    let choice = [0u16; 32];
+    Plan {
+        low: 0,
+        high: 0,
+        plain,
+        count: 0,
+        subleaf,
+        choice,
+    }
+}
+
 // Whether a search finds a solution, whether it finds one without its extra disequation, and the plan of the first.
 pub struct Solved {
     pub found: bool,
@@ -462,14 +479,22 @@ pub fn solve(
     );
     let found = both_hold(filled, all_assigned(&subleaf, 0, extra + d));
     let plainly = both_hold(filled, all_assigned(&subleaf, extra, d));
-    let plan = Plan {
-        low: h,
-        high: h + k,
-        plain,
-        count: extra + d,
-        subleaf,
-        choice,
-    };
+    if found {
+        let plan = Plan {
+            low: h,
+            high: h + k,
+            plain,
+            count: extra + d,
+            subleaf,
+            choice,
+        };
+        return Solved {
+            found,
+            plainly,
+            plan,
+        };
+    }
+    let plan = no_plan();
     Solved {
         found,
         plainly,

@@ -2,7 +2,7 @@
 use mathlib.Core.Path.{_≡_}
 use mathlib.Core.Bool.{Bool, _&&_, not}
 use mathlib.Core.List.{List}
-use Prim.Native.Nat.{ℕ, _+_, _-_, _*_, _/_, _%_, _^_, _<_}
+use Prim.Native.Nat.{ℕ, _+_, _-_, _*_, _/_, _%_, _^_, _≤_, _<_}
 use lib.Dec.{eqb}
 use lib.ListN.{getD}
 use Rattle.shares.specs.Below.{someBelow}
@@ -20,6 +20,10 @@ inSet set z = bit (getD set (z / 64) 0) (z % 64)
 -- the first `count` words are the set of the choices that pass the test p
 abbrev pub Words : ℕ → (ℕ → ℕ) → (ℕ → Bool) → Type 0
 Words count word p = (w : ℕ) → w < count → (i : ℕ) → i < 64 → bit (word w) i ≡ p (64 * w + i)
+
+-- a table of rows of 64 words is as it was, but for the first `words` words of its first `rows` rows
+abbrev pub KeptBut : ℕ → ℕ → List ℕ → List ℕ → Type 0
+KeptBut rows words old new = (k : ℕ) → (k / 64 < rows → words ≤ k % 64) → getD new k 0 ≡ getD old k 0
 
 -- all clauses of a section pass in choice z
 unfoldable pub allPass : List ℕ → ℕ → ℕ → ℕ → ℕ → ℕ → ℕ → Bool

@@ -8,7 +8,7 @@ ghost use Rattle.shares.specs.Below.{firstBelow};
 ghost use Rattle.shares.specs.Constant.{bit};
 ghost use Rattle.shares.specs.Tree.{joins};
 ghost use Rattle.words.specs.Clause.{testValue, clauseTest, allClauses, position, Clauses};
-ghost use Rattle.words.specs.Sets.{wordCount, inSet, Words, allPass, clauseFails, allPassBut, someOwn, Gathered, Merged};
+ghost use Rattle.words.specs.Sets.{wordCount, inSet, Words, KeptBut, allPass, clauseFails, allPassBut, someOwn, Gathered, Merged};
 ghost use Rattle.words.specs.Table.{TermWord, Terms, Changed, ConstantWords};
 
 // Bit i of the result is the test of a join at the bits i of a, b and c.
@@ -230,6 +230,7 @@ pub fn outside_word(set: &[u64; 64], other: &[u64; 64], w: usize) -> u64
 pub fn remove(set: &mut [u64], other: &[u64; 64], count: usize)
     requires { ⌜ (count ≤ 64) × (length (now set) ≡ 64) ⌝ }
     ensures { λ _. ⌜ ((z : ℕ) → z < 64 * count → inSet (now (set .exit)) z ≡ (inSet (now (set .entry)) z && not (inSet (now (other .entry)) z))) ⌝ }
+    ensures { λ _. ⌜ ((w : ℕ) → count ≤ w → getD (now (set .exit)) w 0 ≡ getD (now (set .entry)) w 0) ⌝ }
 {
     let mut w: usize = 0;
     while w < count {
@@ -319,6 +320,7 @@ fn clear(out: &mut [u64], from: usize, count: usize)
 fn clear_rows(rows: &mut [u64], count: usize, words: usize)
     requires { ⌜ (64 * count ≤ length (now rows)) × (words ≤ 64) ⌝ }
     ensures { λ r. ⌜ ((j : ℕ) → j < count → (w : ℕ) → w < words → getD (now (rows .exit)) (64 * j + w) 0 ≡ 0) ⌝ }
+    ensures { λ r. ⌜ KeptBut count words (now (rows .entry)) (now (rows .exit)) ⌝ }
 {
     let mut j: usize = 0;
     while j < count {
@@ -422,6 +424,7 @@ fn gather(
     ensures { λ r. ⌜ Gathered n (allPass (now (clauses .entry)) start count n m values) (wordCount (n + m)) (λ w. getD (now (meets .exit)) w 0) ⌝ }
     ensures { λ r. ⌜ ((j : ℕ) → j < rows → Gathered n (allPassBut (now (clauses .entry)) start count (from + 4 * j) n m values) (wordCount (n + m)) (λ w. getD (now (with .exit)) (64 * j + w) 0)) ⌝ }
     ensures { λ r. ⌜ ((w : ℕ) → wordCount n ≤ w → getD (now (meets .exit)) w 0 ≡ getD (now (meets .entry)) w 0) ⌝ }
+    ensures { λ r. ⌜ KeptBut rows (wordCount n) (now (with .entry)) (now (with .exit)) ⌝ }
 {
     let words = word_count(n);
     let total = word_count(n + m);
@@ -465,6 +468,7 @@ pub fn fill_sets(
     ensures { λ r. ⌜ Words (wordCount n) (λ w. getD (now (meets .exit)) w 0) (λ z. someOwn n m (allPass (now (clauses .entry)) start count n m values) (z % 2 ^ n)) ⌝ }
     ensures { λ r. ⌜ ((w : ℕ) → wordCount n ≤ w → getD (now (meets .exit)) w 0 ≡ getD (now (meets .entry)) w 0) ⌝ }
     ensures { λ r. ⌜ ((j : ℕ) → j < rows → Words (wordCount n) (λ w. getD (now (with .exit)) (64 * j + w) 0) (λ z. someOwn n m (allPassBut (now (clauses .entry)) start count (from + 4 * j) n m values) (z % 2 ^ n))) ⌝ }
+    ensures { λ r. ⌜ KeptBut rows (wordCount n) (now (with .entry)) (now (with .exit)) ⌝ }
 {
     let words = word_count(n);
     clear(meets, 0, words);

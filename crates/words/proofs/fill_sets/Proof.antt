@@ -33,7 +33,7 @@ gather-requires c κs =
         s .pre .1 .0,
         (
           s .pre .1 .1,
-          (λ w h. c .before .before .before .before .before .before .before .before .clear .ensures .0 w (omega arith) (omega (arith, words, h)), λ j l w h. c .before .before .before .before .clear-rows .ensures j l w (omega (arith, words, h))),
+          (λ w h. c .before .before .before .before .before .before .before .before .clear .ensures .0 w (omega arith) (omega (arith, words, h)), λ j l w h. c .before .before .before .before .clear-rows .ensures .0 j l w (omega (arith, words, h))),
         ),
       ),
     )
@@ -56,6 +56,7 @@ returns c =
     let a = s .args in
     let words = c .before .before .before .before .before .before .before .before .before .before .before .before .before .before .before .before .before .before .before .before .before .before .before .word-count .ensures in
     let cleared = c .before .before .before .before .before .before .before .before .before .before .before .before .before .before .before .before .before .before .before .before .before .clear in
+    let cleared-rows = c .before .before .before .before .before .before .before .before .before .before .before .before .before .before .before .before .before .clear-rows in
     let gathered = c .before .before .before .before .before .before .before .before .before .before .before .before .gather in
     let first = c .before .before .before .before .before .before .merge-rows in
     let rest = c .before .before .merge-rows2 in
@@ -65,13 +66,18 @@ returns c =
           (λ z. pass-mod (a .n) (a .m) (a .values) z (a .clauses .now) (a .start) (a .count)) (gathered .ensures .0)
           (first .ensures .0 0 (omega arith)) (λ w h n. first .ensures .1 w (λ j l q. n (omega arith))),
       (
-        λ w h. first .ensures .1 w (λ j l q. omega (arith, words-pos (a .n), h)) ∙ gathered .ensures .1 .1 w h ∙ cleared .ensures .1 w (λ q. omega (arith, words, h)),
-        λ j k.
-            gathered-set (a .n) (a .m) (allPassBut (a .clauses .now) (a .start) (a .count) (a .from + 4 * j) (a .n) (a .m) (a .values))
-            (λ w. getD (gathered .last .1 .1 .1 .1 .1 .1 .1 .1 .1 .0) (64 * j + w) 0) (λ w. getD (rest .last .0) (64 * j + w) 0)
-            (λ z. but-mod (a .n) (a .m) (a .values) z (a .clauses .now) (a .start) (a .count) (a .from + 4 * j)) (gathered .ensures .1 .0 j k)
-            (subst (λ i. Merged (a .n) (getD (gathered .last .1 .1 .1 .1 .1 .1 .1 .1 .1 .0) i 0) (getD (rest .last .0) i 0)) (sym (add-zero (64 * j))) (rest .ensures .0 j k))
-            (λ w h n. rest .ensures .1 (64 * j + w) (λ u v q. n (omega (arith, le, h, q)))),
+        λ w h. first .ensures .1 w (λ j l q. omega (arith, words-pos (a .n), h)) ∙ gathered .ensures .1 .1 .0 w h ∙ cleared .ensures .1 w (λ q. omega (arith, words, h)),
+        (
+          λ j k.
+              gathered-set (a .n) (a .m) (allPassBut (a .clauses .now) (a .start) (a .count) (a .from + 4 * j) (a .n) (a .m) (a .values))
+              (λ w. getD (gathered .last .1 .1 .1 .1 .1 .1 .1 .1 .1 .0) (64 * j + w) 0) (λ w. getD (rest .last .0) (64 * j + w) 0)
+              (λ z. but-mod (a .n) (a .m) (a .values) z (a .clauses .now) (a .start) (a .count) (a .from + 4 * j)) (gathered .ensures .1 .0 j k)
+              (subst (λ i. Merged (a .n) (getD (gathered .last .1 .1 .1 .1 .1 .1 .1 .1 .1 .0) i 0) (getD (rest .last .0) i 0)) (sym (add-zero (64 * j))) (rest .ensures .0 j k))
+              (λ w h n. rest .ensures .1 (64 * j + w) (λ u v q. n (omega (arith, le, h, q)))),
+          λ k f.
+              rest .ensures .1 k (λ j l q. omega (arith, words-pos (a .n), f (omega (arith, l, q)), q)) ∙ gathered .ensures .1 .1 .1 k f
+              ∙ cleared-rows .ensures .1 k (λ h. omega (arith, words, f h)),
+        ),
       ),
     )
 

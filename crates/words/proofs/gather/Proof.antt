@@ -7,7 +7,7 @@ use native.Mathlib.Omega.{arith}
 use lib.Bits.{bitAnd}
 use lib.ListN.{length, getD, getD-replicate}
 use Rattle.shares.specs.Constant.{bit}
-use Rattle.words.specs.Sets.{wordCount, allPass, allPassBut, Gathered}
+use Rattle.words.specs.Sets.{wordCount, allPass, allPassBut, KeptBut, Gathered}
 use Rattle.words.specs.Table.{Terms}
 use Rattle.words.specs.TableLaws.{table-section, table-but}
 use Rattle.words.specs.ClauseLaws.{clauses-at}
@@ -20,7 +20,7 @@ Inv-loop clauses start count from rows n m values meets₀ with₀ words total t
     (v ≤ total) × (length terms ≡ 64) × ((u : ℕ) × Terms n m values u terms) × (length meets ≡ 64) × (length with ≡ length with₀)
     × Gathered n (allPass clauses start count n m values) v (λ w. getD meets w 0)
     × ((j : ℕ) → j < rows → Gathered n (allPassBut clauses start count (from + 4 * j) n m values) v (λ w. getD with (64 * j + w) 0))
-    × ((w : ℕ) → wordCount n ≤ w → getD meets w 0 ≡ getD meets₀ w 0)
+    × ((w : ℕ) → wordCount n ≤ w → getD meets w 0 ≡ getD meets₀ w 0) × KeptBut rows (wordCount n) with₀ with
 
 abbrev μ-loop : tie.MeasureT-loop
 μ-loop clauses start count from rows n m values meets₀ with₀ words total terms₀ v₀ meets with terms v = total - v
@@ -75,6 +75,7 @@ loop-holds c =
       gathered-none (s .args .n) (passing s) _ (s .pre .1 .1 .1 .0),
       λ j l. gathered-none (s .args .n) (passing-but s j) _ (s .pre .1 .1 .1 .1 j l),
       λ w l. refl,
+      λ k f. refl,
     )
 
 slice-aggregate-move-terms : tie.Need-slice-aggregate-move-terms Inv-loop μ-loop
@@ -126,6 +127,9 @@ loop-again c =
           (clauses-at (s .pre .1 .1 .0) j k) i h))
           (λ w h n. r .ensures .1 .1 .1 (64 * j + w) (λ u v q. n (omega (arith, free-word-lt at-loop, words-le (a .n) (omega (arith, s .pre .0)))))),
       λ w h. r .ensures .1 .0 w (λ q. let e : w ≡ at = q in omega (arith, free-word at-loop, mod-lt (l .v) (words-pos (a .n)))) ∙ l .inv .7 w h,
+      λ k f.
+          r .ensures .1 .1 .1 k (λ u v q. omega (arith, f (omega (arith, free-word-lt at-loop)), free-word at-loop, mod-lt (l .v) (words-pos (a .n)), words-le (a .n) (omega (arith, s .pre .0))))
+          ∙ l .inv .8 k f,
     )
 
 same-length : tie.Need-same-length Inv-loop μ-loop
@@ -141,7 +145,7 @@ returns c =
     let l = at-loop .loop in
     let e : l .v ≡ wordCount (s .args .n + s .args .m) = omega (arith, at-loop .before .before .before .before .word-count2 .ensures) in (
       subst (λ v. Gathered (s .args .n) (passing s) v (λ w. getD (l .meets) w 0)) e (l .inv .5),
-      (λ j k. subst (λ v. Gathered (s .args .n) (passing-but s j) v (λ w. getD (l .with) (64 * j + w) 0)) e (l .inv .6 j k), l .inv .7),
+      (λ j k. subst (λ v. Gathered (s .args .n) (passing-but s j) v (λ w. getD (l .with) (64 * j + w) 0)) e (l .inv .6 j k), (l .inv .7, l .inv .8)),
     )
 
 pub gather-spec : {M : Type 1} → statement M

@@ -49,7 +49,8 @@ returns : tie.Need-returns Inv-loop μ-loop
 returns c =
     let l = c .before .loop in
     let e : l .w ≡ c .before .before .before .args .count = omega arith in
-    removed-all _ _ (l .set) _ (rw e at (l .inv .2))
+    let R = rw e at (l .inv .2) in
+    (removed-all _ _ (l .set) _ R, R .rest)
 
 pub remove-spec : {M : Type 1} → statement M
 remove-spec =
