@@ -20,7 +20,7 @@ use Rattle.leaves.specs.Problem.{Problem, blockFor, specialAt, solvable}
 use Rattle.leaves.specs.ProblemLaws.{rank-lt}
 use borrow.Author.Tests.{le-ltb}
 use Rattle.words.specs.Sets.{clauseFails}
-use Rattle.show.specs.declared.Plan.{Plan}
+use Rattle.plans.specs.declared.Plan.{Plan}
 use Rattle.plans.specs.Numbers.{numbered, withoutFirst}
 use Rattle.plans.specs.Plan.{noSubLeaf, hasSubLeaf, leafFor, rankOf, noPlan}
 use Rattle.plans.specs.PlanLaws.{sub-leaf-there, sub-leaf-none, choice-there, solvable-of, unsolvable-special}
