@@ -11,11 +11,12 @@ use Rattle.shares.specs.Constant.{bit}
 use Rattle.shares.specs.Test.{is-true, is-false, of-true, of-false, and-right}
 use Rattle.shares.specs.Below.{everyBelow, someBelow, firstBelow}
 use Rattle.shares.specs.BelowLaws.{every-at, first-ext, first-below}
-use Rattle.shares.specs.Blocks.{leaf-lt}
+use Rattle.shares.specs.BlockLaws.{leaf-lt}
 use Rattle.shares.specs.Tree.{treeOf}
 use Rattle.shares.specs.TreeLaws.{treeOf-ext}
 use Rattle.leaves.specs.Heights.{c}
-use Rattle.leaves.specs.Choices.{Row, at, least, value}
+use Rattle.leaves.specs.Choices.{Row, at, least}
+use Rattle.leaves.specs.RowNumbers.{value}
 use Rattle.leaves.specs.Problem.{Problem, plainAt, specialAt, solvable, candidate}
 use Rattle.leaves.specs.ProblemLaws.{block-passes, rank-lt}
 use Rattle.leaves.specs.Second.{withUnmet, canBeUnmet, canBeMissed, firstMissed}

@@ -8,7 +8,8 @@ use lib.Dec.{T, ltb, eqb, ltb→lt}
 use lib.Pow.{shr-lt}
 use Rattle.shares.specs.Below.{everyBelow, someBelow, firstBelow}
 use Rattle.shares.specs.BelowLaws.{every-ext, some-ext, first-ext, count-ext, some-intro, some-found, first-passes}
-use Rattle.leaves.specs.Choices.{Picker, someChoice, least, value, digits}
+use Rattle.leaves.specs.Choices.{Picker, someChoice, least}
+use Rattle.leaves.specs.RowNumbers.{value, digits}
 use Rattle.leaves.specs.ChoiceLaws.{value-digits, pick-first, some-row}
 use Rattle.leaves.specs.Problem.{Problem, plainAt, specialAt, solvable, blockFor, rank, disequationAt, choiceAt, candidate}
 

@@ -12,7 +12,7 @@ use lib.ListN.{getD}
 use Rattle.shares.specs.Test.{is-true, is-false, holds}
 use Rattle.shares.specs.Below.{everyBelow}
 use Rattle.shares.specs.BelowLaws.{Below, every-at, every-intro, every-or}
-use Rattle.shares.specs.Blocks.{leaf-lt}
+use Rattle.shares.specs.BlockLaws.{leaf-lt}
 use Rattle.leaves.specs.Heights.{c}
 use Rattle.leaves.specs.HeightLaws.{c-enough}
 use Rattle.leaves.specs.Choices.{least}

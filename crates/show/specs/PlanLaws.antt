@@ -14,7 +14,8 @@ use lib.Pow.{pow-pos, pow-add, pow-mono}
 use Rattle.shares.specs.Tree.{Folded, height, leafAt, treeOf}
 use Rattle.shares.specs.TreeLaws.{treeOf-folded, treeOf-height, leafAt-treeOf, blocks}
 use Rattle.shares.specs.Constant.{bit}
-use Rattle.shares.specs.Blocks.{blockOf, block-lt, block-block}
+use Rattle.shares.specs.Blocks.{blockOf}
+use Rattle.shares.specs.BlockLaws.{block-lt, block-block}
 use Rattle.plans.specs.declared.Plan.{Plan}
 use Rattle.plans.specs.Shown.{Showable, planChoiceAfter, planChoice, planTree}
 use Rattle.show.specs.Rows.{rowLevels, rowBytes, rowCount, answerBytes, rowLeaf, rowTree, rowOf, rowPart}

@@ -16,12 +16,14 @@ use Rattle.shares.specs.Constant.{numberTree}
 use Rattle.leaves.specs.Heights.{c, anyHeight, atMost, exactly}
 use Rattle.leaves.specs.HeightLaws.{c-enough, room-any, room-at, room-exact}
 use Rattle.leaves.specs.Choices.{Row, at, least}
-use Rattle.leaves.specs.Problem.{Problem, Solves, candidate}
+use Rattle.leaves.specs.Problem.{Problem, candidate}
+use Rattle.leaves.specs.LeafSolutions.{SolvesLeaves}
 use Rattle.leaves.specs.ProblemLaws.{cut-solvable, candidate-solves, solution-glued}
 use Rattle.leaves.specs.Second.{withUnmet, withMissed, canBeMissed, firstMissed}
 use Rattle.leaves.specs.SecondLaws.{extension-room, unmet-solvable, unmet-first, unmet-counter, missed-first, missed-counter}
 use Rattle.systems.specs.Clauses.{Term, variable, constant, Constants, Assignment}
-use Rattle.systems.specs.Questions.{Kind, satisfiability, entailment, Question, Defined, Within, WellFormed, Bounds, tallestConstant, questionHeight, firstCount, secondCount}
+use Rattle.systems.specs.Questions.{Kind, satisfiability, entailment, Question, Defined, WellFormed, tallestConstant, questionHeight, firstCount, secondCount}
+use Rattle.systems.specs.Bounds.{Within, Bounds}
 use Rattle.systems.specs.Solutions.{tallest, heightOf, SolvesFirst, Solution, Extends, ExtendsBy, MeetsPositives, MeetsWith, SomeNot, Entails}
 use Rattle.systems.specs.Answers.{Answer, satisfied, unsatisfied, vacuous, entailed, unmet, missed, kindOf, Says, Answers, Yes, verdict, needed, shows, Fails, Shown}
 use Rattle.systems.specs.SystemLaws.{in-system}
@@ -141,7 +143,7 @@ module _ (h : ℕ) (q : Question) (F : WellFormed q) (B : Bounds h q) where
           (no-means _ q a (says-right h q F B _ _ (read-room (firstCount q + 1)) entailment (room-exact h _)) e)
 
   -- any assignment that extends, extends so
-  pub extension-rule : (σ : Assignment) → Extends q σ → ExtendsBy (atMost (max (heightOf q σ) h + c (secondCount q))) q σ
+  extension-rule : (σ : Assignment) → Extends q σ → ExtendsBy (atMost (max (heightOf q σ) h + c (secondCount q))) q σ
   extension-rule σ E =
       let w = max (tallest (q .free) σ) h in
       let l = le-max-right (tallest (q .free) σ) h in
@@ -159,7 +161,7 @@ module _ (h : ℕ) (q : Question) (F : WellFormed q) (B : Bounds h q) where
 
   -- ---- the solution that is shown
 
-  module _ (P : Problem (Row Bool (q .free))) (k : ℕ) (S : Solves h (firstAt h q) (h + k) (candidate (least (q .free)) h P k)) where
+  module _ (P : Problem (Row Bool (q .free))) (k : ℕ) (S : SolvesLeaves h (firstAt h q) (h + k) (candidate (least (q .free)) h P k)) where
     fixed-reads : Reads (q .free) (h + k) (fixed h q P k) (λ i. at false (candidate (least (q .free)) h P k i))
     fixed-reads = shares-read (q .free) (h + k) _
 
