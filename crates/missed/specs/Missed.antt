@@ -12,7 +12,8 @@ use Rattle.leaves.specs.Choices.{least}
 use Rattle.leaves.specs.Problem.{solvable}
 use Rattle.words.specs.Sets.{wordCount, inSet, Words, allPassBut, someOwn}
 use Rattle.plans.specs.Numbers.{numbered}
-use Rattle.plans.specs.Tests.{Stored, leafValues, firstMeets, firstDiffers, secondDiffers, allowedIn, testsOf}
+use Rattle.questions.specs.Stored.{Stored}
+use Rattle.plans.specs.Tests.{leafValues, firstMeets, firstDiffers, secondDiffers, allowedIn, testsOf}
 use Rattle.plans.specs.declared.Search.the-variants.{Missed}
 
 -- some solution of the first system cannot have disequation j of the second

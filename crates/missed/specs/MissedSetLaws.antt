@@ -20,7 +20,8 @@ use Rattle.words.specs.GatherLaws.{own-none, periodic-some}
 use Rattle.words.specs.TermLaws.{pass-mod, but-mod}
 use Rattle.plans.specs.Numbers.{numbered}
 use Rattle.plans.specs.PlanLaws.{found-some, plain-is, special-is}
-use Rattle.plans.specs.Tests.{Stored, leafValues, firstMeets, firstDiffers, secondDiffers, allowedIn, specialIn, testsOf}
+use Rattle.questions.specs.Stored.{Stored}
+use Rattle.plans.specs.Tests.{leafValues, firstMeets, firstDiffers, secondDiffers, allowedIn, specialIn, testsOf}
 use Rattle.plans.specs.LeafLaws.{differs-periodic}
 use Rattle.missed.specs.Missed.{missedIn, lowestMissedIn, misses, missesWith, overall, RowSets, outside, someOutside, Passed, KnownOf, isMissed}
 use Rattle.missed.specs.MissedLaws.{passed-as, known-more, known-all, known-dead}

@@ -8,7 +8,8 @@ ghost use lib.ListN.{length, getD};
 ghost use Rattle.shares.specs.Below.{everyBelow, firstBelow};
 ghost use Rattle.shares.specs.Constant.{bit};
 ghost use Rattle.words.specs.RemoveLaws.{Without};
-ghost use Rattle.plans.specs.Tests.{stored, Readable};
+ghost use Rattle.questions.specs.Stored.{stored};
+ghost use Rattle.plans.specs.Tests.{Readable};
 ghost use Rattle.missed.specs.Missed.{lowestMissedIn, misses, missesWith, RowSets, someOutside, Narrowed, Passed, isMissed};
 
 // The choices of word k of some rows that are not in word l of others.
@@ -345,10 +346,10 @@ fn lowest_of_many(
 }
 
 // The lowest disequation of the second system that some solution of the first cannot have, or their count.
-pub fn lowest_missed(
+pub fn lowest_missed<'a>(
     clauses: &[u8; 768],
-    counts: &[usize; 4],
-    constants: &[u64; 32],
+    counts: &'a [usize; 4],
+    constants: &'a [u64; 32],
     defined: usize,
     free: usize,
     own: usize,

@@ -10,7 +10,8 @@ use Rattle.leaves.specs.Heights.{c}
 use Rattle.leaves.specs.Choices.{least}
 use Rattle.leaves.specs.Problem.{Problem, solvable}
 use Rattle.words.specs.Sets.{wordCount, Periodic}
-use Rattle.plans.specs.Tests.{Stored, leafValues, secondMeets, extraOf, roomOf, allowedIn, testsOf}
+use Rattle.questions.specs.Stored.{Stored}
+use Rattle.plans.specs.Tests.{leafValues, secondMeets, extraOf, roomOf, allowedIn, testsOf}
 use Rattle.plans.specs.declared.Search.{Search}
 use Rattle.plans.specs.declared.Plan.{Plan}
 use Rattle.plans.specs.declared.Solved.{Solved}

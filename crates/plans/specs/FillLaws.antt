@@ -22,7 +22,8 @@ use Rattle.words.specs.Sets.{wordCount}
 use Rattle.plans.specs.Numbers.{withoutFirst}
 use Rattle.plans.specs.Plan.{noSubLeaf, hasSubLeaf, plainChoice}
 use Rattle.plans.specs.PlanLaws.{sub-leaf-none, choice-none, unsolvable-plain}
-use Rattle.plans.specs.Tests.{Stored, leafValues, allowedIn, testsOf}
+use Rattle.questions.specs.Stored.{Stored}
+use Rattle.plans.specs.Tests.{leafValues, allowedIn, testsOf}
 use Rattle.plans.specs.Entries.{HasRoom, After, Visited, Plains, LeafPlanned, Filled}
 use Rattle.plans.specs.EntryLaws.{words-found, words-none}
 use Rattle.plans.specs.LeafLaws.{allowed-periodic}

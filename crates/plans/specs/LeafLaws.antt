@@ -16,7 +16,8 @@ use Rattle.shares.specs.BitLaws.{bits-same, number-lt, bit-number}
 use Rattle.words.specs.Sets.{wordCount, inSet, Words, allPass, clauseFails, allPassBut, someOwn, Periodic}
 use Rattle.words.specs.TermLaws.{pass-mod, fails-mod}
 use Rattle.words.specs.SearchLaws.{words-set}
-use Rattle.plans.specs.Tests.{Stored, leafValues, firstMeets, secondMeets, secondDiffers, specialIn, extraOf, allowedIn, testsOf}
+use Rattle.questions.specs.Stored.{Stored}
+use Rattle.plans.specs.Tests.{leafValues, firstMeets, secondMeets, secondDiffers, specialIn, extraOf, allowedIn, testsOf}
 use Rattle.plans.specs.Entries.{AtLeaf, LeafSets, After, ForLeaf, Visited}
 use Rattle.plans.specs.declared.Search.{Search}
 use Rattle.plans.specs.declared.Search.the-variants.{First, Unmet, Missed}

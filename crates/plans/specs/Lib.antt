@@ -6,7 +6,6 @@ pub mod Tests
 pub mod Entries
 pub mod EntryLaws
 pub mod AssignedLaws
-pub mod StoredLaws
 pub mod LeafLaws
 pub mod FillLaws
 pub mod Shown

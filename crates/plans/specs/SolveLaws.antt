@@ -24,7 +24,8 @@ use Rattle.plans.specs.declared.Plan.{Plan}
 use Rattle.plans.specs.Numbers.{numbered, withoutFirst}
 use Rattle.plans.specs.Plan.{noSubLeaf, hasSubLeaf, leafFor, rankOf, noPlan}
 use Rattle.plans.specs.PlanLaws.{sub-leaf-there, sub-leaf-none, choice-there, solvable-of, unsolvable-special}
-use Rattle.plans.specs.Tests.{Stored, leafValues, firstMeets, specialIn, extraOf, roomOf, testsOf}
+use Rattle.questions.specs.Stored.{Stored}
+use Rattle.plans.specs.Tests.{leafValues, firstMeets, specialIn, extraOf, roomOf, testsOf}
 use Rattle.plans.specs.Entries.{HasRoom, After, Plains, Filled, Made, SolvedAs}
 use Rattle.plans.specs.FillLaws.{c-most, assigned-not}
 use Rattle.plans.specs.declared.Search.{Search}

@@ -9,7 +9,8 @@ ghost use Rattle.shares.specs.Constant.{bit};
 ghost use Rattle.leaves.specs.Heights.{c};
 ghost use Rattle.words.specs.Clause.{Clauses};
 ghost use Rattle.words.specs.Sets.{wordCount, inSet};
-ghost use Rattle.plans.specs.Tests.{stored, Readable, leafValues, secondDiffers, specialIn, extraOf, roomOf, Named, testsOf, Assigned};
+ghost use Rattle.questions.specs.Stored.{stored};
+ghost use Rattle.plans.specs.Tests.{Readable, leafValues, secondDiffers, specialIn, extraOf, roomOf, Named, testsOf, Assigned};
 ghost use Rattle.plans.specs.Entries.{LeafSets, ForLeaf, After, Visited, LeafPlanned, Filled, SolvedAs};
 ghost use Rattle.plans.specs.Plan.{hasSubLeaf, noPlan};
 
@@ -458,10 +459,10 @@ pub struct Solved {
 }
 
 // Searches for a solution at the 2^h leaves.
-pub fn solve(
+pub fn solve<'a>(
     clauses: &[u8; 768],
-    counts: &[usize; 4],
-    constants: &[u64; 32],
+    counts: &'a [usize; 4],
+    constants: &'a [u64; 32],
     defined: usize,
     free: usize,
     own: usize,

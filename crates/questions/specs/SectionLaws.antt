@@ -10,7 +10,8 @@ use Rattle.systems.specs.Questions.{Question}
 use Rattle.questions.specs.declared.Section.{Section}
 use Rattle.questions.specs.declared.Section.the-variants.{FirstPositive, FirstDisequation, SecondPositive, SecondDisequation}
 use Rattle.questions.specs.Format.{mostOf, inSection, withClause, withConstant}
-use Rattle.questions.specs.Held.{sectionNumber, sectionStart, countOf, nextSlot}
+use Rattle.questions.specs.Stored.{sectionNumber, clauseBytes, sectionStart, countOf}
+use Rattle.questions.specs.Keeping.{nextSlot}
 
 -- ---- lists
 
@@ -114,7 +115,7 @@ section-below SecondPositive = omega arith
 section-below SecondDisequation = omega arith
 
 -- a section's bytes lie within the clauses' bytes
-pub slot-fits : (counts : List ℕ) (σ : Section) → countOf counts σ < mostOf σ → nextSlot counts σ + 4 ≤ 768
+pub slot-fits : (counts : List ℕ) (σ : Section) → countOf counts σ < mostOf σ → nextSlot counts σ + 4 ≤ clauseBytes
 slot-fits counts FirstPositive h = omega arith
 slot-fits counts FirstDisequation h = omega arith
 slot-fits counts SecondPositive h = omega arith

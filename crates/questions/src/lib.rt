@@ -4,8 +4,10 @@ ghost use Prim.Native.Nat.{_+_, _≤_, _<_};
 ghost use mathlib.Core.Bool.{true};
 ghost use lib.ListN.{length, getD, take, drop};
 ghost use Rattle.shares.specs.Constant.{number};
-ghost use Rattle.questions.specs.Format.{entryOf, termCount, operands, thirdAt, commandOf, readAt, isSecond, mostOf, names, variablesFor, allNamed, clauseFault, constantFault, headFits, opened, run, headOf, read};
-ghost use Rattle.questions.specs.Held.{sectionNumber, testNumber, sectionStart, countOf, keptConstants, constantCount, keptClauses, clauseCounts, Slot, clauseWritten, Counted, clauseTotal, foreignTo, faultOf, judgedOf, refusalOf, isEnd, wrongOf, refusedAs, HandsBack};
+ghost use Rattle.systems.specs.Questions.{Question as Asked};
+ghost use Rattle.questions.specs.Format.{refused, accepted, entryOf, termCount, operands, thirdAt, commandOf, readAt, isSecond, mostOf, names, variablesFor, allNamed, clauseFault, constantFault, headFits, opened, run, headOf, read};
+ghost use Rattle.questions.specs.Stored.{sectionNumber, testNumber, clauseBytes, sectionStart, storedOf, countOf, Counted, Stands, readingOf, clauseWritten, writtenBy, clausesAfter};
+ghost use Rattle.questions.specs.Keeping.{keptConstants, constantCount, keptClauses, clauseCounts, Slot, clauseTotal, foreignTo, faultOf, judgedOf, refusalOf, isEnd, wrongOf};
 
 // The positive clauses and the disequations of each system.
 pub enum Section {
@@ -59,16 +61,24 @@ pub enum Head {
     Wrong(u8),
 }
 
-// What reading gives: refusal 0 and the head of the question with its number of constants, or a refusal with its place. The constants, clauses
-// and counts are in the lent arrays. A clause is four bytes: its test (0 join, 1 equality) and its terms (the third is 0 for an equality).
-// Sections: 0 first positive, from byte 0; 1 first disequations, from 256; 2 second positive, from 384; 3 second disequations, from 640.
-pub struct Reading {
-    pub refusal: u8,
-    pub place: usize,
+// A question that was read: its kind (0 satisfiability, 1 entailment), its free and own variables, its constants, of which so many are
+// defined, and how many clauses each section has. The clauses themselves are bytes beside it, four a clause: its test (0 join, 1
+// equality) and its terms (the third is 0 for an equality). Sections: 0 first positive, from byte 0; 1 first disequations, from 256;
+// 2 second positive, from 384; 3 second disequations, from 640.
+pub struct Question {
     pub kind: u8,
     pub free: usize,
     pub own: usize,
+    pub constants: [u64; 32],
     pub defined: usize,
+    pub counts: [usize; 4],
+}
+
+// What reading gives: refusal 0 and the question, or a refusal with its place and a question whose fields are 0.
+pub struct Reading {
+    pub refusal: u8,
+    pub place: usize,
+    pub question: Question,
 }
 
 // ---- the table of commands
@@ -437,7 +447,7 @@ fn store(clauses: &mut [u8], i: usize, t: u8, a: u8, b: u8, c: u8)
 }
 
 fn keep_clause(clauses: &mut [u8], counts: &[usize; 4], command: Command)
-    requires { ⌜ length (now clauses) ≡ 768 ⌝ }
+    requires { ⌜ length (now clauses) ≡ clauseBytes ⌝ }
     requires { ⌜ Slot (now counts) command ⌝ }
     ensures { λ _. ⌜ now (clauses .exit) ≡ keptClauses (now (clauses .entry)) (now (counts .entry)) command ⌝ }
 {
@@ -482,15 +492,20 @@ fn count_clause(counts: &mut [usize; 4], command: Command)
 // ---- the whole question
 
 fn refused(refusal: u8, place: usize) -> Reading
-    ensures { λ r. ⌜ r ≡ refusedAs refusal place ⌝ }
+    ensures { λ r. ⌜ r ≡ readingOf (refused refusal place) ⌝ }
 {
-    Reading {
-        refusal,
-        place,
+    let question = Question {
         kind: 0,
         free: 0,
         own: 0,
+        constants: [0; 32],
         defined: 0,
+        counts: [0; 4],
+    };
+    Reading {
+        refusal,
+        place,
+        question,
     }
 }
 
@@ -511,45 +526,45 @@ fn is_end(command: Command) -> bool
     }
 }
 
-// The commands after a head that fits. The arrays are working space.
-fn read_commands(
-    bytes: &[u8],
-    kind: u8,
-    free: usize,
-    own: usize,
-    constants: &mut [u64],
-    clauses: &mut [u8],
-    counts: &mut [usize; 4],
-) -> Reading
+// The commands after a head that fits.
+fn read_commands(bytes: &[u8], kind: u8, free: usize, own: usize, clauses: &mut [u8]) -> Reading
     requires { ⌜ 4 ≤ length (now bytes) ⌝ }
     requires { ⌜ headFits kind free own ≡ true ⌝ }
-    requires { ⌜ (length (now constants) ≡ 32) × (length (now clauses) ≡ 768) ⌝ }
-    ensures { λ r. ⌜ HandsBack (run (length (now (bytes .entry))) (now (bytes .entry)) 4 (opened kind free own)) r (now (constants .exit)) (now (clauses .exit)) (now (counts .exit)) ⌝ }
+    requires { ⌜ length (now clauses) ≡ clauseBytes ⌝ }
+    ensures answer { λ r. ⌜ r ≡ readingOf (run (length (now (bytes .entry))) (now (bytes .entry)) 4 (opened kind free own)) ⌝ }
+    ensures clauses { λ _. ⌜ now (clauses .exit) ≡ writtenBy (length (now (bytes .entry))) (now (bytes .entry)) 4 (opened kind free own) (now (clauses .entry)) ⌝ }
+    ensures stands { λ r. ⌜ ((q : Asked) → run (length (now (bytes .entry))) (now (bytes .entry)) 4 (opened kind free own) ≡ accepted q → Stands (r .question .kind) (storedOf (r .question) (now (clauses .exit))) q) ⌝ }
 {
-    *counts = [0; 4];
+    let mut constants = [0u64; 32];
+    let mut counts = [0usize; 4];
     let mut defined: usize = 0;
     let mut at: usize = 4;
     loop {
-        let r = read_command(bytes, at, kind, free, own, defined, counts);
+        let r = read_command(bytes, at, kind, free, own, defined, &counts);
         let Step::Take { command, next } = r else {
             return refused(refusal_of(r), at);
         };
         if is_end(command) {
             if next == bytes.len() {
-                return Reading {
-                    refusal: 0,
-                    place: 0,
+                let question = Question {
                     kind,
                     free,
                     own,
+                    constants,
                     defined,
+                    counts,
+                };
+                return Reading {
+                    refusal: 0,
+                    place: 0,
+                    question,
                 };
             }
             return refused(10, next);
         }
-        defined = keep_constant(constants, defined, command);
-        keep_clause(clauses, counts, command);
-        count_clause(counts, command);
+        defined = keep_constant(&mut constants, defined, command);
+        keep_clause(clauses, &counts, command);
+        count_clause(&mut counts, command);
         at = next;
     }
 }
@@ -604,18 +619,15 @@ fn wrong_of(h: Head) -> u8
     }
 }
 
-// The reading of a byte string of any length. The arrays are working space: what they held before does not matter.
-pub fn read(
-    bytes: &[u8],
-    constants: &mut [u64; 32],
-    clauses: &mut [u8; 768],
-    counts: &mut [usize; 4],
-) -> Reading
-    ensures { λ r. ⌜ HandsBack (read (now (bytes .entry))) r (now (constants .exit)) (now (clauses .exit)) (now (counts .exit)) ⌝ }
+// The reading of a byte string of any length. The clauses are written to the lent bytes as they are read.
+pub fn read(bytes: &[u8], clauses: &mut [u8; 768]) -> Reading
+    ensures answer { λ r. ⌜ r ≡ readingOf (read (now (bytes .entry))) ⌝ }
+    ensures clauses { λ _. ⌜ now (clauses .exit) ≡ clausesAfter (now (bytes .entry)) (now (clauses .entry)) ⌝ }
+    ensures stands { λ r. ⌜ ((q : Asked) → read (now (bytes .entry)) ≡ accepted q → Stands (r .question .kind) (storedOf (r .question) (now (clauses .exit))) q) ⌝ }
 {
     let h = read_head(bytes);
     let Head::Opens { kind, free, own } = h else {
         return refused(wrong_of(h), 0);
     };
-    read_commands(bytes, kind, free, own, constants, clauses, counts)
+    read_commands(bytes, kind, free, own, clauses)
 }

@@ -5,7 +5,7 @@ use native.Mathlib.Omega.{arith}
 use lib.ListN.{length, getD, getD-replicate}
 use lib.Pow.{pow-pos, pow-mono}
 use Rattle.words.specs.Shifts.{power-shift}
-use Rattle.plans.specs.Tests.{Stored, stored}
+use Rattle.questions.specs.Stored.{Stored, stored}
 use Rattle.missed.specs.Missed.{KnownOf}
 use Rattle.missed.specs.MissedLaws.{known-none}
 use Rattle.missed.specs.MissedSetLaws.{known-leaf, known-lowest, known-nothing}

@@ -1,6 +1,6 @@
 -- `plans::plan_leaf` meets its contract: the leaf has a choice, or has none. Assumes nothing.
 use Rattle.plans.specs.FillLaws.{leaves-le, row-room, fits, turn-found, turn-none}
-use Rattle.plans.specs.Tests.{stored}
+use Rattle.questions.specs.Stored.{stored}
 use Rattle.words.specs.GatherLaws.{words-le}
 use native.Mathlib.Omega.{arith}
 use Prim.Native.Nat.{_*_}

@@ -9,7 +9,8 @@ use Rattle.leaves.specs.Heights.{c}
 use Rattle.plans.specs.SolveLaws.{room-enough, splits-is, room-splits, solved}
 use Rattle.plans.specs.FillLaws.{fits, after-none}
 use Rattle.plans.specs.LeafLaws.{extra-le}
-use Rattle.plans.specs.Tests.{stored, extraOf, roomOf}
+use Rattle.questions.specs.Stored.{stored}
+use Rattle.plans.specs.Tests.{extraOf, roomOf}
 use Rattle.plans.proofs.solve.Statement.{statement}
 use Rattle.plans.proofs.solve.Tie as tie
 

@@ -2,7 +2,7 @@
 use mathlib.Core.Path.{subst}
 use native.Mathlib.Omega.{arith}
 use borrow.Author.Needs.{needs}
-use Rattle.questions.specs.Held.{Slot}
+use Rattle.questions.specs.Keeping.{Slot}
 use Rattle.questions.specs.SectionLaws.{section-below}
 use Rattle.questions.proofs.count_clause.Statement.{statement}
 use Rattle.questions.proofs.count_clause.Tie as tie

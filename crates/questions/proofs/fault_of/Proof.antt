@@ -1,6 +1,6 @@
 -- `questions::fault_of` meets its contract, by cases on the command. Assumes nothing.
 use borrow.Author.Needs.{needs}
-use Rattle.questions.specs.Held.{faultOf}
+use Rattle.questions.specs.Keeping.{faultOf}
 use Rattle.questions.proofs.fault_of.Statement.{statement}
 use Rattle.questions.proofs.fault_of.Tie as tie
 

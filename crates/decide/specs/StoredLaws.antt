@@ -1,4 +1,4 @@
--- A struct that stands for a question poses the question's own tests at the leaves. Assumes nothing.
+-- The stored clauses of a question have the tests of its atoms at the leaves. Assumes nothing.
 use mathlib.Core.Path.{_≡_, refl, sym, ap, ap₂, _∙_}
 use mathlib.Core.Bool.{Bool, true, false, cond, _&&_, Bool·beq, and-true, and-assoc}
 use mathlib.Core.List.{List, [], _∷_, _++_}
@@ -25,9 +25,9 @@ use Rattle.shares.specs.BitParts.{bit-low, bit-high}
 use Rattle.shares.specs.BelowLaws.{every-more}
 use Rattle.words.specs.TermLaws.{value-constant}
 use Rattle.questions.specs.Format.{termOf, names, allNamed, atomOf}
-use Rattle.questions.specs.Held as held
 use Rattle.questions.specs.declared.Test.the-variants.{Join, Equality}
-use Rattle.plans.specs.Tests.{Stored, leafValues}
+use Rattle.questions.specs.Stored.{storedAtom, atomsOf, Stored, StoredClause}
+use Rattle.plans.specs.Tests.{leafValues}
 
 -- ---- a row's values are the digits of its number
 
@@ -81,9 +81,9 @@ module _ (S : Stored) (h b : ℕ) (few : S .defined ≤ 32) where
             ∙ sym (value-constant n m (leafValues S h b) z t (omega arith) g)
 
     -- a stored clause has the test of its atom
-    pub atom-same : (at : ℕ) → held.StoredClause k (S .defined) (getD (S .clauses) at 0) (getD (S .clauses) (at + 1) 0) (getD (S .clauses) (at + 2) 0) (getD (S .clauses) (at + 3) 0)
-        → atomAt h (storedConstants S) b X (held.storedAtom (S .clauses) at) ≡ clauseTest (S .clauses) (termValue n m (leafValues S h b) z) at
-    unfolding held.storedAtom clauseTest testValue atomAt
+    pub atom-same : (at : ℕ) → StoredClause k (S .defined) (getD (S .clauses) at 0) (getD (S .clauses) (at + 1) 0) (getD (S .clauses) (at + 2) 0) (getD (S .clauses) (at + 3) 0)
+        → atomAt h (storedConstants S) b X (storedAtom (S .clauses) at) ≡ clauseTest (S .clauses) (termValue n m (leafValues S h b) z) at
+    unfolding storedAtom clauseTest testValue atomAt
     atom-same at C = go (eqb (getD (S .clauses) at 0) 0) refl (C .named)
       where
         A : ℕ
@@ -114,12 +114,12 @@ module _ (S : Stored) (h b : ℕ) (few : S .defined ≤ 32) where
     -- and so does a section
     pub section-same : (start count : ℕ)
         → ((i : ℕ) → i < count
-        → held.StoredClause k (S .defined) (getD (S .clauses) (start + 4 * i) 0) (getD (S .clauses) (start + 4 * i + 1) 0)
+        → StoredClause k (S .defined) (getD (S .clauses) (start + 4 * i) 0) (getD (S .clauses) (start + 4 * i + 1) 0)
         (getD (S .clauses) (start + 4 * i + 2) 0) (getD (S .clauses) (start + 4 * i + 3) 0))
-        → allAt h (storedConstants S) b X (held.atomsOf (S .clauses) start count) ≡ allClauses (S .clauses) (termValue n m (leafValues S h b) z) start count
-    unfolding held.atomsOf allClauses allAt everyBelow
+        → allAt h (storedConstants S) b X (atomsOf (S .clauses) start count) ≡ allClauses (S .clauses) (termValue n m (leafValues S h b) z) start count
+    unfolding atomsOf allClauses allAt everyBelow
     section-same start zero C = refl
     section-same start (suc count) C =
-        all-append h (storedConstants S) b X (held.atomsOf (S .clauses) start count) (held.storedAtom (S .clauses) (start + 4 * count))
+        all-append h (storedConstants S) b X (atomsOf (S .clauses) start count) (storedAtom (S .clauses) (start + 4 * count))
         ∙ ap₂ _&&_ (section-same start count (λ i l. C i (omega arith))) (atom-same (start + 4 * count) (C count (omega arith)))
         ∙ sym (every-more count (λ i. clauseTest (S .clauses) (termValue n m (leafValues S h b) z) (start + 4 * i)))

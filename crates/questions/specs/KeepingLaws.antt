@@ -1,4 +1,4 @@
--- Laws of what is held of a question: its counts, its faults, and one command more. Assumes nothing.
+-- Laws of what is kept of a question: its counts, its faults, and one command more. Assumes nothing.
 use mathlib.Core.Path.{_≡_, refl, sym, ap, ap₂, _∙_}
 use mathlib.Core.Bool.{Bool, true, false, cond}
 use mathlib.Core.List.{List, [], _∷_, _++_}
@@ -8,9 +8,9 @@ use native.Mathlib.Nat.{eq-or-lt-of-le, le-of-suc-le-suc, le-trans}
 use native.Mathlib.Numerals.{add-one}
 use native.Mathlib.Omega.{arith}
 use lib.Dec.{T, eqb, ltb, leb, ltb→lt}
-use lib.ListN.{length, getD, set, take, drop, length-set, length-append, length-take}
+use lib.ListN.{length, getD, set, take, drop, replicate, length-set, length-append, length-take, length-drop, length-replicate, getD-replicate, take-append-drop}
 use lib.Pow.{pow-add, pow-mono}
-use lib.Seq.{length-take-le, take-suc-set, getD-set-same, getD-set-other, getD-drop}
+use lib.Seq.{length-take-le, take-suc-set, getD-set-same, getD-set-other, getD-drop, ext-getD}
 use Rattle.shares.specs.Constant.{constantLevels, number}
 use Rattle.shares.specs.Test.{and-right}
 use Rattle.systems.specs.Questions.{Kind, satisfiability, entailment, Question}
@@ -24,9 +24,11 @@ use Rattle.questions.specs.declared.Entry.the-variants.{Known, Unknown}
 use Rattle.questions.specs.declared.Command.{Command}
 use Rattle.questions.specs.declared.Head.{Head}
 use Rattle.questions.specs.declared.Step.{Step}
+use Rattle.questions.specs.declared.Question.{Question as Held}
 use Rattle.questions.specs.declared.Step.the-variants.{Take, Refused}
 use Rattle.questions.specs.Format.{mostConstants, constantBytes, entryOf, operands, commandOf, wholeAt, readAt, mostOf, inSection, names, variablesFor, allNamed, atomOf, isForeign, constantFault, fault, judged, withClause, withConstant, taken}
-use Rattle.questions.specs.Held.{kindNumber, sectionNumber, testNumber, testOf, sectionStart, storedAtom, atomsOf, clauseWritten, countOf, nextSlot, keptConstants, constantCount, keptClauses, clauseCounts, Slot, Counted, clauseTotal, foreignTo, faultOf, judgedOf, Held, StoredClause, Stands}
+use Rattle.questions.specs.Stored.{kindNumber, sectionNumber, testNumber, testOf, clauseBytes, sectionStart, storedAtom, atomsOf, Stored, stored, countOf, Counted, StoredClause, StoredAt, Stands, heldAs, clauseWritten, commandWritten}
+use Rattle.questions.specs.Keeping.{nextSlot, keptConstants, constantCount, keptClauses, clauseCounts, Slot, clauseTotal, foreignTo, faultOf, judgedOf}
 use Rattle.questions.specs.SectionLaws.{both-counts, added, Apart, Alike, same, other, alike, constant-sections, clause-keeps, section-below, slot-fits}
 use Rattle.questions.specs.FormatLaws.{branch, ClauseFits, clause-fits, ConstantFits, constant-fits}
 
@@ -36,10 +38,10 @@ use Rattle.questions.specs.FormatLaws.{branch, ClauseFits, clause-fits, 
 abbrev pub Bytes : List ℕ → Type 0
 Bytes s = (i : ℕ) → getD s i 0 < 2 ^ 8
 
-number-small : (l : List ℕ) → Bytes l → number l < 2 ^ (8 * length l)
+number-fits : (l : List ℕ) → Bytes l → number l < 2 ^ (8 * length l)
 unfolding number
-number-small [] h = omega arith
-number-small (b ∷ bs) h = omega (arith, number-small bs (λ i. h (suc i)), h 0, power)
+number-fits [] h = omega arith
+number-fits (b ∷ bs) h = omega (arith, number-fits bs (λ i. h (suc i)), h 0, power)
   where
     power : 2 ^ (8 * suc (length bs)) ≡ 2 ^ (8 * length bs) * 256
     power = ap (λ n. 2 ^ n) (omega arith) ∙ pow-add 2 (8 * length bs) 8
@@ -69,7 +71,7 @@ command-proper s h i Shape.Head = tt
 command-proper s h i Shape.Constant =
     let l = take constantBytes (drop i s) in
     let n : 8 * length l ≤ 8 * constantBytes = simp length-take (omega arith) in
-    le-trans (number-small l (take-bytes constantBytes (drop i s) (λ j. rw getD-drop (h (i + j))))) (pow-mono n)
+    le-trans (number-fits l (take-bytes constantBytes (drop i s) (λ j. rw getD-drop (h (i + j))))) (pow-mono n)
 command-proper s h i (Shape.Clause σ Join) = tt
 command-proper s h i (Shape.Clause σ Equality) = refl
 
@@ -192,11 +194,10 @@ variables-small free own FirstDisequation h = omega arith
 variables-small free own SecondPositive h = omega arith
 variables-small free own SecondDisequation h = omega arith
 
--- ---- what is held with one command more
+-- ---- what is stored, with one command more
 
-abbrev pub kept : Held → Command → Held
+abbrev pub kept : Stored → Command → Stored
 kept x c = record {
-  kind = x .kind;
   free = x .free;
   own = x .own;
   constants = keptConstants (x .constants) (x .defined) c;
@@ -205,7 +206,17 @@ kept x c = record {
   counts = clauseCounts (x .counts) c;
 }
 
-module _ (x : Held) (q : Question) (d : Stands x q) where
+-- the constants past those that are defined are 0
+abbrev pub ZerosPast : Stored → Type 0
+ZerosPast x = (i : ℕ) → x .defined ≤ i → getD (x .constants) i 0 ≡ 0
+
+pub zeros-kept : (x : Stored) (c : Command) → ZerosPast x → ZerosPast (kept x c)
+zeros-kept x Command.End z = z
+zeros-kept x Command.Head z = z
+zeros-kept x (Command.Constant v) z = λ i h. getD-set-other (x .constants) (x .defined) i v 0 (omega arith) ∙ z i (omega arith)
+zeros-kept x (Command.Clause σ t a b c) z = z
+
+module _ {kind : ℕ} (x : Stored) (q : Question) (d : Stands kind x q) where
   pub defined-count : length (q .constants .numbers) ≡ x .defined
   defined-count =
       ap (λ cs. length (cs .numbers)) (d .constants) ∙ length-take-le (x .defined) (x .constants) (omega (arith, d .constantCounted, d .sizes .0))
@@ -225,7 +236,7 @@ module _ (x : Held) (q : Question) (d : Stands x q) where
         section-count SecondDisequation,
       )
 
-  fault-same : (c : Command) → faultOf (x .kind) (x .free) (x .own) (x .defined) (x .counts) c ≡ fault q c
+  fault-same : (c : Command) → faultOf kind (x .free) (x .own) (x .defined) (x .counts) c ≡ fault q c
   unfolding faultOf fault
   fault-same Command.End = refl
   fault-same Command.Head = refl
@@ -233,7 +244,7 @@ module _ (x : Held) (q : Question) (d : Stands x q) where
   fault-same (Command.Clause σ t a b c) = rw (d .kind, d .free, d .own, ← section-count σ, ← defined-count, foreign-same (q .kind) σ)
 
   -- the counts that the code keeps judge as the definition does
-  pub judged-same : (r : Step) → judgedOf (x .kind) (x .free) (x .own) (x .defined) (x .counts) r ≡ judged q r
+  pub judged-same : (r : Step) → judgedOf kind (x .free) (x .own) (x .defined) (x .counts) r ≡ judged q r
   judged-same (Refused n) = refl
   judged-same (Take c next) = ap (λ f. cond (eqb f 0) (Take c next) (Refused f)) (fault-same c)
 
@@ -243,7 +254,7 @@ module _ (x : Held) (q : Question) (d : Stands x q) where
   no-clause f SecondPositive = omega (arith, section-count SecondPositive, both-counts (q .second), f .before)
   no-clause f SecondDisequation = omega (arith, section-count SecondDisequation, both-counts (q .second), f .before)
 
-  stands-constant : (v : ℕ) → v < 2 ^ (8 * constantBytes) → ConstantFits q → Stands (kept x (Command.Constant v)) (withConstant q v)
+  stands-constant : (v : ℕ) → v < 2 ^ (8 * constantBytes) → ConstantFits q → Stands kind (kept x (Command.Constant v)) (withConstant q v)
   stands-constant v small f =
       let n = x .defined in
       let l = x .constants in
@@ -280,12 +291,12 @@ module _ (x : Held) (q : Question) (d : Stands x q) where
     clause-room : countOf (x .counts) σ < mostOf σ
     clause-room = omega (arith, f .room, section-count σ)
 
-    clause-slot : nextSlot (x .counts) σ + 4 ≤ 768
+    clause-slot : nextSlot (x .counts) σ + 4 ≤ clauseBytes
     clause-slot = slot-fits (x .counts) σ clause-room
 
-    count-same : countOf counts′ σ ≡ countOf (x .counts) σ + 1
+    count-more : countOf counts′ σ ≡ countOf (x .counts) σ + 1
     unfolding counts′
-    count-same = getD-set-same (x .counts) (sectionNumber σ) (countOf (x .counts) σ + 1) 0 (omega (arith, section-below σ, d .sizes .2))
+    count-more = getD-set-same (x .counts) (sectionNumber σ) (countOf (x .counts) σ + 1) 0 (omega (arith, section-below σ, d .sizes .2))
 
     count-other : (τ : Section) → Apart σ τ → countOf counts′ τ ≡ countOf (x .counts) τ
     unfolding counts′
@@ -311,7 +322,7 @@ module _ (x : Held) (q : Question) (d : Stands x q) where
 
     sections′ : (τ : Section) → atomsOf clauses′ (sectionStart τ) (countOf counts′ τ) ≡ inSection (withClause q σ (atomOf t a b c)) τ
     unfolding atomsOf
-    sections′ τ = pick (alike σ τ) before-it the-atom count-same elsewhere count-other
+    sections′ τ = pick (alike σ τ) before-it the-atom count-more elsewhere count-other
       where
         pick : {σ τ : Section} → Alike σ τ → Agrees (x .clauses) clauses′ (sectionStart σ) (nextSlot (x .counts) σ)
             → storedAtom clauses′ (nextSlot (x .counts) σ) ≡ atomOf t a b c → countOf counts′ σ ≡ countOf (x .counts) σ + 1
@@ -338,51 +349,48 @@ module _ (x : Held) (q : Question) (d : Stands x q) where
       third = third-small (variablesFor (x .free) (x .own) σ) (x .defined) σ t a b c (variables-small (x .free) (x .own) σ (d .variables)) (d .constantCounted) its-terms p;
     }
 
-    -- the four bytes at a clause of a section, after the clause is stored
-    abbrev Good : Section → ℕ → Type 0
-    unfolding clauses′
-    Good τ i =
-        StoredClause (variablesFor (x .free) (x .own) τ) (x .defined) (getD clauses′ i 0) (getD clauses′ (i + 1) 0) (getD clauses′ (i + 2) 0)
-        (getD clauses′ (i + 3) 0)
+    -- what is stored after the clause
+    abbrev after : Stored
+    after = stored clauses′ counts′ (x .constants) (x .defined) (x .free) (x .own)
 
-    good-new : Good σ (nextSlot (x .counts) σ)
+    new-stored : StoredAt after σ (nextSlot (x .counts) σ)
     unfolding clauses′
-    good-new =
+    new-stored =
         let l = x .clauses in
         let i = nextSlot (x .counts) σ in
         let n = testNumber t in
         let h : i + 4 ≤ length l = omega (arith, clause-slot, d .sizes .1) in
         rw (byte-0 l i n a b c h, byte-1 l i n a b c h, byte-2 l i n a b c h, byte-3 l i n a b c h) the-clause
 
-    good : (τ : Section) (i : ℕ) → i < countOf counts′ τ → Good τ (sectionStart τ + 4 * i)
+    all-stored : (τ : Section) (i : ℕ) → i < countOf counts′ τ → StoredAt after τ (sectionStart τ + 4 * i)
     unfolding clauses′
-    good τ i h = pick (alike σ τ) before-it good-new count-same elsewhere count-other h
+    all-stored τ i h = pick (alike σ τ) before-it new-stored count-more elsewhere count-other h
       where
-        old : (υ : Section) → Agrees (x .clauses) clauses′ (sectionStart υ) (nextSlot (x .counts) υ) → i < countOf (x .counts) υ → Good υ (sectionStart υ + 4 * i)
+        old : (υ : Section) → Agrees (x .clauses) clauses′ (sectionStart υ) (nextSlot (x .counts) υ) → i < countOf (x .counts) υ → StoredAt after υ (sectionStart υ + 4 * i)
         old υ g l = clause-agrees (x .clauses) clauses′ _ _ (sectionStart υ + 4 * i) (λ j from to. g j (omega arith) (omega arith)) (d .clauses υ i l)
 
-        ends : (υ : Section) → Agrees (x .clauses) clauses′ (sectionStart υ) (nextSlot (x .counts) υ) → Good υ (nextSlot (x .counts) υ)
-            → (i ≡ countOf (x .counts) υ) ⊎ (i < countOf (x .counts) υ) → Good υ (sectionStart υ + 4 * i)
+        ends : (υ : Section) → Agrees (x .clauses) clauses′ (sectionStart υ) (nextSlot (x .counts) υ) → StoredAt after υ (nextSlot (x .counts) υ)
+            → (i ≡ countOf (x .counts) υ) ⊎ (i < countOf (x .counts) υ) → StoredAt after υ (sectionStart υ + 4 * i)
         ends υ g w (inl e) = rw e w
         ends υ g w (inr l) = old υ g l
 
         pick : {σ τ : Section} → Alike σ τ → Agrees (x .clauses) clauses′ (sectionStart σ) (nextSlot (x .counts) σ)
-            → Good σ (nextSlot (x .counts) σ) → countOf counts′ σ ≡ countOf (x .counts) σ + 1
+            → StoredAt after σ (nextSlot (x .counts) σ) → countOf counts′ σ ≡ countOf (x .counts) σ + 1
             → ((υ : Section) → Apart σ υ → Agrees (x .clauses) clauses′ (sectionStart υ) (nextSlot (x .counts) υ))
             → ((υ : Section) → Apart σ υ → countOf counts′ υ ≡ countOf (x .counts) υ)
-            → i < countOf counts′ τ → Good τ (sectionStart τ + 4 * i)
+            → i < countOf counts′ τ → StoredAt after τ (sectionStart τ + 4 * i)
         pick (same {σ = υ}) h w n g m l = ends υ h w (eq-or-lt-of-le (le-of-suc-le-suc (rw (n, add-one (countOf (x .counts) υ)) at l)))
         pick (other {τ = υ} o) h w n g m l = old υ (g υ o) (rw (m υ o) at l)
 
     counted′ : Counted counts′
-    counted′ τ = pick (alike σ τ) clause-room count-same count-other
+    counted′ τ = pick (alike σ τ) clause-room count-more count-other
       where
         pick : {σ τ : Section} → Alike σ τ → countOf (x .counts) σ < mostOf σ → countOf counts′ σ ≡ countOf (x .counts) σ + 1
             → ((υ : Section) → Apart σ υ → countOf counts′ υ ≡ countOf (x .counts) υ) → countOf counts′ τ ≤ mostOf τ
         pick same r n m = omega arith
         pick (other {τ = υ} o) r n m = rw (m υ o) (d .counted υ)
 
-    stands-clause : Stands (kept x (Command.Clause σ t a b c)) (withClause q σ (atomOf t a b c))
+    stands-clause : Stands kind (kept x (Command.Clause σ t a b c)) (withClause q σ (atomOf t a b c))
     unfolding counts′ clauses′
     stands-clause =
         let k = clause-keeps q σ (atomOf t a b c) in
@@ -396,9 +404,16 @@ module _ (x : Held) (q : Question) (d : Stands x q) where
           counted = counted′;
           constantCounted = d .constantCounted;
           small = d .small;
-          clauses = good;
+          clauses = all-stored;
           sizes = (d .sizes .0, stored-length (x .clauses) (nextSlot (x .counts) σ) (testNumber t) a b c ∙ d .sizes .1, simp length-set (d .sizes .2));
         }
+
+  -- the clause's bytes go where the definition says
+  pub written-same : (c : Command) → commandWritten q (x .clauses) c ≡ keptClauses (x .clauses) (x .counts) c
+  written-same Command.End = refl
+  written-same Command.Head = refl
+  written-same (Command.Constant v) = refl
+  written-same (Command.Clause σ t a b c) = ap (λ n. clauseWritten (x .clauses) (sectionStart σ + 4 * n) (testNumber t) a b c) (section-count σ)
 
   -- there is room for a command with no fault
   pub room-constant : (c : Command) → fault q c ≡ 0 → constantCount (x .defined) c ≤ length (x .constants)
@@ -414,9 +429,40 @@ module _ (x : Held) (q : Question) (d : Stands x q) where
   room-clause (Command.Clause σ t a b c) e = slot-fits (x .counts) σ (omega (arith, clause-fits q σ t a b c e .room, section-count σ))
 
   -- a command with no fault, kept, stands for the question that has it
-  pub stands-taken : (c : Command) → fault q c ≡ 0 → Proper c → Stands (kept x c) (taken q c)
+  pub stands-taken : (c : Command) → fault q c ≡ 0 → Proper c → Stands kind (kept x c) (taken q c)
   unfolding taken
   stands-taken Command.End e p = d
   stands-taken Command.Head e p = d
   stands-taken (Command.Constant v) e p = stands-constant v p (constant-fits q v e)
   stands-taken (Command.Clause σ t a b c) e p = stands-clause σ t a b c (clause-fits q σ t a b c e) p
+
+  -- ---- the struct that holds the question
+
+  counts-are : (l : List ℕ) → length l ≡ 4 → l ≡ getD l 0 0 ∷ getD l 1 0 ∷ getD l 2 0 ∷ getD l 3 0 ∷ []
+  counts-are [] e = absurd (omega arith)
+  counts-are (a ∷ []) e = absurd (omega arith)
+  counts-are (a ∷ b ∷ []) e = absurd (omega arith)
+  counts-are (a ∷ b ∷ c ∷ []) e = absurd (omega arith)
+  counts-are (a ∷ b ∷ c ∷ d ∷ []) e = refl
+  counts-are (a ∷ b ∷ c ∷ d ∷ f ∷ l) e = absurd (omega arith)
+
+  zeros-past : ZerosPast x → drop (x .defined) (x .constants) ≡ replicate (mostConstants - x .defined) 0
+  zeros-past z =
+      let n : length (drop (x .defined) (x .constants)) ≡ mostConstants - x .defined = length-drop (x .defined) (x .constants) ∙ ap (λ m. m - x .defined) (d .sizes .0) in
+      ext-getD 0 _ _ (n ∙ sym (length-replicate (mostConstants - x .defined) 0)) (λ i l.
+      getD-drop (x .defined) (x .constants) i 0 ∙ z (x .defined + i) (omega arith) ∙ sym (getD-replicate (mostConstants - x .defined) i 0 0 (rw n at l)))
+
+  pub held-as : ZerosPast x
+      → record { kind = kind; free = x .free; own = x .own; constants = x .constants; defined = x .defined; counts = x .counts } ≡ heldAs q
+  held-as z =
+      let numbers : q .constants .numbers ≡ take (x .defined) (x .constants) = ap (λ cs. cs .numbers) (d .constants) in
+      let constants : x .constants ≡ q .constants .numbers ++ replicate (mostConstants - length (q .constants .numbers)) 0 =
+      sym (rw (defined-count, numbers, ← zeros-past z) (take-append-drop (x .defined) (x .constants))) in
+      let counts : x .counts ≡ length (inSection q FirstPositive) ∷ length (inSection q FirstDisequation) ∷ length (inSection q SecondPositive) ∷ length (inSection q SecondDisequation) ∷ [] =
+      rw (section-count FirstPositive, section-count FirstDisequation, section-count SecondPositive, section-count SecondDisequation) (counts-are (x .counts) (d .sizes .2)) in
+      same (d .kind) (d .free) (d .own) constants (sym defined-count) counts
+    where
+      same : {k k′ f f′ o o′ n n′ : ℕ} {cs cs′ cl cl′ : List ℕ} → k ≡ k′ → f ≡ f′ → o ≡ o′ → cs ≡ cs′ → n ≡ n′ → cl ≡ cl′
+          → _≡_ {A = Held} (record { kind = k; free = f; own = o; constants = cs; defined = n; counts = cl })
+          (record { kind = k′; free = f′; own = o′; constants = cs′; defined = n′; counts = cl′ })
+      same e f g h i j = rw (e, f, g, h, i, j)
