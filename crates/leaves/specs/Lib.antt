@@ -4,6 +4,7 @@ pub mod Choices
 pub mod ChoiceLaws
 pub mod Problem
 pub mod ProblemLaws
+pub mod SameLaws
 pub mod Second
 pub mod SecondLaws
 pub mod AtHeight

@@ -1,6 +1,6 @@
 -- `missed::narrow_leaf` meets its contract: the sets are those of the leaf. Assumes nothing.
 use native.Mathlib.Omega.{arith}
-use Rattle.words.specs.GatherLaws.{words-le}
+use Rattle.sets.specs.GatherLaws.{words-le}
 use Rattle.plans.specs.Tests.{stored}
 use Rattle.missed.specs.MissedSetLaws.{leaf-passed}
 use borrow.Author.Needs.{needs}
