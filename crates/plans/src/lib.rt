@@ -384,7 +384,7 @@ fn fill_plan(
     true
 }
 
-// Whether each of the entries from `from`, so many, has a sub-leaf.
+// Whether each of so many entries, from entry `from`, has a sub-leaf.
 fn all_assigned(subleaf: &[u16; 32], from: usize, entries: usize) -> bool
     requires { ⌜ from + entries ≤ 32 ⌝ }
     ensures { λ r. ⌜ r ≡ everyBelow entries (λ j. hasSubLeaf (now (subleaf .entry)) (from + j)) ⌝ }
@@ -423,7 +423,7 @@ fn no_plan() -> Plan
     }
 }
 
-// Whether a search finds a solution, whether it finds one without its extra disequation, and the plan of the first.
+// Whether a search finds a solution, whether it finds one without its extra disequation, and the plan of the solution, empty where none is found.
 pub struct Solved {
     pub found: bool,
     pub plainly: bool,

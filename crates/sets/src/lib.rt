@@ -10,11 +10,11 @@ ghost use Rattle.words.specs.Choices.{wordCount, allPass, clauseFails, allPassB
 ghost use Rattle.sets.specs.Sets.{inSet, Words, KeptBut, Gathered, Merged};
 
 // Word w of a set.
-fn word_at(set: &[u64; 64], w: usize) -> u64
+fn word_at(choices: &[u64; 64], w: usize) -> u64
     requires { ⌜ w < 64 ⌝ }
-    ensures { λ r. ⌜ r ≡ getD (now (set .entry)) w 0 ⌝ }
+    ensures { λ r. ⌜ r ≡ getD (now (choices .entry)) w 0 ⌝ }
 {
-    set[w]
+    choices[w]
 }
 
 // The least choice in the set that the first `count` words are, or 64 * count.
@@ -41,14 +41,14 @@ pub fn outside_word(set: &[u64; 64], other: &[u64; 64], w: usize) -> u64
     word_at(set, w) & !word_at(other, w)
 }
 
-// Takes the choices of another set out of a set of so many words.
-pub fn remove(set: &mut [u64], other: &[u64; 64], count: usize)
-    requires { ⌜ (count ≤ 64) × (length (now set) ≡ 64) ⌝ }
-    ensures { λ _. ⌜ ((z : ℕ) → z < 64 * count → inSet (now (set .exit)) z ≡ (inSet (now (set .entry)) z && not (inSet (now (other .entry)) z))) ⌝ }
-    ensures { λ _. ⌜ ((w : ℕ) → count ≤ w → getD (now (set .exit)) w 0 ≡ getD (now (set .entry)) w 0) ⌝ }
+// Takes the choices of another set out of the first so many words of a set. The words past them stay as they are.
+pub fn remove(set: &mut [u64], other: &[u64; 64], words: usize)
+    requires { ⌜ (words ≤ 64) × (length (now set) ≡ 64) ⌝ }
+    ensures { λ _. ⌜ ((z : ℕ) → z < 64 * words → inSet (now (set .exit)) z ≡ (inSet (now (set .entry)) z && not (inSet (now (other .entry)) z))) ⌝ }
+    ensures { λ _. ⌜ ((w : ℕ) → words ≤ w → getD (now (set .exit)) w 0 ≡ getD (now (set .entry)) w 0) ⌝ }
 {
     let mut w: usize = 0;
-    while w < count {
+    while w < words {
         let x = word_at(other, w);
         set[w] = set[w] & !x;
         w += 1;
@@ -79,7 +79,7 @@ fn turned(x: u64, k: usize) -> u64
     (x >> k) | (x << (64 - k))
 }
 
-// The word or-ed with itself under each digit from n: the bits with the same low n digits become equal.
+// Each bit of the result is set where some bit of x is whose number has the same low n digits.
 fn merge_word(x: u64, n: usize) -> u64
     ensures { λ r. ⌜ Merged n x r ⌝ }
 {
@@ -121,7 +121,7 @@ fn clear_rows(rows: &mut [u64], count: usize, words: usize)
     }
 }
 
-// Or-s the word x into word `at`.
+// Adds the choices of the word x to word `at`.
 fn add_word(out: &mut [u64], at: usize, x: u64)
     requires { ⌜ at < length (now out) ⌝ }
     ensures { λ r. ⌜ ((i : ℕ) → i < 64 → bit (getD (now (out .exit)) at 0) i ≡ (bit (getD (now (out .entry)) at 0) i || bit x i)) ⌝ }
@@ -130,7 +130,7 @@ fn add_word(out: &mut [u64], at: usize, x: u64)
     out[at] = out[at] | x;
 }
 
-// Or-s into word `at` of row j, for each clause j of a section, the choices of the word x in which that clause fails.
+// Adds to word `at` of row j, for each clause j of a section, the choices of the word x in which that clause fails.
 fn add_rows(
     rows: &mut [u64],
     at: usize,
@@ -241,7 +241,8 @@ fn gather(
 }
 
 // The set of the free choices beside which some own choice passes all clauses of a section and, for each j, the set of those
-// beside which some own choice passes them and fails clause j of the section from byte `from`, from word 64 * j of `with`.
+// beside which some own choice passes them and fails clause j of the section from byte `from`, from word 64 * j of `with`. Words past
+// those that hold the free choices, and rows past the last, stay as they are.
 pub fn fill_sets(
     clauses: &[u8; 768],
     start: usize,

@@ -9,10 +9,10 @@ use Rattle.sets.proofs.remove.Statement.{statement}
 use Rattle.sets.proofs.remove.Tie as tie
 
 abbrev Inv-loop : tie.InvT-loop
-Inv-loop set₀ other count w₀ set w = (w ≤ count) × (length set ≡ 64) × Removed set₀ other w set
+Inv-loop set₀ other words w₀ set w = (w ≤ words) × (length set ≡ 64) × Removed set₀ other w set
 
 abbrev μ-loop : tie.MeasureT-loop
-μ-loop set₀ other count w₀ set w = count - w
+μ-loop set₀ other words w₀ set w = words - w
 
 loop-holds : tie.Need-loop-holds Inv-loop μ-loop
 loop-holds c = (omega arith, c .before .pre .1, removed-none _ _)
@@ -49,7 +49,7 @@ same-length c = omega arith
 returns : tie.Need-returns Inv-loop μ-loop
 returns c =
     let l = c .before .loop in
-    let e : l .w ≡ c .before .before .before .args .count = omega arith in
+    let e : l .w ≡ c .before .before .before .args .words = omega arith in
     let R = rw e at (l .inv .2) in
     (removed-all _ _ (l .set) _ R, R .rest)
 
