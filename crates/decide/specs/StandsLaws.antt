@@ -8,7 +8,8 @@ use lib.Dec.{ltb}
 use lib.ListN.{length, getD}
 use borrow.Author.Tests.{ltb-true, ltb-false, le-ltb}
 use Rattle.shares.specs.Constant.{bit}
-use Rattle.leaves.specs.Choices.{Row, at, least, value, someChoice}
+use Rattle.leaves.specs.Choices.{Row, at, least, someChoice}
+use Rattle.leaves.specs.RowNumbers.{value}
 use Rattle.leaves.specs.ChoiceLaws.{value-lt, some-number}
 use Rattle.leaves.specs.Problem.{Problem, solvable, candidate}
 use Rattle.leaves.specs.Second as leaf

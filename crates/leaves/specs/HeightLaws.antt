@@ -10,7 +10,8 @@ use lib.Dec.{leb, leb→le, nleb→lt}
 use lib.Pow.{pow-pos, pow-mono}
 use Rattle.shares.specs.Below.{firstBelow}
 use Rattle.shares.specs.BelowLaws.{first-le, first-below, first-least}
-use Rattle.leaves.specs.Heights.{c, anyHeight, exactly, Room}
+use Rattle.leaves.specs.Heights.{c, anyHeight, exactly}
+use Rattle.leaves.specs.Room.{Room}
 
 pub le-pow : (n : ℕ) → n ≤ 2 ^ n
 le-pow zero = zero-le

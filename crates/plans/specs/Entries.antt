@@ -12,7 +12,7 @@ use Rattle.leaves.specs.Problem.{Problem, solvable}
 use Rattle.words.specs.Choices.{wordCount, Periodic}
 use Rattle.plans.specs.Tests.{Stored, leafValues, secondMeets, extraOf, roomOf, allowedIn, testsOf}
 use Rattle.plans.specs.declared.Search.{Search}
-use Rattle.show.specs.declared.Plan.{Plan}
+use Rattle.plans.specs.declared.Plan.{Plan}
 use Rattle.plans.specs.declared.Solved.{Solved}
 use Rattle.plans.specs.Numbers.{numbered, withoutFirst}
 use Rattle.plans.specs.Plan.{leafFor, rankOf, plainChoice, specialChoice, subLeafAfter, choiceAfter, noPlan}

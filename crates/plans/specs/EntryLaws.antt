@@ -13,7 +13,7 @@ use lib.Seq.{getD-set-same, getD-set-other}
 use borrow.Author.Tests.{lt-ltb, le-ltb, eq-eqb, ne-eqb}
 use Rattle.shares.specs.Below.{firstBelow, countBelow, one}
 use Rattle.shares.specs.BelowLaws.{first-ext}
-use Rattle.shares.specs.Blocks.{leaf-lt}
+use Rattle.shares.specs.BlockLaws.{leaf-lt}
 use Rattle.leaves.specs.Choices.{least}
 use Rattle.leaves.specs.Problem.{Problem}
 use Rattle.leaves.specs.ProblemLaws.{rank-lt}

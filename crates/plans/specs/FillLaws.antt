@@ -13,7 +13,7 @@ use borrow.Author.Tests.{eq-eqb, ne-eqb}
 use Rattle.shares.specs.Test.{is-false}
 use Rattle.shares.specs.Below.{everyBelow, firstBelow}
 use Rattle.shares.specs.BelowLaws.{every-at, every-intro}
-use Rattle.shares.specs.Blocks.{leaf-lt}
+use Rattle.shares.specs.BlockLaws.{leaf-lt}
 use Rattle.leaves.specs.Choices.{least}
 use Rattle.leaves.specs.Problem.{Problem}
 use Rattle.words.specs.Choices.{wordCount}

@@ -8,5 +8,6 @@ pub mod AssignedLaws
 pub mod StoredLaws
 pub mod LeafLaws
 pub mod FillLaws
+pub mod Shown
 pub mod ShownLaws
 pub mod SolveLaws

@@ -8,7 +8,7 @@ use lib.ListN.{getD, replicate}
 use Rattle.shares.specs.Below.{firstBelow}
 use Rattle.leaves.specs.Choices.{least}
 use Rattle.leaves.specs.Problem.{Problem, blockFor, rank}
-use Rattle.show.specs.declared.Plan.{Plan}
+use Rattle.plans.specs.declared.Plan.{Plan}
 use Rattle.plans.specs.Numbers.{numbered}
 
 -- the plan that is given where no solution is found: no leaf, no entry

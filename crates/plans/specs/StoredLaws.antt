@@ -15,7 +15,8 @@ use Rattle.shares.specs.Blocks.{firstOf}
 use Rattle.shares.specs.Tree.{joins}
 use Rattle.shares.specs.Constant.{constantLevels, bit}
 use Rattle.shares.specs.BitLaws.{bit-number}
-use Rattle.leaves.specs.Choices.{Row, nil, cons, at, value}
+use Rattle.leaves.specs.Choices.{Row, nil, cons, at}
+use Rattle.leaves.specs.RowNumbers.{value}
 use Rattle.leaves.specs.ChoiceLaws.{value-lt}
 use Rattle.systems.specs.Clauses.{variable, constant, Atom, Constants}
 use Rattle.systems.specs.AtLeaves.{termAt, atomAt, allAt}

@@ -1,5 +1,4 @@
 // Searching for a solution leaf by leaf, 64 choices of values at a time, and the plan of the one that is found.
-use show::Plan;
 ghost use mathlib.Core.Path.{_≡_};
 ghost use mathlib.Core.Bool.{_&&_, not};
 ghost use mathlib.Core.List.{List};
@@ -404,6 +403,22 @@ fn both_hold(a: bool, b: bool) -> bool
     ensures { λ r. ⌜ r ≡ (a && b) ⌝ }
 {
     a && b
+}
+
+// Which choice of values stands at each sub-leaf of a shown solution. The value of a variable is one binary digit of a choice.
+pub struct Plan {
+    // the height of the leaves
+    pub low: usize,
+    // the height given
+    pub high: usize,
+    // the choice at each leaf, of 2^low, wherever no other stands
+    pub plain: [u16; 64],
+    // how many sub-leaves hold another choice
+    pub count: usize,
+    // which sub-leaf, of 2^high
+    pub subleaf: [u16; 32],
+    // the choice that stands there
+    pub choice: [u16; 32],
 }
 
 // The plan that is given where no solution is found: no leaf, no entry.

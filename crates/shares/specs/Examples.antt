@@ -8,10 +8,11 @@ use Rattle.shares.specs.Tree.{Tree, leaf, pair, twins, fold, height, hal
 use Rattle.shares.specs.Constant.{bit, constant}
 use Rattle.shares.specs.Text.{text}
 
--- the left half and the right half
+-- the left half
 abbrev L : Tree
 L = pair (leaf true) (leaf false)
 
+-- the right half
 abbrev R : Tree
 R = pair (leaf false) (leaf true)
 

@@ -9,7 +9,8 @@ use lib.Dec.{T, T-not, not-T}
 use Rattle.shares.specs.Test.{passes, beq-iff, same-test, cond-passed, cond-failed, cond-law}
 use Rattle.shares.specs.Below.{everyBelow}
 use Rattle.shares.specs.BelowLaws.{Below, every-at, every-intro, every-ext, every-or, fails-iff}
-use Rattle.shares.specs.Blocks.{blockOf, firstOf, block-lt, first-lt, block-first}
+use Rattle.shares.specs.Blocks.{blockOf, firstOf}
+use Rattle.shares.specs.BlockLaws.{block-lt, first-lt, block-first}
 use Rattle.shares.specs.Tree.{Tree, Folded, height, leafAt, treeOf, joinLeaf, isLeaf, joins, defined, treeIf, joinAt, join}
 use Rattle.shares.specs.TreeLaws.{leafAt-treeOf, treeOf-folded, treeOf-height, treeOf-ext, treeOf-leafAt, treeOf-blocks, blocks}
 
@@ -20,12 +21,12 @@ is-leaf-iff none z = (λ t. absurd t, λ e. absurd (Option·none-ne-some z e))
 is-leaf-iff (some v) z = (λ t. ap some (beq-iff v z .0 t), λ e. beq-iff v z .1 (Option·some-injective v z e))
 
 -- the test at one leaf says that the join there is the third
-pub joins-iff : (x y z : Bool) → T (joins x y z) ↔ (joinLeaf x y ≡ some z)
+joins-iff : (x y z : Bool) → T (joins x y z) ↔ (joinLeaf x y ≡ some z)
 unfolding joins
 joins-iff x y z = is-leaf-iff (joinLeaf x y) z
 
 -- it is undefined for full with full alone
-pub overlap-iff : (x y : Bool) → T (not (defined (joinLeaf x y))) ↔ T (x && y)
+overlap-iff : (x y : Bool) → T (not (defined (joinLeaf x y))) ↔ T (x && y)
 unfolding joinLeaf
 overlap-iff true true = (λ t. tt, λ t. tt)
 overlap-iff true false = (λ t. t, λ t. t)

@@ -2,6 +2,7 @@ pub mod Test
 pub mod Below
 pub mod BelowLaws
 pub mod Blocks
+pub mod BlockLaws
 pub mod Tree
 pub mod TreeLaws
 pub mod Constant

@@ -9,14 +9,16 @@ use lib.Dec.{T}
 use lib.ListN.{length, getD}
 use Rattle.shares.specs.Test.{and-intro, and-left, and-right}
 use Rattle.shares.specs.BelowLaws.{Below, fails-iff}
-use Rattle.shares.specs.Blocks.{blockOf, firstOf, block-lt, first-lt, block-first}
+use Rattle.shares.specs.Blocks.{blockOf, firstOf}
+use Rattle.shares.specs.BlockLaws.{block-lt, first-lt, block-first}
 use Rattle.shares.specs.Tree.{Folded, height, leafAt}
 use Rattle.shares.specs.TreeLaws.{treeOf-folded, blocks, equal-test-iff}
 use Rattle.shares.specs.JoinLaws.{join-iff}
 use Rattle.shares.specs.Constant.{bit, numberTree}
 use Rattle.shares.specs.ConstantLaws.{leaf-number}
 use Rattle.systems.specs.Clauses.{Term, variable, constant, Atom, joined, equal, System, positives, disequations, disequation, Constants, constantTree, Assignment, valueOf, Holds, AllHold}
-use Rattle.systems.specs.Questions.{Defined, Within, InAtom, InSystem}
+use Rattle.systems.specs.Questions.{Defined, InAtom, InSystem}
+use Rattle.systems.specs.Bounds.{Within}
 use Rattle.systems.specs.SystemLaws.{InAtoms, in-positives, in-disequation}
 use Rattle.systems.specs.AtLeaves.{termAt, atomAt, allAt}
 

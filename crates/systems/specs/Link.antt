@@ -9,16 +9,20 @@ use native.Mathlib.Omega.{arith}
 use lib.Dec.{ltb, ltb→lt, nltb→le, lit<}
 use Rattle.shares.specs.Test.{of-true, of-false}
 use Rattle.shares.specs.BelowLaws.{Below}
-use Rattle.shares.specs.Blocks.{blockOf, block-lt}
+use Rattle.shares.specs.Blocks.{blockOf}
+use Rattle.shares.specs.BlockLaws.{block-lt}
 use Rattle.shares.specs.Tree.{height, leafAt}
 use Rattle.shares.specs.TreeLaws.{share-path, treeOf-height, treeOf-ext, treeOf-leafAt, leafAt-treeOf, blocks}
 use Rattle.leaves.specs.Heights.{anyHeight, atMost, exactly}
-use Rattle.leaves.specs.Choices.{Row, at, table}
+use Rattle.leaves.specs.Choices.{Row, at}
+use Rattle.leaves.specs.RowNumbers.{table}
 use Rattle.leaves.specs.ChoiceLaws.{at-table, row-path}
-use Rattle.leaves.specs.Problem.{Solves}
-use Rattle.leaves.specs.Second as leaf
+use Rattle.leaves.specs.LeafSolutions.{SolvesLeaves}
+use Rattle.leaves.specs.Second.{Second}
+use Rattle.leaves.specs.LeafExtensions.{ExtendsLeaves, LeafExtension, positivesOnly, only}
 use Rattle.systems.specs.Clauses.{Assignment, positives, disequation, AllHold, Holds}
-use Rattle.systems.specs.Questions.{Question, Defined, Within, InSystem, WellFormed, Bounds, secondCount}
+use Rattle.systems.specs.Questions.{Question, Defined, InSystem, WellFormed, secondCount}
+use Rattle.systems.specs.Bounds.{Within, Bounds}
 use Rattle.systems.specs.Solutions.{tallest, heightOf, SolvesFirst, both, Beside, ExtendsBy, Extends, MeetsPositives, MeetsWith}
 use Rattle.systems.specs.SystemLaws.{parts, whole, in-system}
 use Rattle.systems.specs.AtLeaves.{bothAt, firstAt, secondAt}
@@ -27,12 +31,12 @@ use Rattle.systems.specs.Decide.{sharesOf}
 
 -- ---- the tallest tree
 
-pub tallest-le : (n k : ℕ) (σ : Assignment) → ((v : ℕ) → v < n → height (σ v .tree) ≤ k) → tallest n σ ≤ k
+tallest-le : (n k : ℕ) (σ : Assignment) → ((v : ℕ) → v < n → height (σ v .tree) ≤ k) → tallest n σ ≤ k
 unfolding tallest
 tallest-le zero k σ f = zero-le
 tallest-le (suc n) k σ f = max-le (tallest-le n k σ (λ v l. f v (omega arith))) (f n (omega arith))
 
-pub tallest-at : (n k : ℕ) (σ : Assignment) → tallest n σ ≤ k → (v : ℕ) → v < n → height (σ v .tree) ≤ k
+tallest-at : (n k : ℕ) (σ : Assignment) → tallest n σ ≤ k → (v : ℕ) → v < n → height (σ v .tree) ≤ k
 unfolding tallest
 tallest-at zero k σ h v l = absurd (not-suc-le-zero l)
 tallest-at (suc n) k σ h v l = go (eq-or-lt-of-le (le-of-suc-le-suc l)) (tallest-at n k σ (omega arith) v)
@@ -61,14 +65,14 @@ shares-read n k s = record { low = λ v l. treeOf-height k _; bits = λ i l v m.
 pub shares-low : (n k : ℕ) (s : ℕ → Row Bool n) → tallest n (sharesOf k s) ≤ k
 shares-low n k s = tallest-le n k (sharesOf k s) (shares-read n k s .low)
 
-pub shares-rows : (n k : ℕ) (σ : Assignment) → tallest n σ ≤ k → (v : ℕ) → v < n → sharesOf k (rowsAt n k σ) v ≡ σ v
+shares-rows : (n k : ℕ) (σ : Assignment) → tallest n σ ≤ k → (v : ℕ) → v < n → sharesOf k (rowsAt n k σ) v ≡ σ v
 unfolding sharesOf
 shares-rows n k σ h v l =
     share-path _ (σ v)
     (treeOf-ext k _ (leafAt k (σ v .tree)) (λ i m. rows-read n k σ h .bits i m v l)
     ∙ treeOf-leafAt k (σ v .tree) (σ v .folded) (tallest-at n k σ h v l))
 
-pub rows-shares : (n k : ℕ) (s : ℕ → Row Bool n) (i : ℕ) → i < 2 ^ k → rowsAt n k (sharesOf k s) i ≡ s i
+rows-shares : (n k : ℕ) (s : ℕ → Row Bool n) (i : ℕ) → i < 2 ^ k → rowsAt n k (sharesOf k s) i ≡ s i
 rows-shares n k s i l =
     row-path false n _ (s i) (λ v m. rows-read n k (sharesOf k s) (shares-low n k s) .bits i l v m ∙ sym (shares-read n k s .bits i l v m))
 
@@ -112,7 +116,7 @@ module _ (h : ℕ) (q : Question) (F : WellFormed q) (B : Bounds h q) where
 
   -- σ, no taller than k and with the rows s, solves the first system exactly if the rows solve its problem at the leaves
   pub first-iff : (k : ℕ) → h ≤ k → (σ : Assignment) (s : ℕ → Row Bool (q .free)) → Reads (q .free) k σ (λ i. at false (s i))
-      → SolvesFirst q σ ↔ Solves h (firstAt h q) k s
+      → SolvesFirst q σ ↔ SolvesLeaves h (firstAt h q) k s
   first-iff k hk σ s R =
       let pos = positives-iff (q .free) h (q .constants) (B .low) k hk σ (λ i. at false (s i)) R (q .first) first-good in
       let dis = disequation-iff (q .free) h (q .constants) (B .low) k hk σ (λ i. at false (s i)) R (q .first) first-good in (
@@ -124,13 +128,13 @@ module _ (h : ℕ) (q : Question) (F : WellFormed q) (B : Bounds h q) where
   -- σ, no taller than w, has the rows s
   module _ (w : ℕ) (hw : h ≤ w) (σ : Assignment) (s : ℕ → Row Bool (q .free)) (R : Reads (q .free) w σ (λ i. at false (s i))) where
     -- a property P of all shares is the problem Q at the leaves, whatever own shares and rows stand beside σ
-    abbrev AtRows : (Assignment → Type 0) → leaf.Second (Row Bool (q .free)) (Row Bool (q .own)) → Type 0
+    abbrev AtRows : (Assignment → Type 0) → Second (Row Bool (q .free)) (Row Bool (q .own)) → Type 0
     AtRows P Q = (v : ℕ) → w ≤ v → (τ : Assignment) (t : ℕ → Row Bool (q .own)) → Reads (q .own) v τ (λ i. at false (t i))
-        → P (both (q .free) σ τ) ↔ leaf.Extends h Q w s v t
+        → P (both (q .free) σ τ) ↔ ExtendsLeaves h Q w s v t
 
     -- then own shares with which it holds are an extension of the rows
-    beside-iff : (P : Assignment → Type 0) (Q : leaf.Second (Row Bool (q .free)) (Row Bool (q .own))) → AtRows P Q
-        → (A A′ : ℕ → Type 0) → Read w A A′ → Beside A q σ P ↔ leaf.Extension A′ h Q w s
+    beside-iff : (P : Assignment → Type 0) (Q : Second (Row Bool (q .free)) (Row Bool (q .own))) → AtRows P Q
+        → (A A′ : ℕ → Type 0) → Read w A A′ → Beside A q σ P ↔ LeafExtension A′ h Q w s
     beside-iff P Q iff A A′ r = (
       λ E.
           let (v, k, l, a) = r .up (tallest (q .own) (E .own)) (E .allowed) in
@@ -145,7 +149,7 @@ module _ (h : ℕ) (q : Question) (F : WellFormed q) (B : Bounds h q) where
 
     module _ (v : ℕ) (le : w ≤ v) (τ : Assignment) (t : ℕ → Row Bool (q .own)) (S : Reads (q .own) v τ (λ i. at false (t i))) where
       second-positives : AllHold (q .constants) (both (q .free) σ τ) (positives (q .second))
-          ↔ leaf.Extends h (leaf.positives (secondAt h q)) w s v t
+          ↔ ExtendsLeaves h (positivesOnly (secondAt h q)) w s v t
       second-positives =
           let pos = positives-iff (q .free + q .own) h (q .constants) (B .low) v (le-trans hw le) (both (q .free) σ τ) _
           (both-read (q .free) (q .own) w v σ τ (λ i. at false (s i)) (λ i. at false (t i)) le R S) (q .second) second-good in (
@@ -161,7 +165,7 @@ module _ (h : ℕ) (q : Question) (F : WellFormed q) (B : Bounds h q) where
           (both-read (q .free) (q .own) w v σ τ (λ i. at false (s i)) (λ i. at false (t i)) le R S) (q .second) second-good j l
 
     -- σ extends exactly if its rows do
-    pub extension-iff : (A A′ : ℕ → Type 0) → Read w A A′ → ExtendsBy A q σ ↔ leaf.Extension A′ h (secondAt h q) w s
+    pub extension-iff : (A A′ : ℕ → Type 0) → Read w A A′ → ExtendsBy A q σ ↔ LeafExtension A′ h (secondAt h q) w s
     extension-iff =
         beside-iff _ (secondAt h q) (λ v le τ t S.
         let pos = second-positives v le τ t S in
@@ -173,13 +177,13 @@ module _ (h : ℕ) (q : Question) (F : WellFormed q) (B : Bounds h q) where
         ))
 
     -- it can meet the second system's positive clauses exactly if its rows can
-    pub meets-iff : MeetsPositives q σ ↔ leaf.Extension anyHeight h (leaf.positives (secondAt h q)) w s
-    meets-iff = beside-iff _ (leaf.positives (secondAt h q)) second-positives anyHeight anyHeight (read-any w)
+    pub meets-iff : MeetsPositives q σ ↔ LeafExtension anyHeight h (positivesOnly (secondAt h q)) w s
+    meets-iff = beside-iff _ (positivesOnly (secondAt h q)) second-positives anyHeight anyHeight (read-any w)
 
     -- and have disequation j beside them exactly if its rows can
-    pub with-iff : (j : ℕ) → j < secondCount q → MeetsWith j q σ ↔ leaf.Extension anyHeight h (leaf.only j (secondAt h q)) w s
+    pub with-iff : (j : ℕ) → j < secondCount q → MeetsWith j q σ ↔ LeafExtension anyHeight h (only j (secondAt h q)) w s
     with-iff j m =
-        beside-iff _ (leaf.only j (secondAt h q)) (λ v le τ t S.
+        beside-iff _ (only j (secondAt h q)) (λ v le τ t S.
         let pos = second-positives v le τ t S in
         let dis = second-disequation v le τ t S j m in (
           λ (e, f). record { tall = le; everywhere = pos .0 e .everywhere; somewhere = λ _ _. dis .0 f },
@@ -192,6 +196,7 @@ module _ (h : ℕ) (q : Question) (F : WellFormed q) (B : Bounds h q) where
 
 -- ---- the theorem: leaf by leaf, for every height k from h up
 
+-- what is claimed
 pub record LeafByLeaf (h : ℕ) (q : Question) : Type 0 where
   -- shares no taller than k are rows at 2 ^ k leaves, and back
   pub shares : (k : ℕ) (σ : Assignment) → heightOf q σ ≤ k → (v : ℕ) → v < q .free → sharesOf k (rowsAt (q .free) k σ) v ≡ σ v
@@ -199,10 +204,10 @@ pub record LeafByLeaf (h : ℕ) (q : Question) : Type 0 where
   pub low : (k : ℕ) (s : ℕ → Row Bool (q .free)) → heightOf q (sharesOf k s) ≤ k
   -- they solve the first system exactly if the rows solve its problem at the leaves
   pub solution : (k : ℕ) → h ≤ k → (σ : Assignment) → heightOf q σ ≤ k
-      → SolvesFirst q σ ↔ Solves h (firstAt h q) k (rowsAt (q .free) k σ)
+      → SolvesFirst q σ ↔ SolvesLeaves h (firstAt h q) k (rowsAt (q .free) k σ)
   -- and extend exactly if the rows do
   pub extension : (k : ℕ) → h ≤ k → (σ : Assignment) → heightOf q σ ≤ k
-      → Extends q σ ↔ leaf.Extension anyHeight h (secondAt h q) k (rowsAt (q .free) k σ)
+      → Extends q σ ↔ LeafExtension anyHeight h (secondAt h q) k (rowsAt (q .free) k σ)
 
 pub leaf-by-leaf : (h : ℕ) (q : Question) → WellFormed q → Bounds h q → LeafByLeaf h q
 leaf-by-leaf h q F B = record {

@@ -13,7 +13,8 @@ use Rattle.leaves.specs.Heights.{c, atMost, exactly}
 use Rattle.leaves.specs.Choices.{someChoice, at, pickRow, least}
 use Rattle.leaves.specs.Problem.{plainAt, specialAt, solvable}
 use Rattle.leaves.specs.Second.{meets, meetsWith, canBeUnmet, canBeMissed, firstMissed}
-use Rattle.leaves.specs.AtHeight.{solvesTest, solvableAt, solvable-at}
+use Rattle.leaves.specs.AtHeight.{solvesTest, solvableAt}
+use Rattle.leaves.specs.AtHeightLaws.{solvable-at}
 use Rattle.systems.specs.Clauses.{positives, disequations}
 use Rattle.systems.specs.Questions.{Question, WellFormed, tallestConstant, questionHeight}
 use Rattle.systems.specs.Solutions.{Solution}
@@ -61,10 +62,12 @@ same-of a b t = sym (decode-code a) ∙ ap decode (eqb→eq (code a) (code b) t)
 abbrev neverTest : Question → ℕ → Bool
 neverTest q k = leb (questionHeight q) k && not (solvableAt (least (q .free)) (questionHeight q) (firstAt (questionHeight q) q) k)
 
+-- none has one of these heights
 abbrev neversTest : Question → List ℕ → Bool
 neversTest q [] = true
 neversTest q (k ∷ l) = neverTest q k && neversTest q l
 
+-- an example is right
 abbrev rightTest : Example → Bool
 rightTest x =
     formedTest (x .question)
@@ -72,6 +75,7 @@ rightTest x =
     && (eqb (heightGiven (questionHeight (x .question)) (x .question) (x .answer)) (x .height)
     && neversTest (x .question) (x .never)))
 
+-- every example of a table is
 unfoldable allTest : List Example → Bool
 allTest [] = true
 allTest (x ∷ l) = rightTest x && allTest l

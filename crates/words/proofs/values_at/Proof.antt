@@ -2,7 +2,7 @@
 use mathlib.Core.Path.{_≡_}
 use Prim.Native.Nat.{_-_, _*_, _%_, _^_, _<_}
 use native.Mathlib.Omega.{arith}
-use Rattle.shares.specs.Blocks.{first-lt}
+use Rattle.shares.specs.BlockLaws.{first-lt}
 use Rattle.words.specs.Shifts.{power-shift}
 use Rattle.words.specs.TermLaws.{values-is}
 use borrow.Author.Needs.{needs}
