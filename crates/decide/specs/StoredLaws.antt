@@ -21,6 +21,7 @@ use Rattle.leaves.specs.ChoiceLaws.{value-lt}
 use Rattle.systems.specs.Clauses.{variable, constant, Atom, Constants}
 use Rattle.systems.specs.AtLeaves.{termAt, atomAt, allAt}
 use Rattle.words.specs.Clause.{testValue, clauseTest, allClauses, termValue}
+use Rattle.words.specs.Choices.{valuesAt}
 use Rattle.shares.specs.BitParts.{bit-low, bit-high}
 use Rattle.shares.specs.BelowLaws.{every-more}
 use Rattle.words.specs.TermLaws.{value-constant}
@@ -60,7 +61,7 @@ storedConstants S = record { levels = constantLevels; numbers = take (S .defined
 module _ (S : Stored) (h b : ℕ) (few : S .defined ≤ 32) where
   -- the values of the constants
   leaf-bit : (i : ℕ) → i < S .defined → bit (leafValues S h b) i ≡ bit (getD (S .constants) i 0) (firstOf h constantLevels b)
-  unfolding leafValues
+  unfolding valuesAt
   leaf-bit i l = bit-number 64 _ i (omega arith) ∙ rw (lt-ltb i (S .defined) l)
 
   -- variables have the values X in the model, and choice z has them as digits

@@ -7,6 +7,7 @@ pub mod ChoiceLaws
 pub mod Problem
 pub mod LeafSolutions
 pub mod ProblemLaws
+pub mod SameLaws
 pub mod Second
 pub mod LeafExtensions
 pub mod SecondLaws

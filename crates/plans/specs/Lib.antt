@@ -1,5 +1,4 @@
 pub mod Numbers
-pub mod NumberLaws
 pub mod Plan
 pub mod PlanLaws
 pub mod Tests

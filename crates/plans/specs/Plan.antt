@@ -1,4 +1,5 @@
--- The entries of a plan while it is made, leaf by leaf: where each disequation stands, and with which choice. Assumes nothing.
+-- The entries of a plan while it is made, leaf by leaf: where each disequation stands, and with which choice; and the plan where there is
+-- no solution. Assumes nothing.
 use mathlib.Core.Bool.{Bool, not, cond, _&&_}
 use mathlib.Core.List.{List}
 use Prim.Native.Nat.{ℕ, _+_, _*_, _^_}

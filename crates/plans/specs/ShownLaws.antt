@@ -20,7 +20,7 @@ use Rattle.leaves.specs.ProblemLaws.{at-block, rank-lt, plain-passes, block-pas
 use Rattle.plans.specs.declared.Plan.{Plan}
 use Rattle.plans.specs.Shown.{planChoiceAfter, planChoice}
 use Rattle.plans.specs.Numbers.{numbered}
-use Rattle.plans.specs.NumberLaws.{pick-number}
+use Rattle.leaves.specs.ChoiceLaws.{pick-number}
 use Rattle.plans.specs.Plan.{leafFor, rankOf, plainChoice, specialChoice}
 use Rattle.plans.specs.PlanLaws.{plain-is, special-is}
 use Rattle.plans.specs.Entries.{Made}
