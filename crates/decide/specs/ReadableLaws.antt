@@ -11,8 +11,8 @@ use Rattle.shares.specs.Constant.{constantLevels}
 use Rattle.systems.specs.Questions.{Question, questionHeight, tallestConstant}
 use Rattle.systems.specs.Heights.{tallest-low}
 use Rattle.words.specs.Clause.{Clauses}
-use Rattle.questions.specs.Format.{mostOf, variablesFor}
-use Rattle.questions.specs.Stored.{clauseBytes, sectionStart, Stored, countOf, Stands}
+use Rattle.questions.specs.Stored.{sectionStart, Stored, countOf, Stands}
+use Rattle.questions.specs.SectionLaws.{section-room, variables-le}
 use Rattle.questions.specs.Callers.{bytes-small}
 use Rattle.questions.specs.declared.Section.{Section}
 use Rattle.questions.specs.declared.Section.the-variants.{FirstPositive, FirstDisequation, SecondPositive, SecondDisequation}
@@ -34,27 +34,13 @@ four l p r m b₀ b₁ b₂ b₃ = pick (ℕ-discrete r 0) (ℕ-discrete r 1) (�
     pick (no u) (no v) (no w) = let e : r ≡ 3 = omega arith in rw e b₃
 
 module _ {kind : ℕ} (x : Stored) (q : Question) (St : Stands kind x q) where
-  -- no section names more variables than there may be
-  variables-le : (σ : Section) → variablesFor (x .free) (x .own) σ ≤ 12
-  variables-le FirstPositive = omega (arith, St .variables)
-  variables-le FirstDisequation = omega (arith, St .variables)
-  variables-le SecondPositive = omega (arith, St .variables)
-  variables-le SecondDisequation = omega (arith, St .variables)
-
-  -- each section lies within the bytes
-  section-room : (σ : Section) → sectionStart σ + 4 * mostOf σ ≤ clauseBytes
-  section-room FirstPositive = omega arith
-  section-room FirstDisequation = omega arith
-  section-room SecondPositive = omega arith
-  section-room SecondDisequation = omega arith
-
   section-clauses : (σ : Section) → Clauses (x .clauses) (sectionStart σ) (countOf (x .counts) σ)
   section-clauses σ = record { room = omega (arith, section-room σ, St .counted σ); terms = small }
     where
       small : (k : ℕ) → k < 4 * countOf (x .counts) σ → getD (x .clauses) (sectionStart σ + k) 0 < 64
       small k l =
           let C = St .clauses σ (k / 4) (omega arith) in
-          let B = bytes-small _ _ _ _ _ _ C (omega (arith, variables-le σ)) (omega (arith, St .constantCounted)) in
+          let B = bytes-small _ _ _ _ _ _ C (omega (arith, variables-le (x .free) (x .own) σ, St .variables)) (omega (arith, St .constantCounted)) in
           let e : sectionStart σ + k ≡ sectionStart σ + 4 * (k / 4) + k % 4 = omega arith in
           rw e (four (x .clauses) (sectionStart σ + 4 * (k / 4)) (k % 4) (mod-lt k (omega arith)) (omega (arith, C .test)) (B .0) (B .1) (B .2))
 

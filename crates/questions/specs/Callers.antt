@@ -2,7 +2,7 @@
 use mathlib.Core.Path.{_≡_, refl, sym, ap, _∙_}
 use mathlib.Core.List.{List, [], _∷_, _++_}
 use mathlib.Core.Logic.{_⊎_, inl, inr}
-use Prim.Native.Nat.{ℕ, zero, suc, _+_, _-_, _*_, _≤_, _<_}
+use Prim.Native.Nat.{ℕ, zero, suc, _+_, _*_, _≤_, _<_}
 use native.Mathlib.Nat.{eq-or-lt-of-le, le-of-suc-le-suc, not-suc-le-zero}
 use native.Mathlib.Omega.{arith}
 use lib.Dec.{T}
@@ -14,7 +14,7 @@ use Rattle.systems.specs.Questions.{Kind, satisfiability, entailment, Question,
 use Rattle.questions.specs.declared.Reading.{Reading}
 use Rattle.questions.specs.Format.{Result, refused, accepted, names, read}
 use Rattle.questions.specs.Stored.{kindNumber, storedAtom, atomsOf, Stored, storedOf, StoredClause, Stands, readingOf}
-use Rattle.questions.specs.FormatLaws.{longest, Limited, accepted-formed, accepted-limited, refusal-number, refusal-place}
+use Rattle.questions.specs.FormatLaws.{accepted-formed, refusal-number}
 use Rattle.questions.specs.KeepingLaws.{atoms-length, named-small}
 
 -- ---- the answer
@@ -25,13 +25,6 @@ pub record Taken (s : List ℕ) (r : Reading) (clauses : List ℕ) : Type 0 wher
   pub read : read s ≡ accepted question
   pub stands : Stands (r .question .kind) (storedOf (r .question) clauses) question
   pub formed : WellFormed question
-  pub limited : Limited question
-
--- any other: its number and its place are those of the definition
-pub record TurnedAway (s : List ℕ) (r : Reading) : Type 0 where
-  pub read : read s ≡ refused (r .refusal) (r .place)
-  pub number : (1 ≤ r .refusal) × (r .refusal ≤ 10)
-  pub place : r .place ≤ longest
 
 module _ (s : List ℕ) (r : Reading) (e : r ≡ readingOf (read s)) where
   pub answer-taken : (clauses : List ℕ) → ((q : Question) → read s ≡ accepted q → Stands (r .question .kind) (storedOf (r .question) clauses) q)
@@ -39,15 +32,16 @@ module _ (s : List ℕ) (r : Reading) (e : r ≡ readingOf (read s)) where
   answer-taken clauses d z = pick (read s) refl e
     where
       pick : (o : Result) → read s ≡ o → r ≡ readingOf o → Taken s r clauses
-      pick (accepted q) h b = record { question = q; read = h; stands = d q h; formed = accepted-formed s q h; limited = accepted-limited s q h }
+      pick (accepted q) h b = record { question = q; read = h; stands = d q h; formed = accepted-formed s q h }
       pick (refused n p) h b = absurd (omega (arith, refusal-number s n p h .0, ap (λ r. r .refusal) b))
 
-  pub answer-refused : (r .refusal ≡ 0 → ⊥) → TurnedAway s r
+  -- any other: its number and its place are those of the definition
+  pub answer-refused : (r .refusal ≡ 0 → ⊥) → read s ≡ refused (r .refusal) (r .place)
   answer-refused z = pick (read s) refl e
     where
-      pick : (o : Result) → read s ≡ o → r ≡ readingOf o → TurnedAway s r
+      pick : (o : Result) → read s ≡ o → r ≡ readingOf o → read s ≡ refused (r .refusal) (r .place)
       pick (accepted q) h b = absurd (z (ap (λ r. r .refusal) b))
-      pick (refused n p) h b = rw b (record { read = h; number = refusal-number s n p h; place = refusal-place s n p h })
+      pick (refused n p) h b = rw b h
 
 -- ---- the kind
 

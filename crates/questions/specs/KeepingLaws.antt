@@ -29,7 +29,7 @@ use Rattle.questions.specs.declared.Step.the-variants.{Take, Refused}
 use Rattle.questions.specs.Format.{mostConstants, constantBytes, entryOf, operands, commandOf, wholeAt, readAt, mostOf, inSection, names, variablesFor, allNamed, atomOf, isForeign, constantFault, fault, judged, withClause, withConstant, taken}
 use Rattle.questions.specs.Stored.{kindNumber, sectionNumber, testNumber, testOf, clauseBytes, sectionStart, storedAtom, atomsOf, Stored, stored, countOf, Counted, StoredClause, StoredAt, Stands, heldAs, clauseWritten, commandWritten}
 use Rattle.questions.specs.Keeping.{nextSlot, keptConstants, constantCount, keptClauses, clauseCounts, Slot, clauseTotal, foreignTo, faultOf, judgedOf}
-use Rattle.questions.specs.SectionLaws.{both-counts, added, Apart, Alike, same, other, alike, constant-sections, clause-keeps, section-below, slot-fits}
+use Rattle.questions.specs.SectionLaws.{both-counts, added, Apart, Alike, same, other, alike, constant-sections, clause-keeps, section-below, slot-fits, variables-le}
 use Rattle.questions.specs.FormatLaws.{branch, ClauseFits, clause-fits, ConstantFits, constant-fits}
 
 -- ---- what a command of bytes holds
@@ -188,12 +188,6 @@ foreign-same : (k : Kind) (σ : Section) → foreignTo (kindNumber k) σ ≡ isF
 foreign-same satisfiability σ = refl
 foreign-same entailment σ = refl
 
-variables-small : (free own : ℕ) (σ : Section) → free + own ≤ 12 → variablesFor free own σ ≤ 32
-variables-small free own FirstPositive h = omega arith
-variables-small free own FirstDisequation h = omega arith
-variables-small free own SecondPositive h = omega arith
-variables-small free own SecondDisequation h = omega arith
-
 -- ---- what is stored, with one command more
 
 abbrev pub kept : Stored → Command → Stored
@@ -346,7 +340,7 @@ module _ {kind : ℕ} (x : Stored) (q : Question) (d : Stands kind x q) where
     the-clause = record {
       test = test-small t;
       named = rw (test-number t) its-terms;
-      third = third-small (variablesFor (x .free) (x .own) σ) (x .defined) σ t a b c (variables-small (x .free) (x .own) σ (d .variables)) (d .constantCounted) its-terms p;
+      third = third-small (variablesFor (x .free) (x .own) σ) (x .defined) σ t a b c (omega (arith, variables-le (x .free) (x .own) σ, d .variables)) (d .constantCounted) its-terms p;
     }
 
     -- what is stored after the clause

@@ -89,7 +89,8 @@ countOf counts σ = getD counts (sectionNumber σ) 0
 abbrev pub Counted : List ℕ → Type 0
 Counted counts = (σ : Section) → countOf counts σ ≤ mostOf σ
 
--- a stored clause: a test that there is, terms that each name something defined, and a third byte that no test reads past a term's
+-- a stored clause: a test that there is, terms that each name something defined, and a third byte below 64, also where the test is an equality,
+-- which does not read it
 pub record StoredClause (n k t a b c : ℕ) : Type 0 where
   pub test : t < 2
   pub named : T (allNamed n k (testOf t) a b c)

@@ -11,15 +11,6 @@ use Rattle.questions.specs.KeepingLaws.{room-constant, room-clause}
 use Rattle.questions.proofs.Turns.{Going, begins, refused-turn, whole, no-fault, accepted-turn, after-end, goes, going-kept}
 use Rattle.questions.proofs.read_commands.Statement.{statement}
 use Rattle.questions.proofs.read_commands.Tie as tie
-use Rattle.questions.proofs.read_commands.Reads as reads
-use Rattle.questions.proofs.read_commands.Lts as lts
-use Rattle.questions.proofs.count_clause.Reads as count-clause-reads
-use Rattle.questions.proofs.is_end.Reads as is-end-reads
-use Rattle.questions.proofs.keep_clause.Reads as keep-clause-reads
-use Rattle.questions.proofs.keep_constant.Reads as keep-constant-reads
-use Rattle.questions.proofs.read_command.Reads as read-command-reads
-use Rattle.questions.proofs.refusal_of.Reads as refusal-of-reads
-use Rattle.questions.proofs.refused.Reads as refused-reads
 
 abbrev Inv-loop : tie.InvT-loop
 Inv-loop bytes kind free own clauses₀ constants₀ counts₀ defined₀ at₀ clauses constants counts defined at =
@@ -40,88 +31,70 @@ loop-holds c =
     let start = c .before .before in
     begins (start .args .bytes .now) _ _ _ _ (start .pre .1 .1) (start .pre .0) (start .pre .1 .0)
 
--- src/lib.rt:543:13
 read-command-requires : tie.Need-read-command-requires Inv-loop μ-loop
 read-command-requires c κs = (c .before .loop .inv .stands .variables, c .before .loop .inv .stands .counted)
 
--- src/lib.rt:544:26
 enum-known-r : tie.Need-enum-known-r Inv-loop μ-loop
 enum-known-r c = search needs
 
--- src/lib.rt:545:28
 enum-told : tie.Need-enum-told Inv-loop μ-loop
 enum-told c = search needs
 
--- src/lib.rt:545:28
 refusal-of-requires : tie.Need-refusal-of-requires Inv-loop μ-loop
 refusal-of-requires c κs = search needs
 
--- src/lib.rt:545:13
 refused-requires : tie.Need-refused-requires Inv-loop μ-loop
 refused-requires c κs = search needs
 
--- src/lib.rt:545:13
 same-length : tie.Need-same-length Inv-loop μ-loop
 same-length c = search needs
 
--- src/lib.rt:545:13
 returns : tie.Need-returns Inv-loop μ-loop
 returns c =
     let turn = c .before .before .before .before in
     refused-turn _ _ _ _ _ _ (turn .before .before .loop .inv) _ (turn .read-command .ensures) _ _ _ (c .before .before .enum-told .given .1) (c .before .refusal-of .ensures) (c .refused .ensures)
 
--- src/lib.rt:547:12
 is-end-requires : tie.Need-is-end-requires Inv-loop μ-loop
 is-end-requires c κs = search needs
 
--- src/lib.rt:557:17
 same-length-2 : tie.Need-same-length-2 Inv-loop μ-loop
 same-length-2 c = search needs
 
--- src/lib.rt:557:17
 returns-2 : tie.Need-returns-2 Inv-loop μ-loop
 returns-2 c =
     let t = c .before .before .before in
     let turn = t .before .before .before in
     accepted-turn _ _ _ _ _ _ (turn .before .before .loop .inv) _ (turn .read-command .ensures) _ _ (t .before .r .given .1) (sym (c .before .before .is-end .ensures) ∙ c .before .if1 .taken) (c .if2 .taken)
 
--- src/lib.rt:563:13
 refused-requires-2 : tie.Need-refused-requires-2 Inv-loop μ-loop
 refused-requires-2 c κs = search needs
 
--- src/lib.rt:563:13
 same-length-3 : tie.Need-same-length-3 Inv-loop μ-loop
 same-length-3 c = search needs
 
--- src/lib.rt:563:13
 returns-3 : tie.Need-returns-3 Inv-loop μ-loop
 returns-3 c =
     let t = c .before .before .before .before in
     let turn = t .before .before .before in
     after-end _ _ _ _ _ _ (turn .before .before .loop .inv) _ (turn .read-command .ensures) _ _ (t .before .r .given .1) (sym (c .before .before .before .is-end .ensures) ∙ c .before .before .if1 .taken) _ (c .before .if2 .left) (c .refused2 .ensures)
 
--- src/lib.rt:565:33
 slice-aggregate-keep-constant : tie.Need-slice-aggregate-keep-constant Inv-loop μ-loop
 slice-aggregate-keep-constant c = search needs
 
--- src/lib.rt:565:9
 keep-constant-requires : tie.Need-keep-constant-requires Inv-loop μ-loop
 keep-constant-requires c κs = let t = c .before .before .before in room-constant _ _ (t .before .before .before .before .before .loop .inv .stands) _ (fault-free t)
 
--- src/lib.rt:566:9
 keep-clause-requires : tie.Need-keep-clause-requires Inv-loop μ-loop
 keep-clause-requires c κs =
     let t = c .before .before .before .before .before .before .before in
     let d = t .before .before .before .before .before .loop .inv .stands in
     (d .sizes .1, room-clause _ _ d _ (fault-free t))
 
--- src/lib.rt:567:9
 count-clause-requires : tie.Need-count-clause-requires Inv-loop μ-loop
 count-clause-requires c κs =
     let t = c .before .before .before .before .before .before .before .before .before .before .before in
     room-clause _ _ (t .before .before .before .before .before .loop .inv .stands) _ (fault-free t)
 
--- src/lib.rt:542:5
 loop-less : tie.Need-loop-less Inv-loop μ-loop
 loop-less c =
     let t = c .before .before .before .before .before .before .before .before .before .before .before .before in
@@ -129,7 +102,6 @@ loop-less c =
     let W = whole _ _ _ _ _ _ (turn .before .before .loop .inv) _ (turn .read-command .ensures) _ _ (t .before .r .given .1) in
     omega (arith, W .0, W .1, size-some (t .before .r .given .0 .0))
 
--- src/lib.rt:542:5
 loop-again : tie.Need-loop-again Inv-loop μ-loop
 loop-again c =
     let t = c .before .before .before .before .before .before .before .before .before .before .before .before in

@@ -19,9 +19,9 @@ returns : tie.Need-returns
 returns c =
     let reading = c .before .before .before in
     let start = reading .before .before .before .before .before .args in
-    let T = answer-refused (start .question .now) _ (reading .read .ensures .0) (c .before .if1 .taken) in
+    let E = answer-refused (start .question .now) _ (reading .read .ensures .0) (c .before .if1 .taken) in
     given-refused (start .question .now) (start .answer .now) (start .work .now) _ _
-    (asked-refused (start .question .now) (length (start .answer .now)) (length (start .work .now)) _ _ (T .read)) _ (c .refused .ensures)
+    (asked-refused (start .question .now) (length (start .answer .now)) (length (start .work .now)) _ _ E) _ (c .refused .ensures)
 
 refused-requires-2 : tie.Need-refused-requires-2
 refused-requires-2 c κs = search needs
