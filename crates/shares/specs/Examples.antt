@@ -38,6 +38,14 @@ constants : (constant 0x0000FFFF ≡ L) × (constant 0xFFFF0000 ≡ R) × (const
 unfolding treeOf fold twins bit
 constants = (refl, refl, refl, refl)
 
+constants-joined : join (constant 0x00000001) (constant 0x00000002) ≡ some (constant 0x00000003)
+unfolding treeOf fold twins bit joinLeaf treeIf join joinAt everyBelow leafAt half full height
+constants-joined = refl
+
+constant-heights : (height (constant 0xFFFF0001) ≡ 5) × (height (constant 0x80000000) ≡ 5) × (height (constant 0x00FF00FF) ≡ 2) × (height (constant 0) ≡ 0)
+unfolding treeOf fold twins bit height
+constant-heights = (refl, refl, refl, refl)
+
 -- the lowest byte comes first
 bytes : number (0x34 ∷ 0x12 ∷ []) ≡ 0x1234
 unfolding number

@@ -25,8 +25,8 @@ use Rattle.systems.specs.AtLeaves.{termAt, atomAt, allAt, firstAt}
 
 -- ---- an example, computed: full join full is undefined, so its negation holds
 
-abbrev overlap : Question
-overlap = record {
+abbrev fullTwice : Question
+fullTwice = record {
   kind = satisfiability;
   free = 0;
   own = 0;
@@ -35,9 +35,9 @@ overlap = record {
   second = [];
 }
 
-overlap-denied : firstAt 0 overlap .dis 0 0 nil ≡ true
+full-twice-denied : firstAt 0 fullTwice .dis 0 0 nil ≡ true
 unfolding disequations termAt atomAt joins joinLeaf bit
-overlap-denied = refl
+full-twice-denied = refl
 
 -- ---- terms and atoms, at every leaf
 
