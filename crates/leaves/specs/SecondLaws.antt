@@ -1,23 +1,39 @@
 -- Extensions leaf by leaf, their heights, and what the tests of entailment say. Assumes nothing.
+use mathlib.Core.Path.{_≡_, refl}
 use mathlib.Core.Logic.{_⊎_, inl, inr, _↔_}
-use mathlib.Core.Bool.{not, _&&_}
+use mathlib.Core.Bool.{Bool, true, false, not, _&&_, Bool·beq}
 use Prim.Native.Nat.{ℕ, zero, suc, _^_, _≤_, _<_, zero-le, suc-le-suc}
 use native.Mathlib.Nat.{not-suc-le-zero, le-of-suc-le-suc}
-use lib.Dec.{T, T-not, lit<}
+use lib.Dec.{T, T-not, eqb, lit<}
 use Rattle.shares.specs.Test.{and-intro, and-left, and-right}
+use Rattle.shares.specs.Below.{everyBelow, someBelow, firstBelow}
 use Rattle.shares.specs.BelowLaws.{Below, some-intro, some-found, every-or, some-or}
 use Rattle.shares.specs.Blocks.{blockOf}
 use Rattle.shares.specs.BlockLaws.{block-lt, block-block}
 use Rattle.leaves.specs.Heights.{anyHeight}
 use Rattle.leaves.specs.Room.{Room}
 use Rattle.leaves.specs.HeightLaws.{le-pow, room-any}
-use Rattle.leaves.specs.Choices.{Picker, someChoice}
+use Rattle.leaves.specs.Choices.{Picker, someChoice, Row, at, pickRow, least}
 use Rattle.leaves.specs.ChoiceLaws.{choice-intro, choice-found, both-intro, both-found}
-use Rattle.leaves.specs.Problem.{Problem, solvable}
+use Rattle.leaves.specs.Problem.{Problem, plainAt, specialAt, solvable}
 use Rattle.leaves.specs.LeafSolutions.{SolvesLeaves, LeafSolution, Leafwise}
 use Rattle.leaves.specs.ProblemLaws.{cut, solvable-intro, cut-solvable, candidate-solves, solution-glued}
-use Rattle.leaves.specs.Second.{Second, meets, meetsWith, withUnmet, withMissed, canBeUnmet, canBeMissed}
+use Rattle.leaves.specs.Second.{Second, meets, meetsWith, withUnmet, withMissed, canBeUnmet, canBeMissed, firstMissed}
 use Rattle.leaves.specs.LeafExtensions.{ExtendsLeaves, LeafExtension, positivesOnly, only, beside, EntailsLeaves, LeafCounterexample}
+
+-- ---- an example, computed: two blocks and one variable, full at block 0 and empty at block 1; the second system: it is not empty
+
+abbrev left : Problem (Row Bool 1)
+left = record { pos = λ b x. Bool·beq (at false x 0) (eqb b 0); count = 0; dis = λ j b x. false }
+
+abbrev notEmpty : Second (Row Bool 1) (Row Bool 0)
+notEmpty = record { pos = λ b x y. true; count = 1; dis = λ j b x y. at false x 0 }
+
+-- the disequation holds at block 0, which is enough
+left-kept : (canBeUnmet (least 1) (least 0) 1 left notEmpty ≡ false) × (canBeMissed (least 1) (least 0) 1 left notEmpty 0 ≡ false)
+    × (firstMissed (least 1) (least 0) 1 left notEmpty ≡ 1)
+unfolding everyBelow someBelow firstBelow someChoice at pickRow plainAt specialAt solvable meets meetsWith canBeUnmet canBeMissed firstMissed
+left-kept = (refl, refl, refl)
 
 -- ---- an extension is a solution of the problem beside s, so it is cut and glued like one
 

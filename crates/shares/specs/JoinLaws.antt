@@ -26,12 +26,12 @@ unfolding joins
 joins-iff x y z = is-leaf-iff (joinLeaf x y) z
 
 -- it is undefined for full with full alone
-overlap-iff : (x y : Bool) → T (not (defined (joinLeaf x y))) ↔ T (x && y)
+overlap : (x y : Bool) → not (defined (joinLeaf x y)) ≡ (x && y)
 unfolding joinLeaf
-overlap-iff true true = (λ t. tt, λ t. tt)
-overlap-iff true false = (λ t. t, λ t. t)
-overlap-iff false true = (λ t. t, λ t. t)
-overlap-iff false false = (λ t. t, λ t. t)
+overlap true true = refl
+overlap true false = refl
+overlap false true = refl
+overlap false false = refl
 
 -- ---- 2 ^ k leaves that may be undefined
 
@@ -136,8 +136,8 @@ pub join-none-iff : (k : ℕ) (a b : Tree) → height a ≤ k → height b ≤ k
 unfolding joinAt
 join-none-iff k a b ha hb =
     let J = treeIf-none-iff k (λ i. joinLeaf (leafAt k a i) (leafAt k b i)) in (
-      λ e. let (i, l, t) = J .0 (joinAt-join k a b ha hb ∙ e) in (i, l, overlap-iff (leafAt k a i) (leafAt k b i) .0 t),
-      λ (i, l, t). sym (joinAt-join k a b ha hb) ∙ J .1 (i, l, overlap-iff (leafAt k a i) (leafAt k b i) .1 t),
+      λ e. let (i, l, t) = J .0 (joinAt-join k a b ha hb ∙ e) in (i, l, rw (overlap (leafAt k a i) (leafAt k b i)) at t),
+      λ (i, l, t). sym (joinAt-join k a b ha hb) ∙ J .1 (i, l, rw (overlap (leafAt k a i) (leafAt k b i)) t),
     )
 
 -- a join that is defined is folded, and no taller than the two

@@ -14,7 +14,7 @@ use Rattle.shares.specs.Tree.{height}
 use Rattle.shares.specs.TreeLaws.{treeOf-height}
 use Rattle.shares.specs.Constant.{numberTree}
 use Rattle.leaves.specs.Heights.{c, anyHeight, atMost, exactly}
-use Rattle.leaves.specs.HeightLaws.{c-enough, room-any, room-at, room-exact}
+use Rattle.leaves.specs.HeightLaws.{c-enough, room-any, room-at}
 use Rattle.leaves.specs.Choices.{Row, at, least}
 use Rattle.leaves.specs.Problem.{Problem, candidate}
 use Rattle.leaves.specs.LeafSolutions.{SolvesLeaves}
@@ -39,8 +39,8 @@ use Rattle.systems.specs.HeightRule.{HeightRule}
 constant-low : (k : ℕ) (l : List ℕ) (i : ℕ) → i < length l → height (numberTree k (getD l i 0)) ≤ tallestConstant k l
 unfolding tallestConstant
 constant-low k [] i u = absurd (not-suc-le-zero u)
-constant-low k (n ∷ l) zero u = le-max-left _ _
-constant-low k (n ∷ l) (suc i) u = le-trans (constant-low k l i (le-of-suc-le-suc u)) (le-max-right (height (numberTree k n)) _)
+constant-low k (n ∷ l) zero u = omega arith
+constant-low k (n ∷ l) (suc i) u = omega (arith, constant-low k l i (le-of-suc-le-suc u))
 
 pub tallest-low : (k : ℕ) (l : List ℕ) → tallestConstant k l ≤ k
 unfolding tallestConstant
@@ -108,25 +108,25 @@ module _ (A : ℕ → Type 0) (q : Question) where
 -- ---- the rule
 
 module _ (h : ℕ) (q : Question) (F : WellFormed q) (B : Bounds h q) where
-  -- at height h + c n, trees no taller than it are read at its leaves
-  read-room : (n : ℕ) → Read h (atMost (h + c n)) (exactly (h + c n))
-  read-room n = read-most (le-add-right h (c n))
+  -- from height h + c n up, trees no taller than a height are read at its leaves
+  read-from : (n : ℕ) {k : ℕ} → h + c n ≤ k → Read h (atMost k) (exactly k)
+  read-from n l = read-most (le-trans (le-add-right h _) l)
 
   raise : {A : ℕ → Type 0} → Solution A q → Solution anyHeight q
   raise S = record { values = S .values; allowed = tt; solves = S .solves }
 
-  solution-rule : Solution anyHeight q ↔ Solution (atMost (h + c (firstCount q))) q
-  solution-rule = (
+  solution-rule : (k : ℕ) → h + c (firstCount q) ≤ k → Solution anyHeight q ↔ Solution (atMost k) q
+  solution-rule k l = (
     λ S.
         let L = to-leaves h q F B anyHeight anyHeight (read-any h) S in
         let t = cut-solvable (least (q .free)) h (firstAt h q) (L .height) (L .leaves) (L .solves) in
-        from-leaves h q F B _ _ (read-room (firstCount q)) (solution-glued (least (q .free)) h (firstAt h q) _ (room-exact h (firstCount q)) t),
+        from-leaves h q F B _ _ (read-from (firstCount q) l) (solution-glued (least (q .free)) h (firstAt h q) _ (room-at l) t),
     raise,
   )
 
-  refutation-rule : (¬ Entails anyHeight q) ↔ SomeNot (atMost (h + c (firstCount q + 1))) q (Extends q)
+  refutation-rule : (k : ℕ) → h + c (firstCount q + 1) ≤ k → (¬ Entails anyHeight q) ↔ SomeNot (atMost k) q (Extends q)
   unfolding raise
-  refutation-rule = (λ n. go n (verdict-or a), λ (S, n) E. n (E (raise S)))
+  refutation-rule k l = (λ n. go n (verdict-or a), λ (S, n) E. n (E (raise S)))
     where
       a : Answer
       a = decideKind h q entailment
@@ -134,29 +134,28 @@ module _ (h : ℕ) (q : Question) (F : WellFormed q) (B : Bounds h q) where
       kind : kindOf a ≡ entailment
       kind = decide-kind h q entailment
 
-      go : ¬ Entails anyHeight q → (verdict a ≡ 1) ⊎ (verdict a ≡ 2) → SomeNot (atMost (h + c (firstCount q + 1))) q (Extends q)
+      go : ¬ Entails anyHeight q → (verdict a ≡ 1) ⊎ (verdict a ≡ 2) → SomeNot (atMost k) q (Extends q)
       go n (inl e) =
           absurd (n (subst (λ k. Yes anyHeight k q) kind
           (yes-means anyHeight q a (says-right h q F B anyHeight anyHeight (read-any h) entailment (room-any h _)) e)))
       go n (inr e) =
-          subst (λ k. No (atMost (h + c (firstCount q + 1))) k q) kind
-          (no-means _ q a (says-right h q F B _ _ (read-room (firstCount q + 1)) entailment (room-exact h _)) e)
+          subst (λ a. No (atMost k) a q) kind
+          (no-means _ q a (says-right h q F B _ _ (read-from (firstCount q + 1) l) entailment (room-at l)) e)
 
   -- any assignment that extends, extends so
-  extension-rule : (σ : Assignment) → Extends q σ → ExtendsBy (atMost (max (heightOf q σ) h + c (secondCount q))) q σ
-  extension-rule σ E =
+  extension-rule : (σ : Assignment) → Extends q σ → (k : ℕ) → max (heightOf q σ) h + c (secondCount q) ≤ k → ExtendsBy (atMost k) q σ
+  extension-rule σ E k m =
       let w = max (tallest (q .free) σ) h in
       let l = le-max-right (tallest (q .free) σ) h in
       let r = rows-read (q .free) w σ (le-max-left (tallest (q .free) σ) h) in
-      let v = w + c (secondCount q) in
-      extension-iff h q F B w l σ _ r (atMost v) (exactly v) (read-most (le-add-right w _)) .1
-      (extension-room (least (q .own)) h (secondAt h q) w _ l anyHeight (exactly v) (room-exact w (secondCount q))
+      extension-iff h q F B w l σ _ r (atMost k) (exactly k) (read-most (le-trans (le-add-right w _) m)) .1
+      (extension-room (least (q .own)) h (secondAt h q) w _ l anyHeight (exactly k) (room-at m)
       (extension-iff h q F B w l σ _ r anyHeight anyHeight (read-any w) .0 E))
 
   held-rule : (k : ℕ) → h + c (needed (q .kind) (firstCount q)) ≤ k → (a : Answer) → Answers (atMost k) q a ↔ Answers anyHeight q a
   held-rule k l a =
       Iff·trans
-      (answers-iff h q F B (atMost k) (exactly k) (read-most (le-trans (le-add-right h _) l)) (room-at l) a)
+      (answers-iff h q F B (atMost k) (exactly k) (read-from (needed (q .kind) (firstCount q)) l) (room-at l) a)
       (Iff·symm (answers-iff h q F B anyHeight anyHeight (read-any h) (room-any h _) a))
 
   -- ---- the solution that is shown
@@ -174,7 +173,7 @@ module _ (h : ℕ) (q : Question) (F : WellFormed q) (B : Bounds h q) where
   shown-satisfied : T (canSolve h q) → Shown h q satisfied (shownWith h q satisfied)
   shown-satisfied t =
       let S = candidate-solves (least (q .free)) h (firstAt h q) t (c (firstCount q)) (c-enough (firstCount q)) in
-      record { solves = fixed-solves (firstAt h q) (c (firstCount q)) S; low = fixed-low (firstAt h q) (c (firstCount q)) S; fails = tt }
+      record { solves = fixed-solves (firstAt h q) (c (firstCount q)) S; low = omega (arith, fixed-low (firstAt h q) (c (firstCount q)) S); fails = tt }
 
   -- room for one more than the disequations
   room-more : suc (firstCount q) ≤ 2 ^ c (firstCount q + 1)
@@ -188,7 +187,7 @@ module _ (h : ℕ) (q : Question) (F : WellFormed q) (B : Bounds h q) where
       let S₁ = unmet-first (least (q .own)) h (firstAt h q) (secondAt h q) (h + k) _ S in
       record {
         solves = fixed-solves P k S₁;
-        low = fixed-low P k S₁;
+        low = omega (arith, fixed-low P k S₁);
         fails = unmet-fails q _ (λ m. unmet-counter (least (q .own)) h (firstAt h q) (secondAt h q) (h + k) _ S
             (meets-iff h q F B (h + k) (le-add-right h k) _ _ (fixed-reads P k S₁) .0 m));
       }
@@ -203,7 +202,7 @@ module _ (h : ℕ) (q : Question) (F : WellFormed q) (B : Bounds h q) where
       let S₁ = missed-first (least (q .own)) h (firstAt h q) (secondAt h q) (h + k) _ j S in
       record {
         solves = fixed-solves P k S₁;
-        low = fixed-low P k S₁;
+        low = omega (arith, fixed-low P k S₁);
         fails = missed-fails q _ j l (λ m. missed-counter (least (q .own)) h (firstAt h q) (secondAt h q) (h + k) _ j S
             (with-iff h q F B (h + k) (le-add-right h k) _ _ (fixed-reads P k S₁) j l .0 m));
       }
@@ -229,10 +228,10 @@ module _ (h : ℕ) (q : Question) (F : WellFormed q) (B : Bounds h q) where
   -- with any h that bounds the constants that clauses name
   pub height-rule-at : HeightRule h q
   height-rule-at = record {
-    solution = solution-rule;
-    refutation = refutation-rule;
-    extension = λ E S. extension-rule (S .values) (E S);
-    held = held-rule;
+    solution = solution-rule _ (omega arith);
+    refutation = refutation-rule _ (omega arith);
+    extension = λ E S. extension-rule (S .values) (E S) _ (omega arith);
+    held = λ k l. held-rule k (omega arith);
     decision = answers-iff h q F B anyHeight anyHeight (read-any h) (room-any h _);
     shown = shown-rule;
   }

@@ -2,16 +2,18 @@
 -- leaves, for every height from h up. Assumes nothing.
 use mathlib.Core.Path.{_≡_, refl, sym, _∙_}
 use mathlib.Core.Bool.{Bool, true, false, cond}
+use mathlib.Core.List.{[], _∷_}
 use mathlib.Core.Logic.{_↔_, _⊎_, inl, inr}
 use Prim.Native.Nat.{ℕ, zero, suc, _+_, _-_, _^_, _≤_, _<_, max, zero-le}
 use native.Mathlib.Nat.{le-trans, not-suc-le-zero, le-of-suc-le-suc, le-max-left, le-max-right, max-le, eq-or-lt-of-le}
 use native.Mathlib.Omega.{arith}
-use lib.Dec.{ltb, ltb→lt, nltb→le, lit<}
+use lib.Dec.{T, ltb, ltb→lt, nltb→le, lit<}
 use Rattle.shares.specs.Test.{of-true, of-false}
+use Rattle.shares.specs.Below.{everyBelow}
 use Rattle.shares.specs.BelowLaws.{Below}
 use Rattle.shares.specs.Blocks.{blockOf}
 use Rattle.shares.specs.BlockLaws.{block-lt}
-use Rattle.shares.specs.Tree.{height, leafAt}
+use Rattle.shares.specs.Tree.{leaf, pair, twins, fold, Share, height, half, full, leafAt, treeOf, joinLeaf, treeIf, joinAt, join}
 use Rattle.shares.specs.TreeLaws.{share-path, treeOf-height, treeOf-ext, treeOf-leafAt, leafAt-treeOf, blocks}
 use Rattle.leaves.specs.Heights.{anyHeight, atMost, exactly}
 use Rattle.leaves.specs.Choices.{Row, at}
@@ -20,14 +22,36 @@ use Rattle.leaves.specs.ChoiceLaws.{at-table, row-path}
 use Rattle.leaves.specs.LeafSolutions.{SolvesLeaves}
 use Rattle.leaves.specs.Second.{Second}
 use Rattle.leaves.specs.LeafExtensions.{ExtendsLeaves, LeafExtension, positivesOnly, only}
-use Rattle.systems.specs.Clauses.{Assignment, positives, disequation, AllHold, Holds}
-use Rattle.systems.specs.Questions.{Question, Defined, InSystem, WellFormed, secondCount}
+use Rattle.systems.specs.Clauses.{variable, joined, positive, Assignment, positives, disequation, AllHold, Holds}
+use Rattle.systems.specs.Questions.{entailment, Question, Defined, InSystem, WellFormed, secondCount}
 use Rattle.systems.specs.Bounds.{Within, Bounds}
 use Rattle.systems.specs.Solutions.{tallest, heightOf, SolvesFirst, both, Beside, ExtendsBy, Extends, MeetsPositives, MeetsWith}
 use Rattle.systems.specs.SystemLaws.{parts, whole, in-system}
 use Rattle.systems.specs.AtLeaves.{bothAt, firstAt, secondAt}
 use Rattle.systems.specs.AtomLaws.{Good, Reads, positives-iff, disequation-iff}
 use Rattle.systems.specs.Decide.{sharesOf}
+
+-- ---- an example, computed: beside v0, which is full, own v1 join own v2 is v0, with own shares that are taller
+
+abbrev wholeSplit : Question
+wholeSplit = record {
+  kind = entailment;
+  free = 1;
+  own = 2;
+  constants = record { levels = 0; numbers = [] };
+  first = [];
+  second = positive (joined (variable 1) (variable 2) (variable 0)) ∷ [];
+}
+
+-- the left half for v1, the right half for v2
+abbrev halfShare : ℕ → Share
+unfolding twins
+halfShare zero = record { tree = pair (leaf true) (leaf false); folded = (refl, tt, tt) }
+halfShare (suc v) = record { tree = pair (leaf false) (leaf true); folded = (refl, tt, tt) }
+
+split-extends : Extends wholeSplit (λ v. record { tree = leaf true; folded = tt })
+unfolding tallest both height twins join joinAt treeIf treeOf fold everyBelow leafAt half full joinLeaf
+split-extends = record { own = halfShare; allowed = tt; holds = (refl, tt) }
 
 -- ---- the tallest tree
 
@@ -148,21 +172,19 @@ module _ (h : ℕ) (q : Question) (F : WellFormed q) (B : Bounds h q) where
     )
 
     module _ (v : ℕ) (le : w ≤ v) (τ : Assignment) (t : ℕ → Row Bool (q .own)) (S : Reads (q .own) v τ (λ i. at false (t i))) where
+      all-read : Reads (q .free + q .own) v (both (q .free) σ τ) (λ i. bothAt (q .free) (at false (s (blockOf w v i))) (at false (t i)))
+      all-read = both-read (q .free) (q .own) w v σ τ (λ i. at false (s i)) (λ i. at false (t i)) le R S
+
       second-positives : AllHold (q .constants) (both (q .free) σ τ) (positives (q .second))
-          ↔ ExtendsLeaves h (positivesOnly (secondAt h q)) w s v t
+          ↔ ((i : ℕ) → i < 2 ^ v → T (secondAt h q .pos (blockOf h v i) (s (blockOf w v i)) (t i)))
       second-positives =
-          let pos = positives-iff (q .free + q .own) h (q .constants) (B .low) v (le-trans hw le) (both (q .free) σ τ) _
-          (both-read (q .free) (q .own) w v σ τ (λ i. at false (s i)) (λ i. at false (t i)) le R S) (q .second) second-good in (
-            λ e. record { tall = le; everywhere = pos .0 e; somewhere = λ j l. absurd (not-suc-le-zero l) },
-            λ E. pos .1 (E .everywhere),
-          )
+          positives-iff (q .free + q .own) h (q .constants) (B .low) v (le-trans hw le) (both (q .free) σ τ) _ all-read (q .second) second-good
 
       second-disequation : (j : ℕ) → j < secondCount q
           → (¬ Holds (q .constants) (both (q .free) σ τ) (disequation (q .second) j))
           ↔ Below (2 ^ v) (λ i. secondAt h q .dis j (blockOf h v i) (s (blockOf w v i)) (t i))
-      second-disequation j l =
-          disequation-iff (q .free + q .own) h (q .constants) (B .low) v (le-trans hw le) (both (q .free) σ τ) _
-          (both-read (q .free) (q .own) w v σ τ (λ i. at false (s i)) (λ i. at false (t i)) le R S) (q .second) second-good j l
+      second-disequation =
+          disequation-iff (q .free + q .own) h (q .constants) (B .low) v (le-trans hw le) (both (q .free) σ τ) _ all-read (q .second) second-good
 
     -- σ extends exactly if its rows do
     pub extension-iff : (A A′ : ℕ → Type 0) → Read w A A′ → ExtendsBy A q σ ↔ LeafExtension A′ h (secondAt h q) w s
@@ -171,14 +193,19 @@ module _ (h : ℕ) (q : Question) (F : WellFormed q) (B : Bounds h q) where
         let pos = second-positives v le τ t S in
         let dis = second-disequation v le τ t S in (
           λ e. let p = parts (q .constants) (both (q .free) σ τ) (q .second) e in
-              record { tall = le; everywhere = pos .0 (p .0) .everywhere; somewhere = λ j l. dis j l .0 (p .1 j l) },
-          λ E. whole (q .constants) (both (q .free) σ τ) (q .second)
-              (pos .1 (record { tall = le; everywhere = E .everywhere; somewhere = λ j l. absurd (not-suc-le-zero l) }), λ j l. dis j l .1 (E .somewhere j l)),
+              record { tall = le; everywhere = pos .0 (p .0); somewhere = λ j l. dis j l .0 (p .1 j l) },
+          λ E. whole (q .constants) (both (q .free) σ τ) (q .second) (pos .1 (E .everywhere), λ j l. dis j l .1 (E .somewhere j l)),
         ))
 
     -- it can meet the second system's positive clauses exactly if its rows can
     pub meets-iff : MeetsPositives q σ ↔ LeafExtension anyHeight h (positivesOnly (secondAt h q)) w s
-    meets-iff = beside-iff _ (positivesOnly (secondAt h q)) second-positives anyHeight anyHeight (read-any w)
+    meets-iff =
+        beside-iff _ (positivesOnly (secondAt h q)) (λ v le τ t S.
+        let pos = second-positives v le τ t S in (
+          λ e. record { tall = le; everywhere = pos .0 e; somewhere = λ j l. absurd (not-suc-le-zero l) },
+          λ E. pos .1 (E .everywhere),
+        ))
+        anyHeight anyHeight (read-any w)
 
     -- and have disequation j beside them exactly if its rows can
     pub with-iff : (j : ℕ) → j < secondCount q → MeetsWith j q σ ↔ LeafExtension anyHeight h (only j (secondAt h q)) w s
@@ -186,11 +213,8 @@ module _ (h : ℕ) (q : Question) (F : WellFormed q) (B : Bounds h q) where
         beside-iff _ (only j (secondAt h q)) (λ v le τ t S.
         let pos = second-positives v le τ t S in
         let dis = second-disequation v le τ t S j m in (
-          λ (e, f). record { tall = le; everywhere = pos .0 e .everywhere; somewhere = λ _ _. dis .0 f },
-          λ E. (
-            pos .1 (record { tall = le; everywhere = E .everywhere; somewhere = λ j l. absurd (not-suc-le-zero l) }),
-            dis .1 (E .somewhere 0 (lit< tt)),
-          ),
+          λ (e, f). record { tall = le; everywhere = pos .0 e; somewhere = λ _ _. dis .0 f },
+          λ E. (pos .1 (E .everywhere), dis .1 (E .somewhere 0 (lit< tt))),
         ))
         anyHeight anyHeight (read-any w)
 
