@@ -29,7 +29,7 @@ use Rattle.questions.specs.Held as held
 use Rattle.questions.specs.declared.Section.the-variants.{FirstDisequation, SecondDisequation}
 use Rattle.plans.specs.declared.Plan.{Plan}
 use Rattle.plans.specs.Shown as shown
-use Rattle.show.specs.Rows.{rowLevels}
+use Rattle.rows.specs.Rows.{rowLevels}
 use Rattle.plans.specs.Numbers.{numbered}
 use Rattle.plans.specs.Tests.{Stored, roomOf, testsOf}
 use Rattle.plans.specs.StoredLaws.{row-digit}

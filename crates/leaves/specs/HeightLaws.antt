@@ -4,6 +4,7 @@ use mathlib.Core.Logic.{_⊎_, inl, inr}
 use mathlib.Core.Bool.{Bool}
 use Prim.Native.Nat.{ℕ, zero, suc, _+_, _-_, _^_, _≤_, _<_, zero-le}
 use native.Mathlib.Nat.{pow-suc, eq-or-lt-of-le, le-trans}
+use native.Mathlib.Decide.{decLt}
 use native.Mathlib.Omega.{arith}
 use lib.Dec.{leb, leb→le, nleb→lt}
 use lib.Pow.{pow-pos, pow-mono}
@@ -30,6 +31,20 @@ c-enough n = go (eq-or-lt-of-le (first-le n p))
 pub c-least : (n k : ℕ) → k < c n → 2 ^ k < n
 unfolding c
 c-least n k h = nleb→lt n (2 ^ k) (first-least n (λ k. leb n (2 ^ k)) k h)
+
+pub c-most : (n k : ℕ) → n ≤ 2 ^ k → c n ≤ k
+c-most n k l = go (decLt k (c n))
+  where
+    go : Dec (k < c n) → c n ≤ k
+    go (yes m) = absurd (omega (arith, c-least n k m))
+    go (no m) = omega arith
+
+pub c-more : (n k : ℕ) → 2 ^ k < n → k < c n
+c-more n k l = go (decLt k (c n))
+  where
+    go : Dec (k < c n) → k < c n
+    go (yes m) = m
+    go (no m) = let p : 2 ^ c n ≤ 2 ^ k = pow-mono (omega arith) in absurd (omega (arith, c-enough n))
 
 -- ---- heights with room for n
 
