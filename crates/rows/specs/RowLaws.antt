@@ -17,7 +17,7 @@ use Rattle.shares.specs.Tree.{Tree, leaf, Folded, height, leafAt}
 use Rattle.shares.specs.TreeLaws.{treeOf-ext, treeOf-leaf, treeOf-leafAt, leafAt-treeOf}
 use Rattle.shares.specs.Constant.{bit, numberOf}
 use Rattle.shares.specs.BitLaws.{bit-zero, bits-same, number-lt, bit-number}
-use Rattle.rows.specs.Rows.{rowCount, bytesAt, rowLeaf, rowTree, listOf, rowOf, rowRange, rowPart, zeros, variableRow, rowsOf, filledWith}
+use Rattle.rows.specs.Rows.{rowCount, bytesAt, rowLeaf, rowTree, listOf, rowOf, emptyRange, rowRange, rowPart, zeros, variableRow, rowsOf, filledWith}
 
 -- ---- a list and its elements
 
@@ -121,7 +121,7 @@ module _ (f : ℕ → List ℕ) (b : ℕ) (size : (v : ℕ) → length (f v) ≡
 -- ---- the row of one variable
 
 module _ (k bytes v : ℕ) where
-  pub range-none : rowCount ≤ v → rowRange k bytes v ≡ record { offset = 0; bytes = 0 }
+  pub range-none : rowCount ≤ v → rowRange k bytes v ≡ emptyRange
   unfolding rowRange
   range-none l = rw (le-ltb v rowCount l)
 
@@ -129,7 +129,7 @@ module _ (k bytes v : ℕ) where
   unfolding rowRange
   range-some l room = rw (lt-ltb v rowCount l, le-leb (rowCount * bytesAt k) bytes room)
 
-  pub range-short : v < rowCount → bytes < rowCount * bytesAt k → rowRange k bytes v ≡ record { offset = 0; bytes = 0 }
+  pub range-short : v < rowCount → bytes < rowCount * bytesAt k → rowRange k bytes v ≡ emptyRange
   unfolding rowRange
   range-short l short = rw (lt-ltb v rowCount l, lt-leb (rowCount * bytesAt k) bytes short)
 

@@ -50,13 +50,14 @@ rowOf k t = listOf (bytesAt k) (λ j. numberOf 8 (λ r. leafAt k t (8 * j + r)))
 
 -- ---- the rows of an answer buffer, unfolded to height k
 
+-- the empty part, at the start
+abbrev pub emptyRange : Range
+emptyRange = record { offset = 0; bytes = 0 }
+
 -- where the row of variable v lies in a buffer of so many bytes: the empty part if v is above 11 or the buffer too short
 unfoldable pub rowRange : ℕ → ℕ → ℕ → Range
 rowRange k bytes v =
-    cond (ltb v rowCount)
-    (cond (leb (rowCount * bytesAt k) bytes) (record { offset = v * bytesAt k; bytes = bytesAt k })
-    (record { offset = 0; bytes = 0 }))
-    (record { offset = 0; bytes = 0 })
+    cond (ltb v rowCount) (cond (leb (rowCount * bytesAt k) bytes) (record { offset = v * bytesAt k; bytes = bytesAt k }) emptyRange) emptyRange
 
 -- that part of the buffer
 unfoldable pub rowPart : ℕ → List ℕ → ℕ → List ℕ

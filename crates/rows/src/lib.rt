@@ -4,7 +4,7 @@ pub mod blocks;
 ghost use mathlib.Core.Path.{_≡_};
 ghost use Prim.Native.Nat.{_+_};
 ghost use lib.ListN.{length};
-ghost use Rattle.rows.specs.Rows.{rowLevels, rowPart, rowRange};
+ghost use Rattle.rows.specs.Rows.{rowLevels, emptyRange, rowRange, rowPart};
 
 // A row of the answer buffer is a tree unfolded to this height, in this many bytes.
 pub const ROW_LEVELS: usize = 10;
@@ -22,6 +22,16 @@ pub struct Range {
     pub bytes: usize,
 }
 
+// The empty part, at the start.
+fn nothing() -> Range
+    ensures { λ r. ⌜ r ≡ emptyRange ⌝ }
+{
+    Range {
+        offset: 0,
+        bytes: 0,
+    }
+}
+
 // Where the row of a variable lies in an answer buffer of so many bytes; the empty part if there is none.
 pub fn row_range(bytes: usize, variable: usize) -> Range
     ensures { λ r. ⌜ r ≡ rowRange rowLevels bytes variable ⌝ }
@@ -33,15 +43,9 @@ pub fn row_range(bytes: usize, variable: usize) -> Range
                 bytes: ROW_BYTES,
             };
         }
-        return Range {
-            offset: 0,
-            bytes: 0,
-        };
+        return nothing();
     }
-    Range {
-        offset: 0,
-        bytes: 0,
-    }
+    nothing()
 }
 
 // The row of a variable, as that very part of the answer buffer: what it holds, and where it lies.

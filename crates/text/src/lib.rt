@@ -1,4 +1,4 @@
-// The tree text of a row: `o` an empty leaf, `*` a full one, `(` left right `)` a pair; a row is written as the pair of its halves.
+// The tree text of a row: `o` an empty leaf, `*` a full one, `(` left right `)` a pair, always folded. A pair is written as its two halves are.
 use rows::ROW_BYTES;
 use rows::ROW_LEVELS;
 use rows::blocks::is_uniform;
@@ -21,7 +21,7 @@ pub enum Written {
     Refused(u8),
 }
 
-// The first sign of the text of block q: the leaf that it is, or a bracket. No byte is looked at more than twice.
+// The first sign of the text of block q: the leaf that it is, or a bracket.
 fn first_sign(row: &[u8], height: usize, q: usize) -> u8
     requires { ⌜ Inside height q (length (now row)) ⌝ }
     ensures { λ r. ⌜ r ≡ getD (text (blockTree (now (row .entry)) height q)) 0 0 ⌝ }

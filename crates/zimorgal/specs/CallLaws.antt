@@ -13,7 +13,7 @@ use Rattle.shares.specs.Constant.{bit, constant}
 use Rattle.shares.specs.BitLaws.{bits-same}
 use Rattle.shares.specs.Answer.{joinOf}
 use Rattle.shares.specs.declared.Joined.{Joined}
-use Rattle.shares.specs.declared.Joined.the-variants.{Constant}
+use Rattle.shares.specs.declared.Joined.the-variants.{Constant, Undefined}
 use Rattle.rows.specs.Rows.{rowLevels, answerBytes, rowRange, rowPart}
 use Rattle.rows.specs.declared.Range.{Range}
 use Rattle.rows.specs.RowLaws.{range-inside}
@@ -72,3 +72,6 @@ text-refused w n x e h = rw e (omega arith)
 
 pub join-defined : (j : Joined) (n : ℕ) → n < 2 ^ 32 → j ≡ Constant n → (n ≤ undefinedJoin) × (numberJoin n ≡ joinOf j)
 join-defined j n l e = (omega arith, rw (e, ne-eqb n undefinedJoin (omega arith)))
+
+pub join-none : (j : Joined) (n : ℕ) → n ≡ undefinedJoin → j ≡ Undefined → (n ≤ undefinedJoin) × (numberJoin n ≡ joinOf j)
+join-none j n l e = (omega arith, rw (e, eq-eqb n undefinedJoin l))

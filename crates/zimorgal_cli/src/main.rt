@@ -1,6 +1,7 @@
 // The printing program: reads one question from standard input, asks it, and prints the answer.
 use libc::STDIN_FILENO;
 use libc::STDOUT_FILENO;
+use text::LONGEST_TEXT;
 use text::Written;
 use zimorgal::Outcome;
 ghost use mathlib.Core.Path.{_≡_};
@@ -85,9 +86,9 @@ fn say_rows(answer: &[u8], free: usize, text: &mut [u8]) {
     }
 }
 
-// A shown solution. No text of a row is longer than 3,070 bytes.
+// A shown solution. The buffer takes the text of every row.
 fn say_solution(answer: &[u8], free: usize, height: usize) {
-    let mut text = [0u8; 3070];
+    let mut text = [0u8; LONGEST_TEXT];
     say_height(height);
     say_rows(answer, free, &mut text);
 }
