@@ -31,7 +31,7 @@ use Rattle.questions.specs.KeepingLaws.{section-count}
 use Rattle.questions.specs.declared.Section.the-variants.{FirstDisequation, SecondDisequation}
 use Rattle.plans.specs.declared.Plan.{Plan}
 use Rattle.plans.specs.Shown as shown
-use Rattle.show.specs.Rows.{rowLevels}
+use Rattle.rows.specs.Rows.{rowLevels}
 use Rattle.plans.specs.Numbers.{numbered}
 use Rattle.plans.specs.Plan.{noPlan}
 use Rattle.plans.specs.Tests.{roomOf, testsOf}

@@ -12,7 +12,7 @@ use Rattle.questions.specs.declared.Question.{Question}
 use Rattle.plans.specs.declared.Plan.{Plan}
 use Rattle.plans.specs.Shown as shown
 use Rattle.plans.specs.Plan.{noPlan}
-use Rattle.show.specs.Rows.{rowLevels}
+use Rattle.rows.specs.Rows.{rowLevels}
 use Rattle.decide.specs.declared.Finding.{Finding}
 use Rattle.decide.specs.declared.Finding.the-variants.{Satisfied, Unsatisfied, Vacuous, Entailed, Unmet, Missed}
 use Rattle.decide.specs.declared.Decision.{Decision}
@@ -34,7 +34,7 @@ answerOf (Missed j) = missed j
 pub record Planned (q : Asked) (plan : Plan) : Type 0 where
   pub formed : shown.Showable rowLevels plan
   pub high : plan .high ≡ heightGiven (questionHeight q) q (decide q)
-  pub trees : (v : ℕ) → v < q .free → shown.planTree plan (q .free - 1 - v) ≡ shownAt (questionHeight q) q v .tree
+  pub trees : (v : ℕ) → v < q .free → shown.planTrees (q .free) plan v ≡ shownAt (questionHeight q) q v .tree
 
 -- the decision of a question
 pub record Decided (q : Asked) (r : Decision) : Type 0 where

@@ -38,6 +38,13 @@ at-table d zero f i l = absurd (not-suc-le-zero l)
 at-table d (suc n) f zero l = refl
 at-table d (suc n) f (suc i) l = at-table d n (λ i. f (suc i)) i (le-of-suc-le-suc l)
 
+-- past its end
+pub at-past : {X : Type 0} (d : X) {n : ℕ} (r : Row X n) (i : ℕ) → n ≤ i → at d r i ≡ d
+unfolding at
+at-past d nil i l = refl
+at-past d (cons x r) zero l = absurd (not-suc-le-zero l)
+at-past d (cons x r) (suc i) l = at-past d r i (le-of-suc-le-suc l)
+
 -- two rows are equal if their values are
 pub row-path : {X : Type 0} (d : X) (n : ℕ) (a b : Row X n) → ((v : ℕ) → v < n → at d a v ≡ at d b v) → a ≡ b
 unfolding at

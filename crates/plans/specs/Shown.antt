@@ -1,7 +1,7 @@
 -- What a plan shows: the choice of values at each sub-leaf, and the tree of each variable. Assumes nothing.
 use mathlib.Core.Path.{_≡_}
 use mathlib.Core.Bool.{cond}
-use Prim.Native.Nat.{ℕ, zero, suc, _^_, _≤_, _<_}
+use Prim.Native.Nat.{ℕ, zero, suc, _-_, _^_, _≤_, _<_}
 use lib.Dec.{eqb}
 use lib.ListN.{getD}
 use Rattle.shares.specs.Tree.{Tree, treeOf}
@@ -29,3 +29,7 @@ planChoice plan s = planChoiceAfter plan (plan .count) s
 -- the tree of the variable whose value is digit p, lowest first, of a choice
 unfoldable pub planTree : Plan → ℕ → Tree
 planTree plan p = treeOf (plan .high) (λ s. bit (planChoice plan s) p)
+
+-- the trees of n variables, of which variable 0 has the highest digit
+abbrev pub planTrees : ℕ → Plan → ℕ → Tree
+planTrees n plan v = planTree plan (n - 1 - v)

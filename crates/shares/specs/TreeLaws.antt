@@ -126,6 +126,18 @@ leafAt-treeOf (suc k) f i h =
     (λ i u. leaf-right k (fold l r) i u ∙ ap (λ t. leafAt k t i) (half-fold 1 l r) ∙ leafAt-treeOf k (λ j. f (2 ^ k + j)) i u)
     i h
 
+-- leaves that are all alike make a leaf, and are what it unfolds to
+pub treeOf-leaf : (k : ℕ) (b : Bool) → treeOf k (λ i. b) ≡ leaf b
+unfolding treeOf fold twins
+treeOf-leaf zero b = refl
+treeOf-leaf (suc k) true = rw (treeOf-leaf k true)
+treeOf-leaf (suc k) false = rw (treeOf-leaf k false)
+
+pub leafAt-leaf : (k : ℕ) (b : Bool) (i : ℕ) → leafAt k (leaf b) i ≡ b
+unfolding leafAt half full
+leafAt-leaf zero b i = refl
+leafAt-leaf (suc k) b i = leafAt-leaf k b (i % 2 ^ k)
+
 -- ---- a folded tree is the tree of its leaves
 
 pub treeOf-ext : (k : ℕ) (f g : ℕ → Bool) → ((i : ℕ) → i < 2 ^ k → f i ≡ g i) → treeOf k f ≡ treeOf k g

@@ -5,6 +5,7 @@ pub mod Solutions
 pub mod Answers
 pub mod AtLeaves
 pub mod Decide
+pub mod ShownLaws
 pub mod SystemLaws
 pub mod AtomLaws
 pub mod Link

@@ -1,28 +1,23 @@
--- The theorems of asking: what it gives and shows for an answered question is exact, and demand 3 holds of it. Assumes nothing.
+-- The theorems of asking: what it gives and shows for an answered question is exact, and the rule of heights holds of it. Assumes nothing.
 use mathlib.Core.Path.{_≡_, refl, sym, ap, _∙_, subst, subst₂, fun-ext}
-use mathlib.Core.Bool.{Bool, true, false, cond}
-use mathlib.Core.List.{List, [], _++_}
-use Prim.Native.Nat.{ℕ, zero, suc, _%_, _/_, _≤_, _<_}
-use native.Mathlib.Nat.{not-suc-le-zero, le-of-suc-le-suc, le-trans}
-use native.Mathlib.Decide.{decLt}
+use mathlib.Core.List.{List}
+use Prim.Native.Nat.{ℕ, _≤_}
+use native.Mathlib.Nat.{le-trans}
 use native.Mathlib.Omega.{arith}
-use borrow.Author.Tests.{lt-ltb, le-ltb, le-leb}
-use lib.Dec.{T, ltb, lit≤}
-use lib.ListN.{length, getD, drop, replicate, length-replicate, getD-replicate, List·getD-eq-default}
+use lib.Dec.{T, lit≤}
+use lib.ListN.{length}
 use Rattle.shares.specs.Test.{is-true}
-use Rattle.shares.specs.Tree.{leaf, twins, fold, height, treeOf}
-use Rattle.shares.specs.TreeLaws.{share-path, treeOf-ext, treeOf-height}
-use Rattle.shares.specs.Constant.{bit}
-use Rattle.shares.specs.BitLaws.{bit-zero}
-use Rattle.leaves.specs.Choices.{Row, nil, cons, at}
+use Rattle.shares.specs.Tree.{height}
+use Rattle.shares.specs.TreeLaws.{share-path}
 use Rattle.systems.specs.Questions.{Question, WellFormed, questionHeight}
-use Rattle.systems.specs.Answers.{Answer, satisfied, unsatisfied, vacuous, entailed, unmet, missed, shows, heightGiven}
-use Rattle.systems.specs.Decide.{decide, sharesOf, shownWith, shownAt}
+use Rattle.systems.specs.Answers.{shows, heightGiven}
+use Rattle.systems.specs.Decide.{decide, shownAt}
+use Rattle.systems.specs.ShownLaws.{shown-past, shown-low}
 use Rattle.systems.specs.Heights.{height-rule, exact, verdict-exact}
 use Rattle.questions.specs.FormatLaws.{Limited, accepted-formed, accepted-limited}
-use Rattle.show.specs.Rows.{rowLevels, rowBytes, rowCount, answerBytes, rowLeaf, rowTree, rowOf, rowPart, rowsOf}
-use Rattle.show.specs.RowLaws.{row-length, rowTree-rowOf, rows-whole, rows-at}
-use Rattle.zimorgal.specs.Asking.{Asked, turnedAway, answered, askedWith, refusalOutcome, outcomeOf, zeros, solutionRow, answerAfter, workAfter}
+use Rattle.rows.specs.Rows.{rowLevels, answerBytes, filledWith}
+use Rattle.rows.specs.RowLaws.{filled-tree, filled-zero}
+use Rattle.zimorgal.specs.Asking.{Asked, turnedAway, answered, askedWith, refusalOutcome, outcomeOf, shownTrees, answerAfter, workAfter}
 use Rattle.zimorgal.specs.AskingLaws.{granted, height-low, outcome-fits}
 use Rattle.zimorgal.specs.Packing.{packed, unpacked}
 use Rattle.zimorgal.specs.PackingLaws.{reads-back}
@@ -31,122 +26,27 @@ use Rattle.zimorgal.specs.Exact.{Exact}
 use Rattle.zimorgal.specs.Demand3.{rowShares, RowsShow, Demand3}
 use Rattle.zimorgal.specs.Given.{Given, GivenPacked}
 
--- ---- the empty tree
+-- ---- the rows of the solution that is shown
 
-empty-tree : (k : ℕ) → treeOf k (λ i. false) ≡ leaf false
-unfolding treeOf fold twins
-empty-tree zero = refl
-empty-tree (suc k) = rw (empty-tree k)
-
--- a row of zeros is that of the empty tree
-zero-row : (row : List ℕ) → ((j : ℕ) → getD row j 0 ≡ 0) → rowTree rowLevels row ≡ leaf false
-unfolding rowLeaf
-zero-row row z = treeOf-ext rowLevels _ _ (λ i _. ap (λ b. bit b (i % 8)) (z (i / 8)) ∙ bit-zero (i % 8)) ∙ empty-tree rowLevels
-
-zeros-at : (n j : ℕ) → _≡_ {A = ℕ} (getD (zeros n) j 0) 0
-unfolding zeros
-zeros-at n j = go (decLt j n)
-  where
-    go : Dec (j < n) → _≡_ {A = ℕ} (getD (replicate n 0) j 0) 0
-    go (yes l) = getD-replicate n j 0 0 l
-    go (no l) = List·getD-eq-default (replicate n 0) 0 (omega (arith, length-replicate {A = ℕ} n 0))
-
--- ---- the solution that is shown, of every variable
-
-at-past : {n : ℕ} (r : Row Bool n) (v : ℕ) → n ≤ v → at false r v ≡ false
-unfolding at
-at-past nil v l = refl
-at-past (cons x r) zero l = absurd (not-suc-le-zero l)
-at-past (cons x r) (suc v) l = at-past r v (le-of-suc-le-suc l)
-
-shares-past : {n : ℕ} (k : ℕ) (s : ℕ → Row Bool n) (v : ℕ) → n ≤ v → sharesOf k s v .tree ≡ leaf false
-unfolding sharesOf
-shares-past k s v l = treeOf-ext k _ _ (λ i _. at-past (s i) v l) ∙ empty-tree k
-
-shares-height : {n : ℕ} (k : ℕ) (s : ℕ → Row Bool n) (v : ℕ) → height (sharesOf k s v .tree) ≤ k
-unfolding sharesOf
-shares-height k s v = treeOf-height k _
-
-module _ (h : ℕ) (q : Question) (v : ℕ) where
-  shown-past : (a : Answer) → q .free ≤ v → shownWith h q a v .tree ≡ leaf false
-  shown-past satisfied l = shares-past _ _ v l
-  shown-past unsatisfied l = shares-past _ _ v l
-  shown-past vacuous l = shares-past _ _ v l
-  shown-past entailed l = shares-past _ _ v l
-  shown-past unmet l = shares-past _ _ v l
-  shown-past (missed j) l = shares-past _ _ v l
-
-  shown-low : (a : Answer) → T (shows a) → height (shownWith h q a v .tree) ≤ heightGiven h q a
-  shown-low satisfied t = shares-height _ _ v
-  shown-low unsatisfied t = absurd t
-  shown-low vacuous t = absurd t
-  shown-low entailed t = absurd t
-  shown-low unmet t = shares-height _ _ v
-  shown-low (missed j) t = shares-height _ _ v
-
--- ---- its rows
-
-row-size : (q : Question) (v : ℕ) → length (solutionRow q v) ≡ rowBytes
-unfolding solutionRow zeros
-row-size q v = go (ltb v (q .free))
-  where
-    go : (t : Bool) → length (cond t (rowOf rowLevels (shownAt (questionHeight q) q v .tree)) (zeros rowBytes)) ≡ rowBytes
-    go true = row-length rowLevels (shownAt (questionHeight q) q v .tree)
-    go false = refl
-
-row-zero : (q : Question) (v : ℕ) → q .free ≤ v → solutionRow q v ≡ zeros rowBytes
-unfolding solutionRow
-row-zero q v l = rw (le-ltb v (q .free) l)
-
-module _ (q : Question) (answer : List ℕ) (room : answerBytes ≤ length answer) (t : T (shows (decide q))) where
-  after : answerAfter (answered q) answer ≡ rowsOf (solutionRow q) rowCount ++ drop answerBytes answer
+module _ (q : Question) (F : WellFormed q) (L : Limited q) (answer : List ℕ) (room : answerBytes ≤ length answer) (t : T (shows (decide q))) where
+  after : answerAfter (answered q) answer ≡ filledWith rowLevels (q .free) (shownTrees q) answer
   unfolding answerAfter
   after = rw (is-true (shows (decide q)) t)
 
-  after-length : length (answerAfter (answered q) answer) ≡ length answer
-  after-length = ap length after ∙ rows-whole (solutionRow q) rowBytes (row-size q) answer rowCount room
+  low : (v : ℕ) → height (shownTrees q v) ≤ heightGiven (questionHeight q) q (decide q)
+  low v = shown-low (questionHeight q) q v (decide q) t
 
-  part-is : (v : ℕ) → v < rowCount → rowPart (answerAfter (answered q) answer) v ≡ solutionRow q v
-  unfolding rowPart
-  part-is v l =
-      let long : answerBytes ≤ length (answerAfter (answered q) answer) = omega (arith, after-length) in
-      rw (lt-ltb v rowCount l, le-leb answerBytes (length (answerAfter (answered q) answer)) long, after)
-      (rows-at (solutionRow q) rowBytes (row-size q) rowCount v (drop answerBytes answer) l)
-
-part-none : (answer : List ℕ) (v : ℕ) → rowCount ≤ v → rowPart answer v ≡ []
-unfolding rowPart
-part-none answer v l = rw (le-ltb v rowCount l)
-
-module _ (q : Question) (F : WellFormed q) (L : Limited q) (answer : List ℕ) (room : answerBytes ≤ length answer) (t : T (shows (decide q))) where
-  row-tree : (v : ℕ) → rowTree rowLevels (solutionRow q v) ≡ shownAt (questionHeight q) q v .tree
-  unfolding solutionRow
-  row-tree v = go (decLt v (q .free))
-    where
-      go : Dec (v < q .free) → rowTree rowLevels (solutionRow q v) ≡ shownAt (questionHeight q) q v .tree
-      go (yes l) =
-          rw (lt-ltb v (q .free) l)
-          (rowTree-rowOf rowLevels (lit≤ tt) (shownAt (questionHeight q) q v .tree) (shownAt (questionHeight q) q v .folded)
-          (le-trans (shown-low (questionHeight q) q v (decide q) t) (height-low q F L (decide q))))
-      go (no n) =
-          let l : q .free ≤ v = omega arith in
-          rw (le-ltb v (q .free) l) (zero-row (zeros rowBytes) (zeros-at rowBytes) ∙ sym (shown-past (questionHeight q) q v (decide q) l))
-
-  -- the rows are those of the solution that is shown
+  -- they are those of its shares
   rows-are : rowShares (answerAfter (answered q) answer) ≡ shownAt (questionHeight q) q
-  rows-are = fun-ext (λ v. share-path _ _ (go v (decLt v rowCount)))
-    where
-      go : (v : ℕ) → Dec (v < rowCount) → rowShares (answerAfter (answered q) answer) v .tree ≡ shownAt (questionHeight q) q v .tree
-      go v (yes l) = ap (rowTree rowLevels) (part-is q answer room t v l) ∙ row-tree v
-      go v (no n) =
-          ap (rowTree rowLevels) (part-none (answerAfter (answered q) answer) v (omega arith)) ∙ zero-row [] (λ j. refl)
-          ∙ sym (shown-past (questionHeight q) q v (decide q) (omega (arith, L .variables)))
+  rows-are = rw after (fun-ext (λ v. share-path _ _
+      (filled-tree rowLevels (q .free) (shownTrees q) answer room (lit≤ tt) (omega (arith, L .variables)) v (shownAt (questionHeight q) q v .folded)
+      (le-trans (low v) (height-low q F L (decide q))) (shown-past (questionHeight q) q v (decide q)))))
 
   filled : RowsShow q (decide q) (answerAfter (answered q) answer)
   filled = record {
     solution = rw rows-are (height-rule q F .shown t);
-    low = λ v.
-        subst (λ σ. height (σ v .tree) ≤ heightGiven (questionHeight q) q (decide q)) (sym rows-are) (shown-low (questionHeight q) q v (decide q) t);
-    others = λ v l m. part-is q answer room t v m ∙ row-zero q v l;
+    low = λ v. subst (λ σ. height (σ v .tree) ≤ heightGiven (questionHeight q) q (decide q)) (sym rows-are) (low v);
+    others = λ v l m. rw after (filled-zero rowLevels (q .free) (shownTrees q) answer room v l m);
   }
 
 -- ---- the theorems

@@ -3,12 +3,13 @@ use mathlib.Core.Bool.{cond}
 use mathlib.Core.List.{List, _++_}
 use Prim.Native.Nat.{ℕ}
 use lib.Dec.{ltb}
-use lib.ListN.{length, drop, replicate}
+use lib.ListN.{length, drop}
+use Rattle.shares.specs.Tree.{Tree}
 use Rattle.systems.specs.Questions.{Question, questionHeight}
 use Rattle.systems.specs.Answers.{Answer, verdict, reason, disequationNumber, shows, heightGiven}
 use Rattle.systems.specs.Decide.{decide, shownAt}
 use Rattle.questions.specs.Format.{Result, refused, accepted, read}
-use Rattle.show.specs.Rows.{rowLevels, rowBytes, rowCount, answerBytes, rowOf, rowsOf}
+use Rattle.rows.specs.Rows.{rowLevels, answerBytes, zeros, filledWith}
 use Rattle.zimorgal.specs.declared.Outcome.{Outcome}
 
 -- ---- whether a question is answered
@@ -55,18 +56,14 @@ outcomeOf (answered q) = answerOutcome (decide q) (heightGiven (questionHeight q
 
 -- ---- the lent bytes
 
--- n zero bytes
-unfoldable pub zeros : ℕ → List ℕ
-zeros n = replicate n 0
+-- the trees of the solution that is shown
+abbrev pub shownTrees : Question → ℕ → Tree
+shownTrees q v = shownAt (questionHeight q) q v .tree
 
--- the row of variable v where a solution is shown: its tree, and zero if it is no free variable
-unfoldable pub solutionRow : Question → ℕ → List ℕ
-solutionRow q v = cond (ltb v (q .free)) (rowOf rowLevels (shownAt (questionHeight q) q v .tree)) (zeros rowBytes)
-
--- the answer buffer: a shown solution fills its first 1,536 bytes, otherwise it is unchanged
+-- the answer buffer: a shown solution fills its first 1,536 bytes, a row for each variable, zero if it is no free one; otherwise it is unchanged
 unfoldable pub answerAfter : Asked → List ℕ → List ℕ
 answerAfter (turnedAway n place) answer = answer
-answerAfter (answered q) answer = cond (shows (decide q)) (rowsOf (solutionRow q) rowCount ++ drop answerBytes answer) answer
+answerAfter (answered q) answer = cond (shows (decide q)) (filledWith rowLevels (q .free) (shownTrees q) answer) answer
 
 -- the work area: after a yes or no its first 4,096 bytes are zero, otherwise it is unchanged
 unfoldable pub workAfter : Asked → List ℕ → List ℕ

@@ -3,14 +3,13 @@ use mathlib.Core.Path.{_≡_, refl, ap, _∙_}
 use mathlib.Core.Bool.{Bool, true, false}
 use mathlib.Core.List.{List, _++_}
 use Prim.Native.Nat.{ℕ, _+_, _≤_, _<_}
-use native.Mathlib.Decide.{decLt}
 use native.Mathlib.Omega.{arith}
 use borrow.Author.Tests.{lt-ltb, le-ltb, ltb-false}
 use lib.Dec.{ltb}
 use lib.ListN.{drop, replicate}
 use Rattle.shares.specs.Test.{cond-law}
 use Rattle.leaves.specs.Heights.{c, anyHeight}
-use Rattle.leaves.specs.HeightLaws.{c-least}
+use Rattle.leaves.specs.HeightLaws.{c-most}
 use Rattle.systems.specs.Questions.{Question, WellFormed, questionHeight, firstCount}
 use Rattle.systems.specs.Answers.{Answer, satisfied, unsatisfied, vacuous, entailed, unmet, missed, Says, verdict, reason, disequationNumber, heightGiven}
 use Rattle.systems.specs.Decide.{decide}
@@ -18,9 +17,9 @@ use Rattle.systems.specs.Heights.{question-bounds, exact}
 use Rattle.questions.specs.Format.{Result, refused, accepted, read}
 use Rattle.questions.specs.FormatLaws.{longest, Limited, accepted-formed, accepted-limited, refusal-number, refusal-place}
 use Rattle.questions.specs.declared.Section.the-variants.{FirstDisequation, SecondDisequation}
-use Rattle.show.specs.Rows.{answerBytes}
-use Rattle.zimorgal.specs.Asking.{workBytes, Asked, turnedAway, answered, lentTo, asked, outcomeOf, zeros}
-use Rattle.zimorgal.specs.Packing.{InBytes}
+use Rattle.rows.specs.Rows.{rowLevels, answerBytes, zeros}
+use Rattle.zimorgal.specs.Asking.{workBytes, Asked, turnedAway, answered, lentTo, asked, outcomeOf}
+use Rattle.zimorgal.specs.PackingLaws.{InBytes}
 
 -- ---- the cases
 
@@ -71,25 +70,18 @@ granted s a w q e = go (read s) refl (ltb a answerBytes) refl (ltb w workBytes) 
 
 -- ---- the numbers
 
-c-low : (n : ℕ) → n ≤ 32 → c n ≤ 5
-c-low n l = go (decLt 5 (c n))
-  where
-    go : Dec (5 < c n) → c n ≤ 5
-    go (yes m) = absurd (omega (arith, c-least n 5 m))
-    go (no m) = omega arith
-
 module _ (q : Question) (F : WellFormed q) (L : Limited q) where
   level-low : questionHeight q ≤ 5
   level-low = omega (arith, question-bounds q F .low, L .levels)
 
   first-low : c (firstCount q) ≤ 5
-  first-low = c-low (firstCount q) (omega (arith, L .sections FirstDisequation))
+  first-low = c-most (firstCount q) 5 (omega (arith, L .sections FirstDisequation))
 
   more-low : c (firstCount q + 1) ≤ 5
-  more-low = c-low (firstCount q + 1) (omega (arith, L .sections FirstDisequation))
+  more-low = c-most (firstCount q + 1) 5 (omega (arith, L .sections FirstDisequation))
 
   -- the height given is at most that of a row
-  pub height-low : (a : Answer) → heightGiven (questionHeight q) q a ≤ 10
+  pub height-low : (a : Answer) → heightGiven (questionHeight q) q a ≤ rowLevels
   height-low satisfied = omega (arith, level-low, first-low)
   height-low unsatisfied = omega arith
   height-low vacuous = omega arith

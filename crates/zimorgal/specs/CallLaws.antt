@@ -1,29 +1,50 @@
 -- Laws of the other calls' numbers: what they hold is read back from them. Assumes nothing.
-use mathlib.Core.Path.{_≡_, sym, ap, _∙_}
+use mathlib.Core.Path.{_≡_, refl, sym, ap, _∙_}
 use mathlib.Core.List.{List}
 use mathlib.Core.Option.{none, some, Option·some-injective}
-use Prim.Native.Nat.{ℕ, _*_, _/_, _%_, _^_, _≤_, _<_}
+use Prim.Native.Nat.{ℕ, _+_, _*_, _/_, _%_, _^_, _≤_, _<_}
 use native.Mathlib.Decide.{ℕ-discrete}
 use native.Mathlib.Omega.{arith}
 use borrow.Author.Tests.{eq-eqb, ne-eqb}
+use lib.ListN.{length, take, drop}
 use Rattle.shares.specs.Tree.{Tree, leafAt}
 use Rattle.shares.specs.TreeLaws.{leafAt-treeOf}
 use Rattle.shares.specs.Constant.{bit, constant}
 use Rattle.shares.specs.BitLaws.{bits-same}
 use Rattle.shares.specs.Answer.{joinOf}
 use Rattle.shares.specs.declared.Joined.{Joined}
-use Rattle.shares.specs.declared.Joined.the-variants.{Constant}
-use Rattle.show.specs.Texts.{textLength, textRefusal, textAnswer}
-use Rattle.show.specs.TextLaws.{answer-length}
-use Rattle.show.specs.declared.Written.{Written}
-use Rattle.show.specs.declared.Written.the-variants.{Length, Refused}
-use Rattle.zimorgal.specs.Calls.{textNumber, undefinedJoin, numberJoin}
+use Rattle.shares.specs.declared.Joined.the-variants.{Constant, Undefined}
+use Rattle.rows.specs.Rows.{rowLevels, answerBytes, rowRange, rowPart}
+use Rattle.rows.specs.declared.Range.{Range}
+use Rattle.rows.specs.RowLaws.{range-inside}
+use Rattle.text.specs.Texts.{textLength, textRefusal, textAnswer}
+use Rattle.text.specs.TextLaws.{answer-length}
+use Rattle.text.specs.declared.Written.{Written}
+use Rattle.text.specs.declared.Written.the-variants.{Length, Refused}
+use Rattle.zimorgal.specs.Calls.{rangeNumber, textNumber, undefinedJoin, numberJoin}
+
+-- the offset and the length of the row call, and the bytes of that range, which are the part that is handed back
+module _ (answer : List ℕ) (v : ℕ) (r : Range) (e : r ≡ rowRange rowLevels (length answer) v) where
+  pub range-small : r .offset + r .bytes ≤ answerBytes
+  range-small = rw e (range-inside rowLevels (length answer) v .1)
+
+  low : rangeNumber r % 2 ^ 32 ≡ r .offset
+  low = omega (arith, range-small)
+
+  high : rangeNumber r / 2 ^ 32 ≡ r .bytes
+  high = omega (arith, range-small)
+
+  pub range-given : (rangeNumber r ≡ rangeNumber (rowRange rowLevels (length answer) v))
+      × ((rangeNumber r % 2 ^ 32 ≡ rowRange rowLevels (length answer) v .offset) × ((rangeNumber r / 2 ^ 32 ≡ rowRange rowLevels (length answer) v .bytes)
+      × (take (rangeNumber r / 2 ^ 32) (drop (rangeNumber r % 2 ^ 32) answer) ≡ rowPart rowLevels answer v)))
+  unfolding rowPart
+  range-given = rw (low, high, e) (refl, (refl, (refl, refl)))
 
 -- the length and the refusal number of the text call
 pub text-reads-back : (row buffer : List ℕ)
-    → (textNumber (textAnswer row buffer) % 2 ^ 32 ≡ textLength (textAnswer row buffer))
-    × (textNumber (textAnswer row buffer) / 2 ^ 32 ≡ textRefusal (textAnswer row buffer))
-text-reads-back row buffer = (omega (arith, answer-length row buffer), omega (arith, answer-length row buffer))
+    → (textNumber (textAnswer rowLevels row buffer) % 2 ^ 32 ≡ textLength (textAnswer rowLevels row buffer))
+    × (textNumber (textAnswer rowLevels row buffer) / 2 ^ 32 ≡ textRefusal (textAnswer rowLevels row buffer))
+text-reads-back row buffer = (omega (arith, answer-length rowLevels row buffer), omega (arith, answer-length rowLevels row buffer))
 
 not-both : (t : Tree) → none ≡ some t → ⊥
 not-both t e = let z : _≡_ {A = ℕ} 0 1 = cc in omega arith
@@ -51,3 +72,6 @@ text-refused w n x e h = rw e (omega arith)
 
 pub join-defined : (j : Joined) (n : ℕ) → n < 2 ^ 32 → j ≡ Constant n → (n ≤ undefinedJoin) × (numberJoin n ≡ joinOf j)
 join-defined j n l e = (omega arith, rw (e, ne-eqb n undefinedJoin (omega arith)))
+
+pub join-none : (j : Joined) (n : ℕ) → n ≡ undefinedJoin → j ≡ Undefined → (n ≤ undefinedJoin) × (numberJoin n ≡ joinOf j)
+join-none j n l e = (omega arith, rw (e, eq-eqb n undefinedJoin l))

@@ -1,12 +1,17 @@
--- What the numbers of the text call and of the join call stand for. Assumes nothing.
+-- What the numbers of the row call, the text call and the join call stand for. Assumes nothing.
 use mathlib.Core.Bool.{cond}
 use mathlib.Core.Option.{Option, none, some}
 use Prim.Native.Nat.{ℕ, _+_, _*_, _^_}
 use lib.Dec.{eqb}
 use Rattle.shares.specs.Tree.{Tree}
 use Rattle.shares.specs.Constant.{constant}
-use Rattle.show.specs.Texts.{textLength, textRefusal}
-use Rattle.show.specs.declared.Written.{Written}
+use Rattle.rows.specs.declared.Range.{Range}
+use Rattle.text.specs.Texts.{textLength, textRefusal}
+use Rattle.text.specs.declared.Written.{Written}
+
+-- a range's offset in the low 32 bits, its length in the high 32
+abbrev pub rangeNumber : Range → ℕ
+rangeNumber r = r .offset + 2 ^ 32 * r .bytes
 
 -- a text's length in the low 32 bits, the refusal number in the byte after them
 abbrev pub textNumber : Written → ℕ

@@ -1,11 +1,8 @@
 -- From a decision with its plan to what asking gives and shows. Assumes nothing.
-use mathlib.Core.Path.{_≡_, refl, sym, ap, _∙_, fun-ext}
+use mathlib.Core.Path.{_≡_, refl, sym, ap, _∙_}
 use mathlib.Core.Bool.{Bool, true, false, cond, true≢false}
 use mathlib.Core.List.{List, _++_}
-use Prim.Native.Nat.{ℕ, _≤_, _<_}
-use native.Mathlib.Decide.{decLt}
-use native.Mathlib.Omega.{arith}
-use borrow.Author.Tests.{lt-ltb, le-ltb}
+use Prim.Native.Nat.{ℕ, _≤_}
 use lib.Dec.{T}
 use lib.ListN.{length, drop}
 use Rattle.shares.specs.Test.{of-true}
@@ -16,12 +13,13 @@ use Rattle.questions.specs.Stored.{storedOf, Stands}
 use Rattle.questions.specs.declared.Reading.{Reading}
 use Rattle.questions.specs.Callers.{Taken}
 use Rattle.plans.specs.Shown.{Showable}
-use Rattle.show.specs.Rows.{rowLevels, rowCount, answerBytes, rowOf, rowsOf}
+use Rattle.rows.specs.Rows.{rowLevels, answerBytes, zeros, filledWith}
+use Rattle.rows.specs.RowLaws.{filled-ext}
 use Rattle.show.specs.Plans as shown
 use Rattle.decide.specs.declared.Decision.{Decision}
-use Rattle.decide.specs.Decision.{answerOf, Planned, Decided}
+use Rattle.decide.specs.Decision.{answerOf, Decided}
 use Rattle.zimorgal.specs.declared.Outcome.{Outcome}
-use Rattle.zimorgal.specs.Asking.{workBytes, answered, answerOutcome, outcomeOf, zeros, solutionRow, answerAfter, workAfter}
+use Rattle.zimorgal.specs.Asking.{workBytes, answered, answerOutcome, outcomeOf, shownTrees, answerAfter, workAfter}
 use Rattle.zimorgal.specs.AskingLaws.{asked-answered}
 use Rattle.zimorgal.specs.Given.{Given}
 use Rattle.zimorgal.specs.AskedRight.{given}
@@ -53,22 +51,14 @@ module _ (q : Question) (d : Decision) (D : Decided q d) where
       go false e = sym (none-given (questionHeight q) q (decide q) e)
 
   -- its rows are those of the solution that is shown
-  row-same : Planned q (d .plan) → (v : ℕ) → shown.shownRow (q .free) (d .plan) v ≡ solutionRow q v
-  unfolding shown.shownRow solutionRow zeros
-  row-same P v = go (decLt v (q .free))
-    where
-      go : Dec (v < q .free) → shown.shownRow (q .free) (d .plan) v ≡ solutionRow q v
-      go (yes l) = rw (lt-ltb v (q .free) l) (ap (rowOf rowLevels) (P .trees v l))
-      go (no n) = rw (le-ltb v (q .free) (omega arith))
-
   pub answer-same : (free : ℕ) (answer : List ℕ) → free ≡ q .free
       → cond (shows (answerOf (d .finding))) (shown.shownAnswer free (d .plan) answer) answer ≡ answerAfter (answered q) answer
-  unfolding shown.shownAnswer answerAfter
+  unfolding answerAfter
   answer-same free answer e = rw (D .answer, e) (go (shows (decide q)) refl)
     where
       go : (t : Bool) → shows (decide q) ≡ t → cond t (shown.shownAnswer (q .free) (d .plan) answer) answer
-          ≡ cond t (rowsOf (solutionRow q) rowCount ++ drop answerBytes answer) answer
-      go true u = ap (λ f. rowsOf f rowCount ++ drop answerBytes answer) (fun-ext (row-same (D .plan (of-true u))))
+          ≡ cond t (filledWith rowLevels (q .free) (shownTrees q) answer) answer
+      go true u = filled-ext rowLevels (q .free) _ _ (D .plan (of-true u) .trees) answer
       go false u = refl
 
 -- asking, once a question was read that both buffers are long enough for, and decided

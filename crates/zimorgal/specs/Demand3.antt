@@ -1,4 +1,4 @@
--- Demand 3, one claim over every accepted question, of the model and of what asking gives and shows. Assumes nothing.
+-- The rule of heights and the solution that is shown: one claim over every accepted question, of the model and of what asking gives. Assumes nothing.
 use mathlib.Core.Path.{_≡_}
 use mathlib.Core.List.{List}
 use Prim.Native.Nat.{ℕ, _≤_, _<_}
@@ -10,13 +10,12 @@ use Rattle.systems.specs.Clauses.{Assignment}
 use Rattle.systems.specs.Questions.{Question, questionHeight}
 use Rattle.systems.specs.Answers.{Answer, Answers, shows, heightGiven, Shown}
 use Rattle.systems.specs.HeightRule.{HeightRule}
-use Rattle.show.specs.Rows.{rowLevels, rowBytes, rowCount, rowTree, rowPart}
+use Rattle.rows.specs.Rows.{rowLevels, rowBytes, rowCount, rowTree, rowPart, zeros}
 use Rattle.zimorgal.specs.declared.Outcome.{Outcome}
-use Rattle.zimorgal.specs.Asking.{zeros}
 
--- the shares that the rows of an answer buffer stand for, each row unfolded to height 10
+-- the shares that the rows of an answer buffer stand for
 abbrev pub rowShares : List ℕ → Assignment
-rowShares answer v = record { tree = rowTree rowLevels (rowPart answer v); folded = treeOf-folded rowLevels _ }
+rowShares answer v = record { tree = rowTree rowLevels (rowPart rowLevels answer v); folded = treeOf-folded rowLevels _ }
 
 -- an answer buffer shows a solution that goes with the answer a
 pub record RowsShow (q : Question) (a : Answer) (answer : List ℕ) : Type 0 where
@@ -25,7 +24,7 @@ pub record RowsShow (q : Question) (a : Answer) (answer : List ℕ) : Type 0 whe
   -- no row is taller than the height given
   pub low : (v : ℕ) → tree.height (rowShares answer v .tree) ≤ heightGiven (questionHeight q) q a
   -- rows of own and absent variables are zero
-  pub others : (v : ℕ) → q .free ≤ v → v < rowCount → rowPart answer v ≡ zeros rowBytes
+  pub others : (v : ℕ) → q .free ≤ v → v < rowCount → rowPart rowLevels answer v ≡ zeros rowBytes
 
 -- the claim: where a is the right answer to q
 pub record Demand3 (q : Question) (r : Outcome) (answer : List ℕ) : Type 0 where

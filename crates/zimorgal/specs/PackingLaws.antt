@@ -3,7 +3,16 @@ use mathlib.Core.Path.{_≡_}
 use Prim.Native.Nat.{_/_, _%_, _^_, _<_}
 use native.Mathlib.Omega.{arith}
 use Rattle.zimorgal.specs.declared.Outcome.{Outcome}
-use Rattle.zimorgal.specs.Packing.{packed, unpacked, InBytes}
+use Rattle.zimorgal.specs.Packing.{packed, unpacked}
+
+-- each field fits its bytes
+pub record InBytes (o : Outcome) : Type 0 where
+  pub verdict : o .verdict < 2 ^ 8
+  pub refusal : o .refusal < 2 ^ 8
+  pub place : o .place < 2 ^ 16
+  pub height : o .height < 2 ^ 8
+  pub reason : o .reason < 2 ^ 8
+  pub number : o .number < 2 ^ 8
 
 module _ (o : Outcome) (f : InBytes o) where
   -- the eighth byte is 0

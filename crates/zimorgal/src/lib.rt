@@ -1,8 +1,9 @@
 // Asking a question, and every call that other programs link.
 use decide::Decision;
 use decide::Finding;
+use rows::ANSWER_BYTES;
 use shares::Joined;
-use show::Written;
+use text::Written;
 ghost use mathlib.Core.Path.{_≡_};
 ghost use mathlib.Core.Bool.{true, cond};
 ghost use mathlib.Core.List.{_++_};
@@ -14,18 +15,16 @@ ghost use Rattle.shares.specs.Answer.{joinOf};
 ghost use Rattle.systems.specs.Questions as model;
 ghost use Rattle.systems.specs.Answers.{shows};
 ghost use Rattle.plans.specs.Shown.{Showable};
-ghost use Rattle.show.specs.Rows.{rowLevels, rowCount, answerBytes, rowPart, rowRange};
+ghost use Rattle.rows.specs.Rows.{rowLevels, rowCount, answerBytes, rowRange, rowPart, zeros};
 ghost use Rattle.show.specs.Plans.{shownAnswer};
-ghost use Rattle.show.specs.Texts.{textAnswer, textAfter};
+ghost use Rattle.text.specs.Texts.{textAnswer, textAfter};
 ghost use Rattle.decide.specs.Decision.{answerOf};
-ghost use Rattle.zimorgal.specs.Asking.{workBytes, answered, askedWith, refusalOutcome, answerOutcome, outcomeOf, zeros, answerAfter, workAfter};
-ghost use Rattle.zimorgal.specs.Packing.{packed, unpacked, InBytes};
-ghost use Rattle.zimorgal.specs.Calls.{textNumber, undefinedJoin, numberJoin};
+ghost use Rattle.zimorgal.specs.Asking.{workBytes, answered, askedWith, refusalOutcome, answerOutcome, outcomeOf, answerAfter, workAfter};
+ghost use Rattle.zimorgal.specs.Packing.{packed, unpacked};
+ghost use Rattle.zimorgal.specs.PackingLaws.{InBytes};
+ghost use Rattle.zimorgal.specs.Calls.{rangeNumber, textNumber, undefinedJoin, numberJoin};
 ghost use Rattle.zimorgal.specs.Exact.{Exact};
 ghost use Rattle.zimorgal.specs.Demand3.{Demand3};
-
-// A shown solution fills this many bytes of the answer buffer.
-const ANSWER_BYTES: usize = 1536;
 
 // This many bytes of the work area are zero after a yes or no.
 const WORK_BYTES: usize = 4096;
@@ -197,22 +196,26 @@ pub extern "C" fn zimorgal_ask(question: &[u8], answer: &mut [u8], work: &mut [u
     pack(ask(question, answer, work))
 }
 
-// Where the row of a variable lies in an answer buffer: the offset in the low 32 bits, the length in the high 32.
+// Where the row of a variable lies in an answer buffer: the offset in the low 32 bits, the length in the high 32. It is the very part
+// that `rows::row` hands back.
 #[no_mangle]
 pub extern "C" fn zimorgal_row(answer: &[u8], variable: usize) -> u64
-    ensures place { λ r. ⌜ r ≡ rowRange (length (now (answer .entry))) variable ⌝ }
-    ensures part { λ r. ⌜ take (r / 2 ^ 32) (drop (r % 2 ^ 32) (now (answer .entry))) ≡ rowPart (now (answer .entry)) variable ⌝ }
+    ensures range { λ r. ⌜ r ≡ rangeNumber (rowRange rowLevels (length (now (answer .entry))) variable) ⌝ }
+    ensures offset { λ r. ⌜ r % 2 ^ 32 ≡ rowRange rowLevels (length (now (answer .entry))) variable .offset ⌝ }
+    ensures length { λ r. ⌜ r / 2 ^ 32 ≡ rowRange rowLevels (length (now (answer .entry))) variable .bytes ⌝ }
+    ensures part { λ r. ⌜ take (r / 2 ^ 32) (drop (r % 2 ^ 32) (now (answer .entry))) ≡ rowPart rowLevels (now (answer .entry)) variable ⌝ }
 {
-    show::row_range(answer.len(), variable)
+    let range = rows::row_range(answer.len(), variable);
+    (range.offset as u64) + 4294967296 * (range.bytes as u64)
 }
 
 // The text of a row: the length in the low 32 bits, the refusal number in the byte after them.
 #[no_mangle]
 pub extern "C" fn zimorgal_text(row: &[u8], text: &mut [u8]) -> u64
-    ensures answer { λ r. ⌜ r ≡ textNumber (textAnswer (now (row .entry)) (now (text .entry))) ⌝ }
-    ensures text { λ _. ⌜ now (text .exit) ≡ textAfter (now (row .entry)) (now (text .entry)) ⌝ }
+    ensures answer { λ r. ⌜ r ≡ textNumber (textAnswer rowLevels (now (row .entry)) (now (text .entry))) ⌝ }
+    ensures text { λ _. ⌜ now (text .exit) ≡ textAfter rowLevels (now (row .entry)) (now (text .entry)) ⌝ }
 {
-    text_number(show::tree_text(row, text))
+    text_number(text::tree_text(row, text))
 }
 
 // The number of a text that was written or refused.

@@ -1,7 +1,8 @@
 // The printing program: reads one question from standard input, asks it, and prints the answer.
 use libc::STDIN_FILENO;
 use libc::STDOUT_FILENO;
-use show::Written;
+use text::LONGEST_TEXT;
+use text::Written;
 use zimorgal::Outcome;
 ghost use mathlib.Core.Path.{_≡_};
 ghost use mathlib.Core.Bool.{cond};
@@ -66,7 +67,7 @@ fn say_name(variable: usize) {
 
 // The line of one variable. Every row of an answer has a text, and it fits.
 fn say_row(variable: usize, row: &[u8], text: &mut [u8]) {
-    let written = show::tree_text(row, text);
+    let written = text::tree_text(row, text);
     let Written::Length(n) = written else {
         return;
     };
@@ -80,14 +81,14 @@ fn say_row(variable: usize, row: &[u8], text: &mut [u8]) {
 fn say_rows(answer: &[u8], free: usize, text: &mut [u8]) {
     let mut v: usize = 0;
     while v < free {
-        say_row(v, show::row(answer, v), text);
+        say_row(v, rows::row(answer, v), text);
         v += 1;
     }
 }
 
-// A shown solution. No text of a row is longer than 3,070 bytes.
+// A shown solution. The buffer takes the text of every row.
 fn say_solution(answer: &[u8], free: usize, height: usize) {
-    let mut text = [0u8; 3070];
+    let mut text = [0u8; LONGEST_TEXT];
     say_height(height);
     say_rows(answer, free, &mut text);
 }

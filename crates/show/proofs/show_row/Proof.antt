@@ -3,7 +3,7 @@ use mathlib.Core.Path.{ap, _∙_}
 use Prim.Native.Nat.{ℕ}
 use lib.ListN.{replicate}
 use borrow.Author.Tests.{lt-ltb, le-ltb}
-use Rattle.show.specs.Plans.{shownRow}
+use Rattle.rows.specs.Rows.{zeros, variableRow}
 use borrow.Author.Needs.{needs}
 use Rattle.show.proofs.show_row.Statement.{statement}
 use Rattle.show.proofs.show_row.Tie as tie
@@ -21,7 +21,7 @@ same-length : tie.Need-same-length
 same-length c = search needs
 
 returns : tie.Need-returns
-unfolding shownRow
+unfolding variableRow
 returns c = simp (lt-ltb _ _ (c .before .before .before .before .if1 .taken)) (c .before .before .write-row .ensures)
 
 fill-requires : tie.Need-fill-requires
@@ -31,7 +31,7 @@ same-length-2 : tie.Need-same-length-2
 same-length-2 c = search needs
 
 returns-2 : tie.Need-returns-2
-unfolding shownRow
+unfolding variableRow zeros
 returns-2 c = simp (le-ltb _ _ (c .before .before .before .before .if1 .left)) (c .before .before .fill .ensures ∙ ap (λ (m : ℕ). replicate m 0) (c .before .before .before .before .before .before .pre .1 .0))
 
 pub show-row-spec : {M : Type 1} → statement M

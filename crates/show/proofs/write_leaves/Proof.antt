@@ -2,14 +2,14 @@
 use native.Mathlib.Omega.{arith}
 use mathlib.Core.Path.{_≡_, refl, sym, _∙_, subst}
 use Prim.Native.Nat.{ℕ, _-_, _/_, _^_, _≤_, _<_}
+use lib.Dec.{lit≤}
 use lib.ListN.{length, getD}
 use lib.Pow.{pow-mono}
 use Rattle.shares.specs.Constant.{bit}
 use Rattle.shares.specs.BlockLaws.{block-lt}
-use Rattle.show.specs.Rows.{rowLevels, rowLeaf}
-use Rattle.show.specs.Blocks.{Inside}
-use Rattle.show.specs.BlockLaws.{blocks-more}
-use Rattle.show.specs.PlanLaws.{leaf-inside}
+use Rattle.rows.specs.Rows.{rowLevels, rowLeaf}
+use Rattle.rows.specs.Blocks.{Inside}
+use Rattle.rows.specs.BlockLaws.{leaf-inside, blocks-more}
 use Rattle.show.proofs.write_leaves.Statement.{statement}
 use Rattle.show.proofs.write_leaves.Tie as tie
 
@@ -44,7 +44,7 @@ write-block-requires c κs =
     let l = c .before .before .before .before .loop in
     let within : start .args .low ≤ rowLevels = omega arith in
     let below : l .k < 2 ^ start .args .low = omega arith in
-    subst (Inside (rowLevels - start .args .low) (l .k)) (sym (l .inv .1 ∙ start .pre .1)) (leaf-inside within below)
+    subst (Inside (rowLevels - start .args .low) (l .k)) (sym (l .inv .1 ∙ start .pre .1)) (leaf-inside (lit≤ tt) (lit≤ tt) within below)
 
 add-k : tie.Need-add-k Inv-loop μ-loop
 add-k c = omega arith

@@ -1,5 +1,7 @@
 -- `show::write_row` writes the row of the tree. Assumes nothing.
 use mathlib.Core.Path.{_∙_}
+use lib.Dec.{lit≤}
+use Rattle.rows.specs.Rows.{rowLevels}
 use Rattle.show.specs.PlanLaws.{shows-plain, shows-all}
 use borrow.Author.Needs.{needs}
 use Rattle.show.proofs.write_row.Statement.{statement}
@@ -15,7 +17,7 @@ write-sub-leaves-requires c κs =
       (
         c .before .before .before .write-leaves .kept .0 ∙ start .pre .1 .0,
         start .pre .1 .1,
-        shows-plain _ (start .pre .0) _ _ (c .before .before .before .write-leaves .ensures),
+        shows-plain rowLevels _ (start .pre .0) _ _ (c .before .before .before .write-leaves .ensures),
       ),
     )
 
@@ -25,7 +27,7 @@ same-length c = search needs
 returns : tie.Need-returns
 returns c =
     let start = c .before .before .before .before .before .before .before .before .before .before .before in
-    shows-all _ (start .pre .0) _ _ (c .before .before .write-sub-leaves .kept .0 ∙ c .before .before .before .before .before .before .write-leaves .kept .0 ∙ start .pre .1 .0)
+    shows-all rowLevels _ (start .pre .0) _ (lit≤ tt) _ (c .before .before .write-sub-leaves .kept .0 ∙ c .before .before .before .before .before .before .write-leaves .kept .0 ∙ start .pre .1 .0)
     (λ j. c .slice-known3 .given j .fits) (c .before .before .write-sub-leaves .ensures)
 
 pub write-row-spec : {M : Type 1} → statement M

@@ -4,10 +4,9 @@ use mathlib.Core.Path.{_≡_, refl, sym, ap, _∙_}
 use mathlib.Core.List.{_++_}
 use Prim.Native.Nat.{ℕ, _+_, _*_, _-_, _≤_}
 use lib.ListN.{length, drop}
-use Rattle.show.specs.Rows.{rowBytes, rowsOf}
-use Rattle.show.specs.RowLaws.{rows-more, rows-whole}
-use Rattle.show.specs.Plans.{shownRow, shownAnswer}
-use Rattle.show.specs.PlanLaws.{shown-length}
+use Rattle.rows.specs.Rows.{rowLevels, rowBytes, variableRow, rowsOf, filledWith}
+use Rattle.rows.specs.RowLaws.{rows-more, rows-whole, variable-length}
+use Rattle.plans.specs.Shown.{planTrees}
 use Rattle.show.proofs.write_rows.Statement.{statement}
 use Rattle.show.proofs.write_rows.Tie as tie
 
@@ -15,7 +14,7 @@ part-size : (k : ℕ) → k + 128 - k ≡ 128
 part-size k = omega arith
 
 abbrev Inv-loop : tie.InvT-loop
-Inv-loop answer₀ n plan v₀ answer v = (v ≤ 12) × (length answer ≡ length answer₀) × (answer ≡ rowsOf (shownRow n plan) v ++ drop (v * rowBytes) answer₀)
+Inv-loop answer₀ n plan v₀ answer v = (v ≤ 12) × (length answer ≡ length answer₀) × (answer ≡ rowsOf (variableRow rowLevels n (planTrees n plan)) v ++ drop (v * rowBytes) answer₀)
 
 abbrev μ-loop : tie.MeasureT-loop
 μ-loop answer₀ n plan v₀ answer v = 12 - v
@@ -59,15 +58,15 @@ loop-again c =
     let start = c .before .before .before .before .before .before .before in
     let l = c .before .before .before .before .before .loop in
     let fits : (l .v + 1) * rowBytes ≤ length (start .args .answer .now) = omega arith in
-    let size = shown-length (start .args .n) (start .args .plan) in
-    let e = rows-more (shownRow _ _) rowBytes size (start .args .answer .now) (l .answer) _ (l .v) _ (l .inv .2) (c .before .before .show-row .ensures) (part-size (l .v * 128)) in
-    (omega arith, ap length e ∙ rows-whole (shownRow _ _) rowBytes size _ _ fits, e)
+    let size = variable-length rowLevels (start .args .n) (planTrees (start .args .n) (start .args .plan)) in
+    let e = rows-more (variableRow rowLevels (start .args .n) (planTrees (start .args .n) (start .args .plan))) rowBytes size (start .args .answer .now) (l .answer) _ (l .v) _ (l .inv .2) (c .before .before .show-row .ensures) (part-size (l .v * 128)) in
+    (omega arith, ap length e ∙ rows-whole (variableRow rowLevels (start .args .n) (planTrees (start .args .n) (start .args .plan))) rowBytes size _ _ fits, e)
 
 same-length : tie.Need-same-length Inv-loop μ-loop
 same-length c = c .before .loop .inv .1
 
 returns : tie.Need-returns Inv-loop μ-loop
-unfolding shownAnswer
+unfolding filledWith
 returns c = let past : c .before .loop .v ≡ 12 = omega arith in rw past at (c .before .loop .inv .2)
 
 pub write-rows-spec : {M : Type 1} → statement M

@@ -2,15 +2,18 @@
 use native.Mathlib.Omega.{arith}
 use mathlib.Core.Path.{_≡_, refl, sym, _∙_, subst}
 use Prim.Native.Nat.{ℕ, _≤_, _-_}
+use lib.Dec.{lit≤}
 use lib.ListN.{length, getD}
-use Rattle.show.specs.Blocks.{Inside}
+use Rattle.rows.specs.Rows.{rowLevels}
+use Rattle.rows.specs.Blocks.{Inside}
+use Rattle.rows.specs.BlockLaws.{leaf-inside}
 use Rattle.show.specs.Plans.{Shows}
-use Rattle.show.specs.PlanLaws.{leaf-inside, sub-leaf-small, shows-more}
+use Rattle.show.specs.PlanLaws.{sub-leaf-small, shows-more}
 use Rattle.show.proofs.write_sub_leaves.Statement.{statement}
 use Rattle.show.proofs.write_sub_leaves.Tie as tie
 
 abbrev Inv-loop : tie.InvT-loop
-Inv-loop row₀ p plan height n₀ row n = (n ≤ plan .count) × (length row ≡ length row₀) × Shows plan n p row
+Inv-loop row₀ p plan height n₀ row n = (n ≤ plan .count) × (length row ≡ length row₀) × Shows rowLevels plan n p row
 
 abbrev μ-loop : tie.MeasureT-loop
 μ-loop row₀ p plan height n₀ row n = plan .count - n
@@ -28,7 +31,7 @@ element-copy-out-s : tie.Need-element-copy-out-s Inv-loop μ-loop
 element-copy-out-s c = omega (arith, c .before .before .before .pre .0 .few)
 
 cast-s : tie.Need-cast-s Inv-loop μ-loop
-cast-s c = omega (arith, sub-leaf-small _ (c .before .before .before .before .pre .0) _ (c .before .loop-test .taken))
+cast-s c = omega (arith, sub-leaf-small rowLevels _ (c .before .before .before .before .pre .0) _ (c .before .loop-test .taken))
 
 mul-digit-of : tie.Need-mul-digit-of Inv-loop μ-loop
 mul-digit-of c = omega (arith, c .before .before .before .before .before .pre .0 .few)
@@ -44,8 +47,8 @@ write-block-requires c κs =
     let start = c .before .before .before .before .before .before .before in
     let l = c .before .before .before .before .before .loop in
     let ok = start .pre .0 in
-    subst (Inside (10 - start .args .t2 .high) (getD (start .args .t2 .subleaf) (l .n) 0)) (sym (l .inv .1 ∙ start .pre .1 .0))
-    (leaf-inside (ok .within) (ok .sub-leaves (l .n) (c .before .before .before .before .loop-test .taken)))
+    subst (Inside (rowLevels - start .args .t2 .high) (getD (start .args .t2 .subleaf) (l .n) 0)) (sym (l .inv .1 ∙ start .pre .1 .0))
+    (leaf-inside (lit≤ tt) (lit≤ tt) (ok .within) (ok .sub-leaves (l .n) (c .before .before .before .before .loop-test .taken)))
 
 add-n : tie.Need-add-n Inv-loop μ-loop
 add-n c = omega (arith, c .before .before .before .before .before .before .before .before .before .before .pre .0 .few, c .before .before .before .before .before .before .before .loop-test .taken)
@@ -58,7 +61,7 @@ loop-again c =
     let l = c .before .before .before .before .before .before .before .before .loop in (
       omega arith,
       c .before .before .write-block .kept .0 ∙ l .inv .1,
-      shows-more _ (c .before .before .before .before .before .before .before .before .before .before .pre .0) _ _ _ (l .row) _ (l .inv .2) (c .before .before .write-block .ensures) (c .before .before .before .digit-of .ensures),
+      shows-more rowLevels _ (c .before .before .before .before .before .before .before .before .before .before .pre .0) _ _ _ (l .row) _ (l .inv .2) (c .before .before .write-block .ensures) (c .before .before .before .digit-of .ensures),
     )
 
 same-length : tie.Need-same-length Inv-loop μ-loop
@@ -68,7 +71,7 @@ returns : tie.Need-returns Inv-loop μ-loop
 returns c =
     let a = c .before .before .before .args in
     let e : c .before .loop .n ≡ a .t2 .count = omega arith in
-    subst (λ (n : ℕ). Shows (a .t2) n (a .p) (c .before .loop .row)) e (c .before .loop .inv .2)
+    subst (λ (n : ℕ). Shows rowLevels (a .t2) n (a .p) (c .before .loop .row)) e (c .before .loop .inv .2)
 
 pub write-sub-leaves-spec : {M : Type 1} → statement M
 write-sub-leaves-spec =

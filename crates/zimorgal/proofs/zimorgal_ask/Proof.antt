@@ -1,6 +1,6 @@
 -- `zimorgal::zimorgal_ask` gives what asking gives as one number, and every field fits its bytes. Assumes nothing.
 use mathlib.Core.Path.{sym, subst}
-use Rattle.zimorgal.specs.Packing.{InBytes}
+use Rattle.zimorgal.specs.PackingLaws.{InBytes}
 use Rattle.zimorgal.specs.AskingLaws.{outcome-fits}
 use Rattle.zimorgal.specs.AskedRight.{given-packed}
 use borrow.Author.Needs.{needs}

@@ -1,0 +1,4 @@
+pub mod Rows
+pub mod RowLaws
+pub mod Blocks
+pub mod BlockLaws

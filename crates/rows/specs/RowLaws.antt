@@ -1,0 +1,232 @@
+-- Laws of rows, for every height from 3 on: a row is its tree and back, by its leaves. Assumes nothing.
+use mathlib.Core.Path.{_≡_, refl, sym, ap, ap₂, _∙_, fun-ext}
+use mathlib.Core.Bool.{Bool, true, false, cond}
+use mathlib.Core.List.{List, [], _++_, append-assoc}
+use mathlib.Core.Logic.{_⊎_, inl, inr}
+use Prim.Native.Nat.{ℕ, zero, suc, _+_, _-_, _*_, _/_, _%_, _^_, _≤_, _<_, zero-le}
+use native.Mathlib.Nat.{not-suc-le-zero, le-of-suc-le-suc, eq-or-lt-of-le, zero-mul, suc-mul, le-trans, add-mul, one-mul, mul-le-mul-right}
+use native.Mathlib.Decide.{decLt}
+use native.Mathlib.Numerals.{add-one}
+use native.Mathlib.Omega.{arith}
+use borrow.Author.Tests.{lt-ltb, le-ltb, le-leb, lt-leb}
+use lib.Dec.{ltb}
+use lib.ListN.{length, getD, take, drop, replicate, length-append, length-drop, length-replicate, getD-replicate, List·getD-eq-default}
+use lib.Pow.{pow-add}
+use lib.Seq.{ext-getD, take-at, drop-at, drop-drop}
+use Rattle.shares.specs.Tree.{Tree, leaf, Folded, height, leafAt}
+use Rattle.shares.specs.TreeLaws.{treeOf-ext, treeOf-leaf, treeOf-leafAt, leafAt-treeOf}
+use Rattle.shares.specs.Constant.{bit, numberOf}
+use Rattle.shares.specs.BitLaws.{bit-zero, bits-same, number-lt, bit-number}
+use Rattle.rows.specs.Rows.{rowCount, bytesAt, rowLeaf, rowTree, listOf, rowOf, emptyRange, rowRange, rowPart, zeros, variableRow, rowsOf, filledWith}
+
+-- ---- a list and its elements
+
+list-length : (n : ℕ) (f : ℕ → ℕ) → length (listOf n f) ≡ n
+unfolding listOf
+list-length zero f = refl
+list-length (suc n) f = ap suc (list-length n (λ i. f (suc i)))
+
+list-at : (n : ℕ) (f : ℕ → ℕ) (i : ℕ) → i < n → getD (listOf n f) i 0 ≡ f i
+unfolding listOf
+list-at zero f i h = absurd (not-suc-le-zero h)
+list-at (suc n) f zero h = refl
+list-at (suc n) f (suc i) h = list-at n (λ i. f (suc i)) i (le-of-suc-le-suc h)
+
+-- ---- the bytes of a row
+
+pub eight : (k : ℕ) → 3 ≤ k → 2 ^ k ≡ 2 ^ (k - 3) * 8
+eight k h = ap (λ (n : ℕ). 2 ^ n) (omega arith) ∙ pow-add 2 (k - 3) 3
+
+pub row-length : (k : ℕ) (t : Tree) → length (rowOf k t) ≡ bytesAt k
+unfolding rowOf
+row-length k t = list-length (bytesAt k) _
+
+pub row-byte : (k : ℕ) (t : Tree) (j : ℕ) → getD (rowOf k t) j 0 < 256
+unfolding rowOf
+row-byte k t j = go (decLt j (bytesAt k))
+  where
+    go : Dec (j < bytesAt k) → getD (rowOf k t) j 0 < 256
+    go (yes l) = rw (list-at (bytesAt k) (λ j. numberOf 8 (λ r. leafAt k t (8 * j + r))) j l) (number-lt 8 _)
+    go (no n) =
+        let past : length (rowOf k t) ≤ j = omega (arith, row-length k t) in
+        rw (List·getD-eq-default (rowOf k t) 0 past) (omega arith)
+
+-- ---- the leaves of a row
+
+-- leaf 8 j + r is bit r of byte j
+pub leaf-byte : (row : List ℕ) (j r : ℕ) → r < 8 → rowLeaf row (8 * j + r) ≡ bit (getD row j 0) r
+unfolding rowLeaf
+leaf-byte row j r h = ap₂ (λ x y. bit (getD row x 0) y) (omega arith) (omega arith)
+
+-- of the row that a tree gives, they are the tree's
+pub row-leaf : (k : ℕ) → 3 ≤ k → (t : Tree) (i : ℕ) → i < 2 ^ k → rowLeaf (rowOf k t) i ≡ leafAt k t i
+unfolding rowLeaf rowOf
+row-leaf k h t i l =
+    let inside : i / 8 < bytesAt k = omega (arith, eight k h) in
+    ap (λ n. bit n (i % 8)) (list-at (bytesAt k) (λ j. numberOf 8 (λ r. leafAt k t (8 * j + r))) (i / 8) inside)
+    ∙ bit-number 8 (λ r. leafAt k t (8 * (i / 8) + r)) (i % 8) (omega arith)
+    ∙ ap (leafAt k t) (omega arith)
+
+-- bytes that have the leaves of a tree are the row that it gives
+pub row-is : (k : ℕ) → 3 ≤ k → (row : List ℕ) (t : Tree) → length row ≡ bytesAt k → ((j : ℕ) → getD row j 0 < 256)
+    → ((i : ℕ) → i < 2 ^ k → rowLeaf row i ≡ leafAt k t i) → row ≡ rowOf k t
+row-is k h row t len byte same =
+    ext-getD 0 row (rowOf k t) (len ∙ sym (row-length k t))
+    (λ j l. bits-same 8 (getD row j 0) (getD (rowOf k t) j 0) (byte j) (row-byte k t j) (bits j l))
+  where
+    bits : (j : ℕ) → j < length row → (r : ℕ) → r < 8 → bit (getD row j 0) r ≡ bit (getD (rowOf k t) j 0) r
+    bits j l r u =
+        let inside : 8 * j + r < 2 ^ k = omega (arith, eight k h) in
+        sym (leaf-byte row j r u) ∙ same (8 * j + r) inside ∙ sym (row-leaf k h t (8 * j + r) inside) ∙ leaf-byte (rowOf k t) j r u
+
+-- ---- there and back
+
+pub rowTree-rowOf : (k : ℕ) → 3 ≤ k → (t : Tree) → Folded t → height t ≤ k → rowTree k (rowOf k t) ≡ t
+rowTree-rowOf k h t f low = treeOf-ext k _ _ (row-leaf k h t) ∙ treeOf-leafAt k t f low
+
+pub rowOf-rowTree : (k : ℕ) → 3 ≤ k → (row : List ℕ) → length row ≡ bytesAt k → ((j : ℕ) → getD row j 0 < 256) → rowOf k (rowTree k row) ≡ row
+rowOf-rowTree k h row len byte = sym (row-is k h row (rowTree k row) len byte (λ i l. sym (leafAt-treeOf k (rowLeaf row) i l)))
+
+-- ---- rows one after the other, each of b bytes
+
+module _ (f : ℕ → List ℕ) (b : ℕ) (size : (v : ℕ) → length (f v) ≡ b) where
+  rows-length : (n : ℕ) → length (rowsOf f n) ≡ n * b
+  unfolding rowsOf
+  rows-length zero = sym (zero-mul b)
+  rows-length (suc n) = length-append (rowsOf f n) (f n) ∙ ap₂ _+_ (rows-length n) (size n) ∙ sym (suc-mul n b)
+
+  -- a buffer whose first v rows are written, after one row more
+  pub rows-more : (before now row : List ℕ) (v k : ℕ) → now ≡ rowsOf f v ++ drop (v * b) before → row ≡ f v → k ≡ b
+      → take (v * b) now ++ (row ++ drop k (drop (v * b) now)) ≡ rowsOf f (v + 1) ++ drop ((v + 1) * b) before
+  unfolding rowsOf
+  rows-more before now row v k e er ek =
+      let next : v * b + b ≡ suc v * b = sym (suc-mul v b) in
+      let ht = take-at (rowsOf f v) (drop (v * b) before) (v * b) (rows-length v) in
+      let hd = drop-at (rowsOf f v) (drop (v * b) before) (v * b) (rows-length v) in
+      rw (e, er, ek, ht, hd, drop-drop b (v * b) before, next, add-one v, append-assoc)
+
+  pub rows-whole : (before : List ℕ) (v : ℕ) → v * b ≤ length before → length (rowsOf f v ++ drop (v * b) before) ≡ length before
+  rows-whole before v h = simp (length-append, length-drop, rows-length) (omega arith)
+
+  -- row v of those written
+  pub rows-at : (n v : ℕ) (rest : List ℕ) → v < n → take b (drop (v * b) (rowsOf f n ++ rest)) ≡ f v
+  unfolding rowsOf
+  rows-at zero v rest h = absurd (not-suc-le-zero h)
+  rows-at (suc n) v rest h = rw (append-assoc (rowsOf f n) (f n) rest) (pick (eq-or-lt-of-le (le-of-suc-le-suc h)) (rows-at n v (f n ++ rest)))
+    where
+      pick : (v ≡ n) ⊎ (v < n) → (v < n → take b (drop (v * b) (rowsOf f n ++ (f n ++ rest))) ≡ f v) → take b (drop (v * b) (rowsOf f n ++ (f n ++ rest))) ≡ f v
+      pick (inl e) ih = rw (e, drop-at (rowsOf f n) (f n ++ rest) (n * b) (rows-length n)) (take-at (f n) rest b (size n))
+      pick (inr l) ih = ih l
+
+-- ---- the row of one variable
+
+module _ (k bytes v : ℕ) where
+  pub range-none : rowCount ≤ v → rowRange k bytes v ≡ emptyRange
+  unfolding rowRange
+  range-none l = rw (le-ltb v rowCount l)
+
+  pub range-some : v < rowCount → rowCount * bytesAt k ≤ bytes → rowRange k bytes v ≡ record { offset = v * bytesAt k; bytes = bytesAt k }
+  unfolding rowRange
+  range-some l room = rw (lt-ltb v rowCount l, le-leb (rowCount * bytesAt k) bytes room)
+
+  pub range-short : v < rowCount → bytes < rowCount * bytesAt k → rowRange k bytes v ≡ emptyRange
+  unfolding rowRange
+  range-short l short = rw (lt-ltb v rowCount l, lt-leb (rowCount * bytesAt k) bytes short)
+
+  -- it lies within the buffer, and within the rows of an answer
+  pub range-inside : (rowRange k bytes v .offset + rowRange k bytes v .bytes ≤ bytes) × (rowRange k bytes v .offset + rowRange k bytes v .bytes ≤ rowCount * bytesAt k)
+  range-inside = go (decLt v rowCount) (decLt bytes (rowCount * bytesAt k))
+    where
+      go : Dec (v < rowCount) → Dec (bytes < rowCount * bytesAt k)
+          → (rowRange k bytes v .offset + rowRange k bytes v .bytes ≤ bytes) × (rowRange k bytes v .offset + rowRange k bytes v .bytes ≤ rowCount * bytesAt k)
+      go (yes l) (yes short) = rw (range-short l short) (zero-le, zero-le)
+      go (yes l) (no n) =
+          let room : rowCount * bytesAt k ≤ bytes = omega arith in
+          let last : (v + 1) * bytesAt k ≤ rowCount * bytesAt k = mul-le-mul-right (bytesAt k) (omega arith) in
+          let end : v * bytesAt k + bytesAt k ≤ rowCount * bytesAt k = omega (arith, add-mul v 1 (bytesAt k), one-mul (bytesAt k)) in
+          rw (range-some l room) (le-trans end room, end)
+      go (no n) d = rw (range-none (omega arith)) (zero-le, zero-le)
+
+module _ (k : ℕ) (answer : List ℕ) (v : ℕ) where
+  part-none : rowCount ≤ v → rowPart k answer v ≡ []
+  unfolding rowPart
+  part-none l = rw (range-none k (length answer) v l)
+
+  part-some : v < rowCount → rowCount * bytesAt k ≤ length answer → rowPart k answer v ≡ take (bytesAt k) (drop (v * bytesAt k) answer)
+  unfolding rowPart
+  part-some l room = rw (range-some k (length answer) v l room)
+
+-- ---- rows of zeros
+
+-- a row of zeros is that of the empty tree
+zero-row : (k : ℕ) (row : List ℕ) → ((j : ℕ) → getD row j 0 ≡ 0) → rowTree k row ≡ leaf false
+unfolding rowLeaf
+zero-row k row z = treeOf-ext k _ _ (λ i _. ap (λ b. bit b (i % 8)) (z (i / 8)) ∙ bit-zero (i % 8)) ∙ treeOf-leaf k false
+
+zeros-at : (n j : ℕ) → _≡_ {A = ℕ} (getD (zeros n) j 0) 0
+unfolding zeros
+zeros-at n j = go (decLt j n)
+  where
+    go : Dec (j < n) → _≡_ {A = ℕ} (getD (replicate n 0) j 0) 0
+    go (yes l) = getD-replicate n j 0 0 l
+    go (no l) = List·getD-eq-default (replicate n 0) 0 (omega (arith, length-replicate {A = ℕ} n 0))
+
+-- ---- the rows of variables, of which the first n have the trees f
+
+module _ (k n : ℕ) (f : ℕ → Tree) where
+  pub variable-length : (v : ℕ) → length (variableRow k n f v) ≡ bytesAt k
+  unfolding variableRow zeros
+  variable-length v = go (ltb v n)
+    where
+      go : (t : Bool) → length (cond t (rowOf k (f v)) (replicate (bytesAt k) 0)) ≡ bytesAt k
+      go true = row-length k (f v)
+      go false = length-replicate (bytesAt k) 0
+
+  variable-zero : (v : ℕ) → n ≤ v → variableRow k n f v ≡ zeros (bytesAt k)
+  unfolding variableRow
+  variable-zero v l = rw (le-ltb v n l)
+
+  -- their trees
+  variable-tree : 3 ≤ k → (v : ℕ) → Folded (f v) → height (f v) ≤ k → (n ≤ v → f v ≡ leaf false) → rowTree k (variableRow k n f v) ≡ f v
+  unfolding variableRow
+  variable-tree h v folded low past = go (decLt v n)
+    where
+      go : Dec (v < n) → rowTree k (variableRow k n f v) ≡ f v
+      go (yes l) = rw (lt-ltb v n l) (rowTree-rowOf k h (f v) folded low)
+      go (no m) =
+          let l : n ≤ v = omega arith in
+          rw (le-ltb v n l) (zero-row k (zeros (bytesAt k)) (zeros-at (bytesAt k)) ∙ sym (past l))
+
+  module _ (answer : List ℕ) (room : rowCount * bytesAt k ≤ length answer) where
+    -- a buffer that is filled with them is as long as before, and its parts are they
+    filled-length : length (filledWith k n f answer) ≡ length answer
+    unfolding filledWith
+    filled-length = rows-whole (variableRow k n f) (bytesAt k) variable-length answer rowCount room
+
+    filled-part : (v : ℕ) → v < rowCount → rowPart k (filledWith k n f answer) v ≡ variableRow k n f v
+    unfolding filledWith
+    filled-part v l =
+        let long : rowCount * bytesAt k ≤ length (filledWith k n f answer) = omega (arith, filled-length) in
+        part-some k (filledWith k n f answer) v l long
+        ∙ rows-at (variableRow k n f) (bytesAt k) variable-length rowCount v (drop (rowCount * bytesAt k) answer) l
+
+    pub filled-zero : (v : ℕ) → n ≤ v → v < rowCount → rowPart k (filledWith k n f answer) v ≡ zeros (bytesAt k)
+    filled-zero v l m = filled-part v m ∙ variable-zero v l
+
+    -- the trees of its parts, of every variable
+    pub filled-tree : 3 ≤ k → n ≤ rowCount → (v : ℕ) → Folded (f v) → height (f v) ≤ k → (n ≤ v → f v ≡ leaf false)
+        → rowTree k (rowPart k (filledWith k n f answer) v) ≡ f v
+    filled-tree h few v folded low past = go (decLt v rowCount)
+      where
+        go : Dec (v < rowCount) → rowTree k (rowPart k (filledWith k n f answer) v) ≡ f v
+        go (yes l) = ap (rowTree k) (filled-part v l) ∙ variable-tree h v folded low past
+        go (no m) = ap (rowTree k) (part-none k (filledWith k n f answer) v (omega arith)) ∙ zero-row k [] (λ j. refl) ∙ sym (past (omega arith))
+
+-- only the trees of the first n count
+pub filled-ext : (k n : ℕ) (f g : ℕ → Tree) → ((v : ℕ) → v < n → f v ≡ g v) → (answer : List ℕ) → filledWith k n f answer ≡ filledWith k n g answer
+unfolding filledWith variableRow
+filled-ext k n f g same answer = ap (λ r. rowsOf r rowCount ++ drop (rowCount * bytesAt k) answer) (fun-ext (λ v. go v (decLt v n)))
+  where
+    go : (v : ℕ) → Dec (v < n) → variableRow k n f v ≡ variableRow k n g v
+    go v (yes l) = rw (lt-ltb v n l) (ap (rowOf k) (same v l))
+    go v (no m) = let l : n ≤ v = omega arith in rw (le-ltb v n l)
