@@ -11,11 +11,12 @@ use Rattle.shares.specs.Constant.{bit}
 use Rattle.shares.specs.Test.{is-true, is-false, of-true, of-false, and-left, and-right, and-intro}
 use Rattle.shares.specs.Below.{everyBelow, someBelow, firstBelow}
 use Rattle.shares.specs.BelowLaws.{every-at, every-intro, first-ext, first-below}
-use Rattle.shares.specs.Blocks.{leaf-lt}
+use Rattle.shares.specs.BlockLaws.{leaf-lt}
 use Rattle.shares.specs.Tree.{treeOf}
 use Rattle.shares.specs.TreeLaws.{treeOf-ext}
 use Rattle.leaves.specs.Heights.{c}
-use Rattle.leaves.specs.Choices.{Row, at, least, value}
+use Rattle.leaves.specs.Choices.{Row, at, least}
+use Rattle.leaves.specs.RowNumbers.{value}
 use Rattle.leaves.specs.Problem.{Problem, plainAt, specialAt, solvable, candidate}
 use Rattle.leaves.specs.ProblemLaws.{block-passes, rank-lt}
 use Rattle.leaves.specs.Second.{withUnmet, canBeUnmet, canBeMissed, firstMissed}
@@ -28,8 +29,9 @@ use Rattle.systems.specs.Decide.{canSolve, someUnmet, lowestMissed, decideKind,
 use Rattle.questions.specs.Stored.{Stored, Stands}
 use Rattle.questions.specs.KeepingLaws.{section-count}
 use Rattle.questions.specs.declared.Section.the-variants.{FirstDisequation, SecondDisequation}
-use Rattle.show.specs.declared.Plan.{Plan}
-use Rattle.show.specs.Plans as shown
+use Rattle.plans.specs.declared.Plan.{Plan}
+use Rattle.plans.specs.Shown as shown
+use Rattle.show.specs.Rows.{rowLevels}
 use Rattle.plans.specs.Numbers.{numbered}
 use Rattle.plans.specs.Plan.{noPlan}
 use Rattle.plans.specs.Tests.{roomOf, testsOf}
@@ -75,13 +77,13 @@ module _ {kind : ℕ} (x : Stored) (q : Question) (St : Stands kind x q) (h : �
 
   -- a plan of the fixed solution of a problem, with each leaf split k times
   pub record Fixed (P : Problem (Row Bool (q .free))) (k : ℕ) (plan : Plan) : Type 0 where
-    pub formed : shown.Showable plan
+    pub formed : shown.Showable rowLevels plan
     pub high : plan .high ≡ h + k
     pub trees : (v : ℕ) → v < q .free → shown.planTree plan (q .free - 1 - v) ≡ fixed h q P k v .tree
 
   module _ (P : Problem (Row Bool (q .free))) (R : Problem ℕ) (same : Same x q St h P R) (k : ℕ) (few : k ≤ 5) (room : R .count ≤ 2 ^ k) (plan : Plan)
       (M : Made (q .free) h R k plan) (can : T (solvable (least (q .free)) h (numbered (q .free) R))) where
-    fixed-formed : shown.Showable plan
+    fixed-formed : shown.Showable rowLevels plan
     fixed-formed = record {
       below = omega (arith, M .low, M .high);
       within = omega (arith, M .high);

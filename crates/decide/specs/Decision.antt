@@ -9,9 +9,10 @@ use Rattle.systems.specs.Answers.{Answer, satisfied, unsatisfied, vacuous, enta
 use Rattle.systems.specs.Decide.{decide, shownAt}
 use Rattle.questions.specs.Stored.{storedOf, Stands}
 use Rattle.questions.specs.declared.Question.{Question}
-use Rattle.show.specs.declared.Plan.{Plan}
-use Rattle.show.specs.Plans as shown
+use Rattle.plans.specs.declared.Plan.{Plan}
+use Rattle.plans.specs.Shown as shown
 use Rattle.plans.specs.Plan.{noPlan}
+use Rattle.show.specs.Rows.{rowLevels}
 use Rattle.decide.specs.declared.Finding.{Finding}
 use Rattle.decide.specs.declared.Finding.the-variants.{Satisfied, Unsatisfied, Vacuous, Entailed, Unmet, Missed}
 use Rattle.decide.specs.declared.Decision.{Decision}
@@ -31,7 +32,7 @@ answerOf (Missed j) = missed j
 
 -- a plan of the solution that is shown: its trees are the solution's, and its height is the one given
 pub record Planned (q : Asked) (plan : Plan) : Type 0 where
-  pub formed : shown.Showable plan
+  pub formed : shown.Showable rowLevels plan
   pub high : plan .high ≡ heightGiven (questionHeight q) q (decide q)
   pub trees : (v : ℕ) → v < q .free → shown.planTree plan (q .free - 1 - v) ≡ shownAt (questionHeight q) q v .tree
 

@@ -8,15 +8,16 @@ use lib.Dec.{ltb}
 use lib.ListN.{getD}
 use borrow.Author.Tests.{ltb-true, ltb-false, le-ltb}
 use Rattle.shares.specs.Constant.{bit}
-use Rattle.leaves.specs.Choices.{Row, at, least, value, someChoice}
-use Rattle.leaves.specs.ChoiceLaws.{value-lt}
+use Rattle.leaves.specs.Choices.{Row, at, least, someChoice}
+use Rattle.leaves.specs.RowNumbers.{value}
+use Rattle.leaves.specs.ChoiceLaws.{value-lt, some-number}
 use Rattle.leaves.specs.Problem.{Problem, solvable, candidate}
 use Rattle.leaves.specs.Second as leaf
 use Rattle.systems.specs.Clauses.{Atom}
 use Rattle.systems.specs.Questions.{Question}
 use Rattle.systems.specs.AtLeaves.{atomAt, allAt, bothAt, firstAt, secondAt}
 use Rattle.words.specs.Clause.{termValue}
-use Rattle.words.specs.Sets.{allPass, clauseFails, allPassBut, someOwn}
+use Rattle.words.specs.Choices.{allPass, clauseFails, allPassBut, someOwn}
 use Rattle.words.specs.TermLaws.{position-free, value-variable, value-free, value-own}
 use Rattle.questions.specs.Format.{inSection, variablesFor}
 use Rattle.questions.specs.Stored.{sectionStart, Stored, countOf, StoredClause, Stands}
@@ -25,7 +26,7 @@ use Rattle.questions.specs.Callers.{atoms-at}
 use Rattle.questions.specs.declared.Section.{Section}
 use Rattle.questions.specs.declared.Section.the-variants.{FirstPositive, FirstDisequation, SecondPositive, SecondDisequation}
 use Rattle.plans.specs.Numbers.{numbered}
-use Rattle.plans.specs.NumberLaws.{some-number, solvable-same, candidate-same}
+use Rattle.leaves.specs.SameLaws.{solvable-same, candidate-same}
 use Rattle.plans.specs.Tests.{leafValues, firstMeets, firstDiffers, secondMeets, secondDiffers, specialIn, testsOf}
 use Rattle.decide.specs.StoredLaws.{row-digit, atom-same, section-same}
 use Rattle.plans.specs.declared.Search.the-variants.{First, Unmet, Missed}

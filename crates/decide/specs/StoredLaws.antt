@@ -15,11 +15,13 @@ use Rattle.shares.specs.Blocks.{firstOf}
 use Rattle.shares.specs.Tree.{joins}
 use Rattle.shares.specs.Constant.{constantLevels, bit}
 use Rattle.shares.specs.BitLaws.{bit-number}
-use Rattle.leaves.specs.Choices.{Row, nil, cons, at, value}
+use Rattle.leaves.specs.Choices.{Row, nil, cons, at}
+use Rattle.leaves.specs.RowNumbers.{value}
 use Rattle.leaves.specs.ChoiceLaws.{value-lt}
 use Rattle.systems.specs.Clauses.{variable, constant, Atom, Constants}
 use Rattle.systems.specs.AtLeaves.{termAt, atomAt, allAt}
 use Rattle.words.specs.Clause.{testValue, clauseTest, allClauses, termValue}
+use Rattle.words.specs.Choices.{valuesAt}
 use Rattle.shares.specs.BitParts.{bit-low, bit-high}
 use Rattle.shares.specs.BelowLaws.{every-more}
 use Rattle.words.specs.TermLaws.{value-constant}
@@ -59,7 +61,7 @@ storedConstants S = record { levels = constantLevels; numbers = take (S .defined
 module _ (S : Stored) (h b : ℕ) (few : S .defined ≤ 32) where
   -- the values of the constants
   leaf-bit : (i : ℕ) → i < S .defined → bit (leafValues S h b) i ≡ bit (getD (S .constants) i 0) (firstOf h constantLevels b)
-  unfolding leafValues
+  unfolding valuesAt
   leaf-bit i l = bit-number 64 _ i (omega arith) ∙ rw (lt-ltb i (S .defined) l)
 
   -- variables have the values X in the model, and choice z has them as digits

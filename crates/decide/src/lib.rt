@@ -1,7 +1,7 @@
 // Deciding a question that was read: which searches have a solution, and the plan of the one to show.
+use plans::Plan;
 use plans::Search;
 use questions::Question;
-use show::Plan;
 ghost use mathlib.Core.Path.{_≡_};
 ghost use Prim.Native.Nat.{ℕ, _^_, _<_, _≤_, max};
 ghost use lib.ListN.{length, getD, take};

@@ -1,5 +1,4 @@
 pub mod Numbers
-pub mod NumberLaws
 pub mod Plan
 pub mod PlanLaws
 pub mod Tests
@@ -8,5 +7,6 @@ pub mod EntryLaws
 pub mod AssignedLaws
 pub mod LeafLaws
 pub mod FillLaws
+pub mod Shown
 pub mod ShownLaws
 pub mod SolveLaws

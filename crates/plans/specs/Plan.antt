@@ -1,4 +1,5 @@
--- The entries of a plan while it is made, leaf by leaf: where each disequation stands, and with which choice. Assumes nothing.
+-- The entries of a plan while it is made, leaf by leaf: where each disequation stands, and with which choice; and the plan where there is
+-- no solution. Assumes nothing.
 use mathlib.Core.Bool.{Bool, not, cond, _&&_}
 use mathlib.Core.List.{List}
 use Prim.Native.Nat.{ℕ, _+_, _*_, _^_}
@@ -7,7 +8,7 @@ use lib.ListN.{getD, replicate}
 use Rattle.shares.specs.Below.{firstBelow}
 use Rattle.leaves.specs.Choices.{least}
 use Rattle.leaves.specs.Problem.{Problem, blockFor, rank}
-use Rattle.show.specs.declared.Plan.{Plan}
+use Rattle.plans.specs.declared.Plan.{Plan}
 use Rattle.plans.specs.Numbers.{numbered}
 
 -- the plan that is given where no solution is found: no leaf, no entry

@@ -11,14 +11,16 @@ use borrow.Author.Tests.{lt-ltb, le-ltb, eq-eqb, ne-eqb}
 use Rattle.shares.specs.Test.{and-left, and-right}
 use Rattle.shares.specs.Below.{someBelow}
 use Rattle.shares.specs.BelowLaws.{first-below}
-use Rattle.shares.specs.Blocks.{blockOf, block-split}
-use Rattle.leaves.specs.Choices.{least, value}
+use Rattle.shares.specs.Blocks.{blockOf}
+use Rattle.shares.specs.BlockLaws.{block-split}
+use Rattle.leaves.specs.Choices.{least}
+use Rattle.leaves.specs.RowNumbers.{value}
 use Rattle.leaves.specs.Problem.{Problem, solvable, disequationAt, choiceAt, candidate}
 use Rattle.leaves.specs.ProblemLaws.{at-block, rank-lt, plain-passes, block-passes}
-use Rattle.show.specs.declared.Plan.{Plan}
-use Rattle.show.specs.Plans as shown
+use Rattle.plans.specs.declared.Plan.{Plan}
+use Rattle.plans.specs.Shown.{planChoiceAfter, planChoice}
 use Rattle.plans.specs.Numbers.{numbered}
-use Rattle.plans.specs.NumberLaws.{pick-number}
+use Rattle.leaves.specs.ChoiceLaws.{pick-number}
 use Rattle.plans.specs.Plan.{leafFor, rankOf, plainChoice, specialChoice}
 use Rattle.plans.specs.PlanLaws.{plain-is, special-is}
 use Rattle.plans.specs.Entries.{Made}
@@ -52,16 +54,16 @@ module _ (n h : ℕ) (R : Problem ℕ) (k : ℕ) (plan : Plan) (M : Made n h R k
       (sym (ap₂ (disequationAt (least n) h (numbered n R)) e₁ e₂ ∙ at-block (least n) h (numbered n R) j l), sym e₁)
 
   -- the plan once its first m entries stand
-  after : (m : ℕ) → m ≤ R .count → shown.planChoiceAfter plan m s ≡ cond (ltb g m) (specialChoice n h R g b) (plainChoice n h R b)
-  unfolding shown.planChoiceAfter b r
+  after : (m : ℕ) → m ≤ R .count → planChoiceAfter plan m s ≡ cond (ltb g m) (specialChoice n h R g b) (plainChoice n h R b)
+  unfolding planChoiceAfter b r
   after zero l =
       rw (le-ltb g 0 (omega arith))
       (ap₂ (λ x y. getD (plan .plain) (blockOf x y s) 0) (M .low) (M .high) ∙ ap (λ x. getD (plan .plain) x 0) (block-split h k s)
       ∙ M .plains (s / 2 ^ k) (shr-lt h k s<))
   after (suc m) l = go (ℕ-discrete s (getD (plan .subleaf) m 0)) (after m (omega arith))
     where
-      go : Dec (s ≡ getD (plan .subleaf) m 0) → shown.planChoiceAfter plan m s ≡ cond (ltb g m) (specialChoice n h R g b) (plainChoice n h R b)
-          → cond (eqb s (getD (plan .subleaf) m 0)) (getD (plan .choice) m 0) (shown.planChoiceAfter plan m s)
+      go : Dec (s ≡ getD (plan .subleaf) m 0) → planChoiceAfter plan m s ≡ cond (ltb g m) (specialChoice n h R g b) (plainChoice n h R b)
+          → cond (eqb s (getD (plan .subleaf) m 0)) (getD (plan .choice) m 0) (planChoiceAfter plan m s)
           ≡ cond (ltb g (suc m)) (specialChoice n h R g b) (plainChoice n h R b)
       go (yes e) ih =
           let (same, at) = there-at m l (e ∙ M .sub-leaves m l) in
@@ -74,14 +76,14 @@ module _ (n h : ℕ) (R : Problem ℕ) (k : ℕ) (plan : Plan) (M : Made n h R k
               let (at, rank) = at-there (omega arith) in
               e (sym (split s k) ∙ ap₂ (λ x y. x * 2 ^ k + y) (sym at) (sym rank) ∙ ap (λ j. leafFor n h R j * 2 ^ k + rankOf n h R j) q ∙ sym (M .sub-leaves m l))
 
-          other : Dec (g < m) → cond (eqb s (getD (plan .subleaf) m 0)) (getD (plan .choice) m 0) (shown.planChoiceAfter plan m s)
+          other : Dec (g < m) → cond (eqb s (getD (plan .subleaf) m 0)) (getD (plan .choice) m 0) (planChoiceAfter plan m s)
               ≡ cond (ltb g (suc m)) (specialChoice n h R g b) (plainChoice n h R b)
           other (yes u) = rw (ne-eqb s (getD (plan .subleaf) m 0) e, lt-ltb g (suc m) (omega arith)) (ih ∙ rw (lt-ltb g m u))
           other (no u) = rw (ne-eqb s (getD (plan .subleaf) m 0) e, le-ltb g (suc m) (omega (arith, not-m))) (ih ∙ rw (le-ltb g m (omega arith)))
 
-  pub plan-shows : T (solvable (least n) h (numbered n R)) → shown.planChoice plan s ≡ value (candidate (least n) h (numbered n R) k s)
+  pub plan-shows : T (solvable (least n) h (numbered n R)) → planChoice plan s ≡ value (candidate (least n) h (numbered n R) k s)
   unfolding candidate choiceAt b r g
-  plan-shows t = ap (λ m. shown.planChoiceAfter plan m s) (M .count) ∙ after (R .count) (omega arith) ∙ go (decLt g (R .count))
+  plan-shows t = ap (λ m. planChoiceAfter plan m s) (M .count) ∙ after (R .count) (omega arith) ∙ go (decLt g (R .count))
     where
       bl : b < 2 ^ h
       bl = shr-lt h k s<

@@ -12,22 +12,22 @@ use lib.ListN.{getD}
 use Rattle.shares.specs.Test.{is-true, is-false, holds}
 use Rattle.shares.specs.Below.{everyBelow}
 use Rattle.shares.specs.BelowLaws.{Below, every-at, every-intro, every-or}
-use Rattle.shares.specs.Blocks.{leaf-lt}
+use Rattle.shares.specs.BlockLaws.{leaf-lt}
 use Rattle.leaves.specs.Heights.{c}
-use Rattle.leaves.specs.HeightLaws.{c-enough}
+use Rattle.leaves.specs.HeightLaws.{c-enough, c-most}
 use Rattle.leaves.specs.Choices.{least}
 use Rattle.leaves.specs.Problem.{Problem, blockFor, specialAt, solvable}
 use Rattle.leaves.specs.ProblemLaws.{rank-lt}
 use borrow.Author.Tests.{le-ltb}
-use Rattle.words.specs.Sets.{clauseFails}
-use Rattle.show.specs.declared.Plan.{Plan}
+use Rattle.words.specs.Choices.{clauseFails}
+use Rattle.plans.specs.declared.Plan.{Plan}
 use Rattle.plans.specs.Numbers.{numbered, withoutFirst}
 use Rattle.plans.specs.Plan.{noSubLeaf, hasSubLeaf, leafFor, rankOf, noPlan}
 use Rattle.plans.specs.PlanLaws.{sub-leaf-there, sub-leaf-none, choice-there, solvable-of, unsolvable-special}
 use Rattle.questions.specs.Stored.{Stored}
 use Rattle.plans.specs.Tests.{leafValues, firstMeets, specialIn, extraOf, roomOf, testsOf}
 use Rattle.plans.specs.Entries.{HasRoom, After, Plains, Filled, Made, SolvedAs}
-use Rattle.plans.specs.FillLaws.{c-most, assigned-not}
+use Rattle.plans.specs.FillLaws.{assigned-not}
 use Rattle.plans.specs.declared.Search.{Search}
 use Rattle.plans.specs.declared.Search.the-variants.{First, Unmet, Missed}
 

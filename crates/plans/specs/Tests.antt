@@ -6,12 +6,10 @@ use Prim.Native.Nat.{ℕ, _+_, _-_, _*_, _%_, _^_, _<_, _≤_}
 use lib.Dec.{ltb, eqb}
 use lib.ListN.{getD, set}
 use Rattle.shares.specs.Below.{one}
-use Rattle.shares.specs.Blocks.{firstOf}
-use Rattle.shares.specs.Constant.{constantLevels, bit, numberOf}
 use Rattle.leaves.specs.Problem.{Problem}
 use Rattle.words.specs.Clause.{Clauses}
-use Rattle.words.specs.Sets.{allPass, clauseFails, allPassBut, someOwn}
 use Rattle.questions.specs.Stored.{Stored}
+use Rattle.words.specs.Choices.{valuesAt, allPass, clauseFails, allPassBut, someOwn}
 use Rattle.plans.specs.Plan.{noSubLeaf}
 use Rattle.plans.specs.declared.Search.{Search}
 use Rattle.plans.specs.declared.Search.the-variants.{First, Unmet, Missed}
@@ -26,8 +24,8 @@ pub record Readable (clauses counts : List ℕ) (n m : ℕ) : Type 0 where
   pub few : (getD counts 1 0 ≤ 31) × (getD counts 3 0 ≤ 31)
 
 -- the values of the constants at leaf b of 2 ^ h, constant i at bit i
-unfoldable pub leafValues : Stored → ℕ → ℕ → ℕ
-leafValues S h b = numberOf 64 (λ i. ltb i (S .defined) && bit (getD (S .constants) i 0) (firstOf h constantLevels b))
+abbrev pub leafValues : Stored → ℕ → ℕ → ℕ
+leafValues S h b = valuesAt (S .constants) (S .defined) h b
 
 -- choice x of the free variables meets the first system's positive clauses at a leaf with these values
 abbrev pub firstMeets : Stored → ℕ → ℕ → Bool

@@ -14,12 +14,14 @@ use lib.Pow.{pow-pos, pow-add, pow-mono}
 use Rattle.shares.specs.Tree.{Folded, height, leafAt, treeOf}
 use Rattle.shares.specs.TreeLaws.{treeOf-folded, treeOf-height, leafAt-treeOf, blocks}
 use Rattle.shares.specs.Constant.{bit}
-use Rattle.shares.specs.Blocks.{blockOf, block-lt, block-block}
+use Rattle.shares.specs.Blocks.{blockOf}
+use Rattle.shares.specs.BlockLaws.{block-lt, block-block}
+use Rattle.plans.specs.declared.Plan.{Plan}
+use Rattle.plans.specs.Shown.{Showable, planChoiceAfter, planChoice, planTree}
 use Rattle.show.specs.Rows.{rowLevels, rowBytes, rowCount, answerBytes, rowLeaf, rowTree, rowOf, rowPart}
 use Rattle.show.specs.RowLaws.{row-is, row-length, rowTree-rowOf, rows-whole, rows-at}
 use Rattle.show.specs.Blocks.{Inside, BlockSet}
-use Rattle.show.specs.Plans.{Showable, planChoiceAfter, planChoice, planTree, Shows, shownRow, shownAnswer}
-use Rattle.show.specs.declared.Plan.{Plan}
+use Rattle.show.specs.Plans.{Shows, shownRow, shownAnswer}
 
 bit-cond : (t : Bool) (a b p : ℕ) → bit (cond t a b) p ≡ cond t (bit a p) (bit b p)
 bit-cond true a b p = refl
@@ -33,7 +35,7 @@ leaf-inside {k} {s} low l =
     let last : s * c + (c - 1) < 2 ^ k * c = digits-lt l (omega (arith, pow-pos (rowLevels - k))) in
     record { low = omega arith; few = lit≤ tt; fits = omega (arith, pow-pos (rowLevels - k)) }
 
-module _ (plan : Plan) (ok : Showable plan) where
+module _ (plan : Plan) (ok : Showable rowLevels plan) where
   pub sub-leaf-small : (n : ℕ) → n < plan .count → getD (plan .subleaf) n 0 < 1024
   sub-leaf-small n l = omega (arith, ok .sub-leaves n l, pow-mono (ok .within))
 
@@ -83,7 +85,7 @@ unfolding planTree
 planTree-height plan p = treeOf-height (plan .high) (λ s. bit (planChoice plan s) p)
 
 -- the row of a free variable is that of its tree
-pub shown-tree : (n : ℕ) (plan : Plan) → Showable plan → (v : ℕ) → v < n → rowTree rowLevels (shownRow n plan v) ≡ planTree plan (n - 1 - v)
+pub shown-tree : (n : ℕ) (plan : Plan) → Showable rowLevels plan → (v : ℕ) → v < n → rowTree rowLevels (shownRow n plan v) ≡ planTree plan (n - 1 - v)
 unfolding shownRow
 shown-tree n plan ok v l =
     rw (lt-ltb v n l)

@@ -1,4 +1,5 @@
 // Showing: the rows of a shown solution, the row of one variable, and the text of a row.
+use plans::Plan;
 ghost use mathlib.Core.Path.{_≡_};
 ghost use mathlib.Core.Logic.{_↔_};
 ghost use mathlib.Core.Bool.{cond};
@@ -7,9 +8,10 @@ ghost use lib.Dec.{T, eqb, leb};
 ghost use lib.ListN.{length, getD, replicate};
 ghost use Rattle.shares.specs.Constant.{bit};
 ghost use Rattle.shares.specs.Text.{text};
+ghost use Rattle.plans.specs.Shown.{Showable, planTree};
 ghost use Rattle.show.specs.Rows.{rowLevels, rowBytes, rowCount, answerBytes, rowLeaf, rowOf, rowPart, rowRange};
 ghost use Rattle.show.specs.Blocks.{Inside, blockTree, AllLeaves, BlockSet, wholeByte};
-ghost use Rattle.show.specs.Plans.{Showable, planTree, Shows, shownRow, shownAnswer};
+ghost use Rattle.show.specs.Plans.{Shows, shownRow, shownAnswer};
 ghost use Rattle.show.specs.Texts.{rowText, textAnswer, textAfter, Put};
 
 // A row is a tree unfolded to this height, in this many bytes.
@@ -131,22 +133,6 @@ fn is_constant(row: &[u8], height: usize, q: usize, full: bool) -> bool
 
 // ---- the rows of a shown solution
 
-// Which choice of values stands at each sub-leaf of a shown solution. The value of a variable is one binary digit of a choice.
-pub struct Plan {
-    // the height of the leaves
-    pub low: usize,
-    // the height given
-    pub high: usize,
-    // the choice at each leaf, of 2^low, wherever no other stands
-    pub plain: [u16; 64],
-    // how many sub-leaves hold another choice
-    pub count: usize,
-    // which sub-leaf, of 2^high
-    pub subleaf: [u16; 32],
-    // the choice that stands there
-    pub choice: [u16; 32],
-}
-
 // Digit p of a choice.
 fn digit_of(choice: u16, p: usize) -> bool
     requires { ⌜ p < 16 ⌝ }
@@ -171,7 +157,7 @@ fn write_leaves(row: &mut [u8], plain: &[u16; 64], low: usize, p: usize)
 
 // Sets the sub-leaves that hold another choice, in order.
 fn write_sub_leaves(row: &mut [u8], plan: Plan, p: usize)
-    requires { ⌜ Showable plan ⌝ }
+    requires { ⌜ Showable rowLevels plan ⌝ }
     requires { ⌜ (length (now row) ≡ rowBytes) × (p < 16) × Shows plan 0 p (now row) ⌝ }
     ensures { λ _. ⌜ Shows plan (plan .count) p (now (row .exit)) ⌝ }
 {
@@ -186,7 +172,7 @@ fn write_sub_leaves(row: &mut [u8], plan: Plan, p: usize)
 
 // Writes the row of the variable whose value is digit p.
 pub fn write_row(row: &mut [u8], plan: Plan, p: usize)
-    requires { ⌜ Showable plan ⌝ }
+    requires { ⌜ Showable rowLevels plan ⌝ }
     requires { ⌜ (length (now row) ≡ rowBytes) × (p < 16) ⌝ }
     ensures { λ _. ⌜ now (row .exit) ≡ rowOf rowLevels (planTree plan p) ⌝ }
 {
@@ -197,7 +183,7 @@ pub fn write_row(row: &mut [u8], plan: Plan, p: usize)
 
 // Writes the row of variable v, of n free ones: zero where it is none of them.
 fn show_row(row: &mut [u8], n: usize, plan: Plan, v: usize)
-    requires { ⌜ Showable plan ⌝ }
+    requires { ⌜ Showable rowLevels plan ⌝ }
     requires { ⌜ (length (now row) ≡ rowBytes) × (n ≤ rowCount) ⌝ }
     ensures { λ _. ⌜ now (row .exit) ≡ shownRow n plan v ⌝ }
 {
@@ -210,7 +196,7 @@ fn show_row(row: &mut [u8], n: usize, plan: Plan, v: usize)
 
 // Shows a plan of n free variables in the answer buffer.
 pub fn write_rows(answer: &mut [u8], n: usize, plan: Plan)
-    requires { ⌜ Showable plan ⌝ }
+    requires { ⌜ Showable rowLevels plan ⌝ }
     requires { ⌜ (answerBytes ≤ length (now answer)) × (n ≤ rowCount) ⌝ }
     ensures { λ _. ⌜ now (answer .exit) ≡ shownAnswer n plan (now (answer .entry)) ⌝ }
 {

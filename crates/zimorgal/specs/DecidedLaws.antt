@@ -15,6 +15,7 @@ use Rattle.systems.specs.Decide.{decide}
 use Rattle.questions.specs.Stored.{storedOf, Stands}
 use Rattle.questions.specs.declared.Reading.{Reading}
 use Rattle.questions.specs.Callers.{Taken}
+use Rattle.plans.specs.Shown.{Showable}
 use Rattle.show.specs.Rows.{rowLevels, rowCount, answerBytes, rowOf, rowsOf}
 use Rattle.show.specs.Plans as shown
 use Rattle.decide.specs.declared.Decision.{Decision}
@@ -40,7 +41,7 @@ module _ (q : Question) (d : Decision) (D : Decided q d) where
   same-shows = ap shows (D .answer)
 
   -- the plan can be shown
-  pub plan-formed : shows (answerOf (d .finding)) ≡ true → shown.Showable (d .plan)
+  pub plan-formed : shows (answerOf (d .finding)) ≡ true → Showable rowLevels (d .plan)
   plan-formed e = D .plan (of-true (sym same-shows ∙ e)) .formed
 
   -- its height is the one given

@@ -13,8 +13,9 @@ ghost use Rattle.shares.specs.Constant.{constant};
 ghost use Rattle.shares.specs.Answer.{joinOf};
 ghost use Rattle.systems.specs.Questions as model;
 ghost use Rattle.systems.specs.Answers.{shows};
-ghost use Rattle.show.specs.Rows.{rowCount, answerBytes, rowPart, rowRange};
-ghost use Rattle.show.specs.Plans.{Showable, shownAnswer};
+ghost use Rattle.plans.specs.Shown.{Showable};
+ghost use Rattle.show.specs.Rows.{rowLevels, rowCount, answerBytes, rowPart, rowRange};
+ghost use Rattle.show.specs.Plans.{shownAnswer};
 ghost use Rattle.show.specs.Texts.{textAnswer, textAfter};
 ghost use Rattle.decide.specs.Decision.{answerOf};
 ghost use Rattle.zimorgal.specs.Asking.{workBytes, answered, askedWith, refusalOutcome, answerOutcome, outcomeOf, zeros, answerAfter, workAfter};
@@ -124,7 +125,7 @@ fn found(decision: Decision) -> Outcome
 // Shows the solution of a decision of n free variables, where it has one to show.
 fn show_solution(answer: &mut [u8], n: usize, decision: Decision)
     requires { ⌜ (answerBytes ≤ length (now answer)) × (n ≤ rowCount) ⌝ }
-    requires { ⌜ (shows (answerOf (decision .finding)) ≡ true → Showable (decision .plan)) ⌝ }
+    requires { ⌜ (shows (answerOf (decision .finding)) ≡ true → Showable rowLevels (decision .plan)) ⌝ }
     ensures { λ _. ⌜ now (answer .exit) ≡ cond (shows (answerOf (decision .finding))) (shownAnswer n (decision .plan) (now (answer .entry))) (now (answer .entry)) ⌝ }
 {
     let finding = decision.finding;

@@ -3,7 +3,7 @@ use native.Mathlib.Omega.{arith}
 use borrow.Author.Needs.{needs}
 use Rattle.plans.specs.LeafLaws.{missed-is}
 use Rattle.questions.specs.Stored.{stored}
-use Rattle.words.specs.GatherLaws.{words-le}
+use Rattle.sets.specs.GatherLaws.{words-le}
 use Rattle.words.specs.ClauseLaws.{clauses-at}
 use Rattle.plans.proofs.keep_missed.Statement.{statement}
 use Rattle.plans.proofs.keep_missed.Tie as tie

@@ -5,7 +5,7 @@ use Prim.Native.Nat.{ℕ, _-_, _/_, _^_, _≤_, _<_}
 use lib.ListN.{length, getD}
 use lib.Pow.{pow-mono}
 use Rattle.shares.specs.Constant.{bit}
-use Rattle.shares.specs.Blocks.{block-lt}
+use Rattle.shares.specs.BlockLaws.{block-lt}
 use Rattle.show.specs.Rows.{rowLevels, rowLeaf}
 use Rattle.show.specs.Blocks.{Inside}
 use Rattle.show.specs.BlockLaws.{blocks-more}
