@@ -1,4 +1,4 @@
--- Facts of sections, tests and stored bytes that the functions' proofs cite. Assumes nothing.
+-- Facts of commands, their faults and the head that the functions' proofs cite. Assumes nothing.
 use mathlib.Core.Path.{_≡_}
 use mathlib.Core.Bool.{Bool, cond}
 use mathlib.Core.List.{List}
@@ -6,13 +6,18 @@ use Prim.Native.Nat.{ℕ, suc, _+_, _*_, _≤_}
 use native.Mathlib.Numerals.{add-one, add-two, add-three}
 use native.Mathlib.Omega.{arith}
 use borrow.Author.Tests.{lt-ltb, le-ltb, eq-eqb}
+use lib.Dec.{leb}
 use lib.ListN.{length, getD, take, drop}
 use lib.Seq.{drop-cons}
 use Rattle.shares.specs.Constant.{number}
+use Rattle.questions.specs.declared.Section.{Section}
 use Rattle.questions.specs.declared.Test.{Test}
 use Rattle.questions.specs.declared.Test.the-variants.{Join, Equality}
+use Rattle.questions.specs.declared.Command.{Command}
 use Rattle.questions.specs.declared.Head.the-variants.{Opens, Wrong}
-use Rattle.questions.specs.Format.{termCount, headFits, headOf}
+use Rattle.questions.specs.Format.{termCount, mostOf, variablesFor, allNamed, clauseFault, headFits, headOf}
+use Rattle.questions.specs.Stored.{countOf}
+use Rattle.questions.specs.Keeping.{foreignTo, faultOf}
 
 pub two-terms : (t : Test) → 2 ≤ termCount t
 two-terms Join = omega arith
@@ -31,3 +36,10 @@ pub whole-head : (s : List ℕ) (n m : ℕ) (b : Bool) → 1 ≤ length s → ge
     → b ≡ headFits (getD s 1 0) n m → cond b (Opens (getD s 1 0) n m) (Wrong 5) ≡ headOf s
 unfolding headOf
 whole-head s n m b l e w p q r = rw (r, p, q) (simp (lt-ltb 0 (length s) l, eq-eqb (getD s 0 0) 1 e, le-ltb (length s) 4 w))
+
+-- the fault of a clause, from what each test finds
+pub clause-judged : (kind free own n : ℕ) (counts : List ℕ) (σ : Section) (t : Test) (a b c : ℕ) {foreign named : Bool} {most count variables : ℕ}
+    → foreign ≡ foreignTo kind σ → most ≡ mostOf σ → count ≡ countOf counts σ → variables ≡ variablesFor free own σ → named ≡ allNamed variables n t a b c
+    → clauseFault foreign (leb most count) named ≡ faultOf kind free own n counts (Command.Clause σ t a b c)
+unfolding faultOf
+clause-judged kind free own n counts σ t a b c f m k v d = rw (d, f, m, k, v)

@@ -1,9 +1,9 @@
 pub mod Format
 pub mod Stored
+pub mod Worked
 pub mod Keeping
 pub mod SectionLaws
 pub mod FormatLaws
 pub mod KeepingLaws
-pub mod Worked
 pub mod PrefixLaws
 pub mod Callers

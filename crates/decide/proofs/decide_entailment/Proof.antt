@@ -23,7 +23,10 @@ element-copy-out-if3 : tie.Need-element-copy-out-if3
 element-copy-out-if3 c = search needs
 
 solve-requires-2 : tie.Need-solve-requires-2
-solve-requires-2 c κs = search needs
+solve-requires-2 c κs =
+    let test = c .before .before .before in
+    let start = test .before .before .before .before .before .before .before .before .before .before .before .before .before .before in
+    (start .pre .0, (test .if3 .taken, start .pre .1, start .pre .2))
 
 returns-3 : tie.Need-returns-3
 returns-3 c =

@@ -1,6 +1,8 @@
 -- `questions::fault::fault_of` meets its contract, by cases on the command. Assumes nothing.
+use mathlib.Core.Path.{sym, ap, _∙_}
 use borrow.Author.Needs.{needs}
 use Rattle.questions.specs.Keeping.{faultOf}
+use Rattle.questions.proofs.CommandFacts.{clause-judged}
 use Rattle.questions.proofs.fault.fault_of.Statement.{statement}
 use Rattle.questions.proofs.fault.fault_of.Tie as tie
 
@@ -50,12 +52,15 @@ returns-2 c = simp (c .enum-told2 .given .1)
 
 returns-3 : tie.Need-returns-3
 unfolding faultOf
-returns-3 c = simp (c .before .before .enum-told3 .given .1, ← c .before .clause-total .ensures, c .constant-fault .ensures)
+returns-3 c = rw (c .before .before .enum-told3 .given .1, ← c .before .clause-total .ensures) (c .constant-fault .ensures)
 
 returns-4 : tie.Need-returns-4
-unfolding faultOf
 returns-4 c =
-    simp (c .before .before .before .before .before .before .before .command .given .1, c .clause-fault .ensures, c .before .most-of .ensures, c .before .before .is-foreign .ensures, c .before .before .before .all-named .ensures, c .before .before .before .before .variables-for .ensures, c .before .before .before .before .before .section-count .ensures)
+    let command = c .before .before .before .before .before .before .before in
+    let a = command .before .before .args in
+    c .clause-fault .ensures
+    ∙ clause-judged (a .kind) (a .free) (a .own) (a .constants) (a .counts .now) (command .command .given .0 .0) _ _ _ _ (c .before .before .is-foreign .ensures) (c .before .most-of .ensures) (c .before .before .before .before .before .section-count .ensures) (c .before .before .before .before .variables-for .ensures) (c .before .before .before .all-named .ensures)
+    ∙ ap (faultOf (a .kind) (a .free) (a .own) (a .constants) (a .counts .now)) (sym (command .command .given .1))
 
 pub fault-of-spec : {M : Type 1} → statement M
 fault-of-spec =

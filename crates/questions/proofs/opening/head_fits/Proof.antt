@@ -7,14 +7,14 @@ use Rattle.questions.proofs.opening.head_fits.Tie as tie
 
 returns : tie.Need-returns
 unfolding headFits
-returns c = simp (lt-ltb _ _ (c .if1 .taken))
+returns c = simp (lt-ltb 1 _ (c .if1 .taken))
 
 add-if2 : tie.Need-add-if2
 add-if2 c = search needs
 
 returns-2 : tie.Need-returns-2
 unfolding headFits
-returns-2 c = simp (le-ltb _ _ (c .before .if1 .left), lt-ltb _ _ (c .if2 .taken))
+returns-2 c = simp (le-ltb 1 _ (c .before .if1 .left), lt-ltb 12 _ (c .if2 .taken))
 
 returns-3 : tie.Need-returns-3
 unfolding headFits

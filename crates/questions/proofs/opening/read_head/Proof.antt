@@ -17,7 +17,7 @@ shared-slice-read-if2 c = search needs
 
 returns-2 : tie.Need-returns-2
 unfolding headOf
-returns-2 c = simp (lt-ltb 0 _ (c .before .before .if1 .left), ne-eqb _ _ (c .if2 .taken))
+returns-2 c = simp (lt-ltb 0 _ (c .before .before .if1 .left), ne-eqb _ 1 (c .if2 .taken))
 
 returns-3 : tie.Need-returns-3
 unfolding headOf
