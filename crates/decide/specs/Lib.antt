@@ -1,5 +1,6 @@
 pub mod Decision
 pub mod DecideLaws
 pub mod QuestionHeightLaws
+pub mod StoredLaws
 pub mod StandsLaws
 pub mod ReadableLaws

@@ -5,71 +5,68 @@ use Prim.Native.Nat.{ℕ, zero, suc, _+_, _-_, _*_, _^_, _≤_, _<_}
 use native.Mathlib.Nat.{le-of-suc-le-suc, mod-eq-of-lt}
 use native.Mathlib.Omega.{arith}
 use lib.Dec.{ltb}
-use lib.ListN.{length, getD}
+use lib.ListN.{getD}
 use borrow.Author.Tests.{ltb-true, ltb-false, le-ltb}
 use Rattle.shares.specs.Constant.{bit}
-use Rattle.leaves.specs.Choices.{Row, at, least, value, someChoice}
-use Rattle.leaves.specs.ChoiceLaws.{value-lt}
+use Rattle.leaves.specs.Choices.{Row, at, least, someChoice}
+use Rattle.leaves.specs.RowNumbers.{value}
+use Rattle.leaves.specs.ChoiceLaws.{value-lt, some-number}
 use Rattle.leaves.specs.Problem.{Problem, solvable, candidate}
 use Rattle.leaves.specs.Second as leaf
 use Rattle.systems.specs.Clauses.{Atom}
 use Rattle.systems.specs.Questions.{Question}
 use Rattle.systems.specs.AtLeaves.{atomAt, allAt, bothAt, firstAt, secondAt}
 use Rattle.words.specs.Clause.{termValue}
-use Rattle.words.specs.Sets.{allPass, clauseFails, allPassBut, someOwn}
+use Rattle.words.specs.Choices.{allPass, clauseFails, allPassBut, someOwn}
 use Rattle.words.specs.TermLaws.{position-free, value-variable, value-free, value-own}
 use Rattle.questions.specs.Format.{inSection, variablesFor}
-use Rattle.questions.specs.Held as held
-use Rattle.questions.specs.HeldLaws.{atoms-length}
+use Rattle.questions.specs.Stored.{sectionStart, Stored, countOf, StoredClause, Stands}
+use Rattle.questions.specs.KeepingLaws.{section-count}
 use Rattle.questions.specs.Callers.{atoms-at}
 use Rattle.questions.specs.declared.Section.{Section}
 use Rattle.questions.specs.declared.Section.the-variants.{FirstPositive, FirstDisequation, SecondPositive, SecondDisequation}
 use Rattle.plans.specs.Numbers.{numbered}
-use Rattle.plans.specs.NumberLaws.{some-number, solvable-same, candidate-same}
-use Rattle.plans.specs.Tests.{Stored, leafValues, firstMeets, firstDiffers, secondMeets, secondDiffers, specialIn, testsOf}
-use Rattle.plans.specs.StoredLaws.{row-digit, atom-same, section-same}
+use Rattle.leaves.specs.SameLaws.{solvable-same, candidate-same}
+use Rattle.plans.specs.Tests.{leafValues, firstMeets, firstDiffers, secondMeets, secondDiffers, specialIn, testsOf}
+use Rattle.decide.specs.StoredLaws.{row-digit, atom-same, section-same}
 use Rattle.plans.specs.declared.Search.the-variants.{First, Unmet, Missed}
 
--- what is held, with n free and m own variables
-abbrev pub storedOf : held.Held → ℕ → ℕ → Stored
-storedOf x n m = record { clauses = x .clauses; counts = x .counts; constants = x .constants; defined = x .defined; free = n; own = m }
+-- what is stored, with n free and m own variables
+abbrev pub withVariables : Stored → ℕ → ℕ → Stored
+withVariables x n m = record { clauses = x .clauses; counts = x .counts; constants = x .constants; defined = x .defined; free = n; own = m }
 
-module _ (x : held.Held) (q : Question) (St : held.Stands x q) (h : ℕ) where
+module _ {kind : ℕ} (x : Stored) (q : Question) (St : Stands kind x q) (h : ℕ) where
   abbrev S : Stored
-  S = storedOf x (q .free) (q .own)
+  S = withVariables x (q .free) (q .own)
 
   few : q .free + q .own ≤ 12
   few = omega (arith, St .free, St .own, St .variables)
 
   -- the stored clauses of a section, with the question's own numbers of variables
-  stored : (σ : Section) (i : ℕ) → i < held.countOf (x .counts) σ
-      → held.StoredClause (variablesFor (q .free) (q .own) σ) (x .defined) (getD (x .clauses) (held.sectionStart σ + 4 * i) 0)
-      (getD (x .clauses) (held.sectionStart σ + 4 * i + 1) 0) (getD (x .clauses) (held.sectionStart σ + 4 * i + 2) 0) (getD (x .clauses) (held.sectionStart σ + 4 * i + 3) 0)
-  stored σ i l = rw (← (St .free), ← (St .own)) (St .clauses σ i l)
+  clause-at : (σ : Section) (i : ℕ) → i < countOf (x .counts) σ
+      → StoredClause (variablesFor (q .free) (q .own) σ) (x .defined) (getD (x .clauses) (sectionStart σ + 4 * i) 0)
+      (getD (x .clauses) (sectionStart σ + 4 * i + 1) 0) (getD (x .clauses) (sectionStart σ + 4 * i + 2) 0) (getD (x .clauses) (sectionStart σ + 4 * i + 3) 0)
+  clause-at σ i l = rw (← (St .free), ← (St .own)) (St .clauses σ i l)
 
   -- a section of the question, where variables have values X and choice z has them as digits
   module _ (b m : ℕ) (few-m : q .free + m ≤ 12) (σ : Section) (X : ℕ → Bool) (z : ℕ)
       (values : (t : ℕ) → t < variablesFor (q .free) (q .own) σ → X t ≡ termValue (q .free) m (leafValues S h b) z t) where
     all-same : allAt h (q .constants) b X (inSection q σ)
-        ≡ allPass (x .clauses) (held.sectionStart σ) (held.countOf (x .counts) σ) (q .free) m (leafValues S h b) z
+        ≡ allPass (x .clauses) (sectionStart σ) (countOf (x .counts) σ) (q .free) m (leafValues S h b) z
     unfolding allPass
     all-same =
         ap₂ (λ k l. allAt h k b X l) (St .constants) (sym (St .sections σ))
-        ∙ section-same S h b (St .constantCounted) (q .free) m few-m (variablesFor (q .free) (q .own) σ) X z values (held.sectionStart σ) (held.countOf (x .counts) σ) (stored σ)
+        ∙ section-same S h b (St .constantCounted) (q .free) m few-m (variablesFor (q .free) (q .own) σ) X z values (sectionStart σ) (countOf (x .counts) σ) (clause-at σ)
 
-    one-same : (j : ℕ) (d : Atom) → j < held.countOf (x .counts) σ
+    one-same : (j : ℕ) (d : Atom) → j < countOf (x .counts) σ
         → not (atomAt h (q .constants) b X (getD (inSection q σ) j d))
-        ≡ clauseFails (x .clauses) (held.sectionStart σ + 4 * j) (q .free) m (leafValues S h b) z
+        ≡ clauseFails (x .clauses) (sectionStart σ + 4 * j) (q .free) m (leafValues S h b) z
     unfolding clauseFails
     one-same j d l =
         ap not
         (ap₂ (λ k a. atomAt h k b X a) (St .constants)
-        (ap (λ k. getD k j d) (sym (St .sections σ)) ∙ atoms-at (x .clauses) (held.sectionStart σ) (held.countOf (x .counts) σ) j d l)
-        ∙ atom-same S h b (St .constantCounted) (q .free) m few-m (variablesFor (q .free) (q .own) σ) X z values (held.sectionStart σ + 4 * j) (stored σ j l))
-
-  -- how many disequations the systems have
-  pub count-same : (σ : Section) → length (inSection q σ) ≡ held.countOf (x .counts) σ
-  count-same σ = ap length (sym (St .sections σ)) ∙ atoms-length (x .clauses) (held.sectionStart σ) (held.countOf (x .counts) σ)
+        (ap (λ k. getD k j d) (sym (St .sections σ)) ∙ atoms-at (x .clauses) (sectionStart σ) (countOf (x .counts) σ) j d l)
+        ∙ atom-same S h b (St .constantCounted) (q .free) m few-m (variablesFor (q .free) (q .own) σ) X z values (sectionStart σ + 4 * j) (clause-at σ j l))
 
   module _ (b : ℕ) (v : Row Bool (q .free)) where
     free-values : (t : ℕ) → t < q .free → at false v t ≡ termValue (q .free) 0 (leafValues S h b) (value v) t
@@ -80,7 +77,7 @@ module _ (x : held.Held) (q : Question) (St : held.Stands x q) (h : ℕ) where
     first-pos : firstAt h q .pos b v ≡ firstMeets S (leafValues S h b) (value v)
     first-pos = all-same b 0 (omega (arith, few)) FirstPositive (at false v) (value v) free-values
 
-    first-dis : (j : ℕ) → j < held.countOf (x .counts) FirstDisequation → firstAt h q .dis j b v ≡ firstDiffers S (leafValues S h b) j (value v)
+    first-dis : (j : ℕ) → j < countOf (x .counts) FirstDisequation → firstAt h q .dis j b v ≡ firstDiffers S (leafValues S h b) j (value v)
     first-dis j l = one-same b 0 (omega (arith, few)) FirstDisequation (at false v) (value v) free-values j _ l
 
     module _ (u : Row Bool (q .own)) where
@@ -101,10 +98,10 @@ module _ (x : held.Held) (q : Question) (St : held.Stands x q) (h : ℕ) where
               ∙ ap (termValue (q .free) (q .own) (leafValues S h b) (value u * 2 ^ (q .free) + value v)) (omega arith)
 
       second-pos : secondAt h q .pos b v u
-          ≡ allPass (x .clauses) 384 (held.countOf (x .counts) SecondPositive) (q .free) (q .own) (leafValues S h b) (value u * 2 ^ (q .free) + value v)
+          ≡ allPass (x .clauses) 384 (countOf (x .counts) SecondPositive) (q .free) (q .own) (leafValues S h b) (value u * 2 ^ (q .free) + value v)
       second-pos = all-same b (q .own) few SecondPositive _ _ both-values
 
-      second-dis : (j : ℕ) → j < held.countOf (x .counts) SecondDisequation → secondAt h q .dis j b v u
+      second-dis : (j : ℕ) → j < countOf (x .counts) SecondDisequation → secondAt h q .dis j b v u
           ≡ clauseFails (x .clauses) (640 + 4 * j) (q .free) (q .own) (leafValues S h b) (value u * 2 ^ (q .free) + value v)
       second-dis j l = one-same b (q .own) few SecondDisequation _ _ both-values j _ l
 
@@ -115,9 +112,9 @@ module _ (x : held.Held) (q : Question) (St : held.Stands x q) (h : ℕ) where
         ∙ ap (λ y. secondAll y) (sym (mod-eq-of-lt (value-lt (q .free) v)))
       where
         secondAll : ℕ → Bool
-        secondAll y = someOwn (q .free) (q .own) (allPass (x .clauses) 384 (held.countOf (x .counts) SecondPositive) (q .free) (q .own) (leafValues S h b)) y
+        secondAll y = someOwn (q .free) (q .own) (allPass (x .clauses) 384 (countOf (x .counts) SecondPositive) (q .free) (q .own) (leafValues S h b)) y
 
-    second-with : (j : ℕ) → j < held.countOf (x .counts) SecondDisequation
+    second-with : (j : ℕ) → j < countOf (x .counts) SecondDisequation
         → leaf.meetsWith (least (q .own)) (secondAt h q) j b v ≡ secondDiffers S (leafValues S h b) j (value v)
     unfolding leaf.meetsWith someOwn allPassBut
     second-with j l =
@@ -126,7 +123,7 @@ module _ (x : held.Held) (q : Question) (St : held.Stands x q) (h : ℕ) where
       where
         secondBut : ℕ → Bool
         secondBut y =
-            someOwn (q .free) (q .own) (allPassBut (x .clauses) 384 (held.countOf (x .counts) SecondPositive) (640 + 4 * j) (q .free) (q .own) (leafValues S h b)) y
+            someOwn (q .free) (q .own) (allPassBut (x .clauses) 384 (countOf (x .counts) SecondPositive) (640 + 4 * j) (q .free) (q .own) (leafValues S h b)) y
 
   -- ---- the problem of each search is the question's
 
@@ -150,24 +147,24 @@ module _ (x : held.Held) (q : Question) (St : held.Stands x q) (h : ℕ) where
       → firstAt h q .dis i b v ≡ specialIn (x .clauses) (q .free) (leafValues S h b) (secondMeets S (leafValues S h b)) extra e (value v)
   unfolding specialIn
   stored-after extra i e b v at l =
-      first-dis b v i (rw (count-same FirstDisequation) at l)
+      first-dis b v i (rw (section-count x q St FirstDisequation) at l)
       ∙ rw (le-ltb e extra (omega arith)) (ap (λ j. firstDiffers S (leafValues S h b) j (value v)) {y = e - extra} (omega arith))
 
   pub same-first : Same (firstAt h q) (testsOf S h First)
-  same-first = same-of _ _ (count-same FirstDisequation ∙ omega arith) first-pos (λ j l b v. stored-after 0 j j b v (omega arith) l)
+  same-first = same-of _ _ (section-count x q St FirstDisequation ∙ omega arith) first-pos (λ j l b v. stored-after 0 j j b v (omega arith) l)
 
   pub same-unmet : Same (leaf.withUnmet (least (q .own)) (secondAt h q) (firstAt h q)) (testsOf S h Unmet)
   unfolding specialIn
-  same-unmet = same-of _ _ (ap suc (count-same FirstDisequation) ∙ omega arith) first-pos go
+  same-unmet = same-of _ _ (ap suc (section-count x q St FirstDisequation) ∙ omega arith) first-pos go
     where
       go : (j : ℕ) → j < suc (firstAt h q .count) → (b : ℕ) (v : Row Bool (q .free))
           → leaf.withUnmet (least (q .own)) (secondAt h q) (firstAt h q) .dis j b v ≡ testsOf S h Unmet .dis j b (value v)
       go zero l b v = ap not (second-meets b v)
       go (suc j) l b v = stored-after 1 j (suc j) b v (omega arith) (le-of-suc-le-suc l)
 
-  pub same-missed : (j : ℕ) → j < held.countOf (x .counts) SecondDisequation
+  pub same-missed : (j : ℕ) → j < countOf (x .counts) SecondDisequation
       → Same (leaf.withMissed (least (q .own)) (secondAt h q) (firstAt h q) j) (testsOf S h (Missed j))
   same-missed j l =
-      same-of _ _ (count-same FirstDisequation ∙ omega arith)
+      same-of _ _ (section-count x q St FirstDisequation ∙ omega arith)
       (λ b v. ap₂ (λ y z. y && not z) (first-pos b v) (second-with b v j l))
       (λ i m b v. stored-after 0 i i b v (omega arith) m)

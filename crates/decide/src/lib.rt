@@ -1,14 +1,15 @@
 // Deciding a question that was read: which searches have a solution, and the plan of the one to show.
 use plans::Plan;
 use plans::Search;
+use questions::Question;
 ghost use mathlib.Core.Path.{_≡_};
 ghost use Prim.Native.Nat.{ℕ, _^_, _<_, _≤_, max};
 ghost use lib.ListN.{length, getD, take};
 ghost use Rattle.shares.specs.Constant.{constantLevels};
-ghost use Rattle.systems.specs.Questions.{Question as Asked, WellFormed, tallestConstant};
-ghost use Rattle.questions.specs.Held.{heldOf, Stands};
+ghost use Rattle.systems.specs.Questions.{Question as Asked, entailment, WellFormed, tallestConstant, questionHeight};
+ghost use Rattle.questions.specs.Stored.{storedOf, Stands};
 ghost use Rattle.plans.specs.Tests.{Readable};
-ghost use Rattle.decide.specs.Decision.{Standing, Decided, DecidedParts};
+ghost use Rattle.decide.specs.Decision.{Standing, Decided};
 
 // What deciding finds. Of a question of satisfiability: a solution; none. Of an entailment: the first system has no solution; every
 // solution extends; some solution cannot meet the second's positive clauses; some solution cannot have this disequation of the second
@@ -22,7 +23,7 @@ pub enum Finding {
     Missed(usize),
 }
 
-// What is found, and the plan of the solution to show, where there is one.
+// What is found, and the plan of the solution to show; a plan of nothing where none is shown.
 pub struct Decision {
     pub finding: Finding,
     pub plan: Plan,
@@ -63,26 +64,18 @@ fn question_height(constants: &[u64; 32], defined: usize) -> usize
     h
 }
 
-// Decides an entailment whose parts are lent, at its 2^h leaves.
-fn decide_entailment(
-    clauses: &[u8; 768],
-    counts: &[usize; 4],
-    constants: &[u64; 32],
-    defined: usize,
-    free: usize,
-    own: usize,
-    h: usize,
-) -> Decision
-    requires { ⌜ Readable (now clauses) (now counts) free own × (defined ≤ 32) × (h ≤ 5) ⌝ }
-    ensures { λ r. ⌜ DecidedParts (now (clauses .entry)) (now (counts .entry)) (now (constants .entry)) defined free own h r ⌝ }
+// Decides an entailment at its 2^h leaves.
+fn decide_entailment(question: Question, clauses: &[u8; 768], h: usize) -> Decision
+    requires { ⌜ Readable (now clauses) (question .counts) (question .free) (question .own) × (question .defined ≤ 32) × (h ≤ 5) ⌝ }
+    ensures { λ r. ⌜ ((q : Asked) → Stands (question .kind) (storedOf question (now (clauses .entry))) q → q .kind ≡ entailment → h ≡ questionHeight q → Decided q r) ⌝ }
 {
     let unmet = plans::solve(
         clauses,
-        counts,
-        constants,
-        defined,
-        free,
-        own,
+        &question.counts,
+        &question.constants,
+        question.defined,
+        question.free,
+        question.own,
         h,
         Search::Unmet,
     );
@@ -99,15 +92,23 @@ fn decide_entailment(
             plan,
         };
     }
-    let j = missed::lowest_missed(clauses, counts, constants, defined, free, own, h);
-    if j < counts[3] {
+    let j = missed::lowest_missed(
+        clauses,
+        &question.counts,
+        &question.constants,
+        question.defined,
+        question.free,
+        question.own,
+        h,
+    );
+    if j < question.counts[3] {
         let missed = plans::solve(
             clauses,
-            counts,
-            constants,
-            defined,
-            free,
-            own,
+            &question.counts,
+            &question.constants,
+            question.defined,
+            question.free,
+            question.own,
             h,
             Search::Missed(j),
         );
@@ -123,28 +124,20 @@ fn decide_entailment(
     }
 }
 
-// Decides a question whose parts are lent.
-pub fn decide(
-    kind: u8,
-    clauses: &[u8; 768],
-    counts: &[usize; 4],
-    constants: &[u64; 32],
-    defined: usize,
-    free: usize,
-    own: usize,
-) -> Decision
-    requires { ⌜ Standing (heldOf kind (now clauses) (now counts) (now constants) defined free own) ⌝ }
-    ensures { λ r. ⌜ ((q : Asked) → Stands (heldOf kind (now (clauses .entry)) (now (counts .entry)) (now (constants .entry)) defined free own) q → WellFormed q → Decided q r) ⌝ }
+// Decides a question that was read, whose clauses are lent.
+pub fn decide(question: Question, clauses: &[u8; 768]) -> Decision
+    requires { ⌜ Standing question (now clauses) ⌝ }
+    ensures { λ r. ⌜ ((q : Asked) → Stands (question .kind) (storedOf question (now (clauses .entry))) q → WellFormed q → Decided q r) ⌝ }
 {
-    let h = question_height(constants, defined);
-    if kind == 0 {
+    let h = question_height(&question.constants, question.defined);
+    if question.kind == 0 {
         let first = plans::solve(
             clauses,
-            counts,
-            constants,
-            defined,
-            free,
-            own,
+            &question.counts,
+            &question.constants,
+            question.defined,
+            question.free,
+            question.own,
             h,
             Search::First,
         );
@@ -160,5 +153,5 @@ pub fn decide(
             plan,
         };
     }
-    decide_entailment(clauses, counts, constants, defined, free, own, h)
+    decide_entailment(question, clauses, h)
 }

@@ -8,8 +8,9 @@ use lib.Arith.{lt→nleb}
 use lib.Dec.{T, T-not, leb, leb→le, le→leb, nleb→lt}
 use Rattle.shares.specs.Test.{same-test, and-intro, and-left, and-right}
 use Rattle.shares.specs.Below.{someBelow, firstBelow, one}
-use Rattle.shares.specs.BelowLaws.{some-intro, some-found, first-passes, first-min}
-use Rattle.leaves.specs.Choices.{Picker, someChoice, Row, nil, cons, at, table, leafPicker, pickRow, least, value, digits}
+use Rattle.shares.specs.BelowLaws.{some-intro, some-found, some-ext, first-passes, first-min, first-ext}
+use Rattle.leaves.specs.Choices.{Picker, someChoice, Row, nil, cons, at, leafPicker, pickRow, least}
+use Rattle.leaves.specs.RowNumbers.{table, value, digits}
 
 pub choice-intro : {X : Type 0} (C : Picker X) (p : X → Bool) (x : X) → T (p x) → T (someChoice C p)
 unfolding someChoice
@@ -61,7 +62,7 @@ value-lt (suc n) (cons b v) = rw pow-suc (go b (value-lt n v))
     go true l = omega arith
     go false l = omega arith
 
-pub least-row : (n : ℕ) (p : Row Bool n → Bool) (v : Row Bool n) → T (p v) → value (pickRow leafPicker n p) ≤ value v
+least-row : (n : ℕ) (p : Row Bool n → Bool) (v : Row Bool n) → T (p v) → value (pickRow leafPicker n p) ≤ value v
 unfolding value pickRow
 least-row zero p nil t = omega arith
 least-row (suc n) p (cons b v) t = go (p (cons false (rest false))) refl b t (λ x. least-row n (λ w. p (cons x w)) v)
@@ -102,7 +103,7 @@ first-digit n false w =
     (T-not (leb (2 ^ n) (0 * 2 ^ n + value w)) (lt→nleb (2 ^ n) (0 * 2 ^ n + value w) (omega (arith, value-lt n w))))
     (λ f. absurd f)
 
-pub digits-value : {n : ℕ} (w : Row Bool n) → digits n (value w) ≡ w
+digits-value : {n : ℕ} (w : Row Bool n) → digits n (value w) ≡ w
 unfolding value digits
 digits-value nil = refl
 digits-value (cons {n = n} b w) = go (leb (2 ^ n) (one b * 2 ^ n + value w)) (first-digit n b w) (digits-value w)
@@ -133,3 +134,16 @@ some-row n p =
     let r : Row Bool n = least n .pick p in
     some-intro (2 ^ n) (λ k. p (digits n k)) (value r) (value-lt n r) (rw (digits-value r) (choice-found (least n) p t)))
     (λ t. let (k, l, u) = some-found (2 ^ n) (λ k. p (digits n k)) t in choice-intro (least n) p (digits n k) u)
+
+-- by a test of their numbers
+module _ (n : ℕ) (p : ℕ → Bool) where
+  pub some-number : someChoice (least n) (λ v. p (value v)) ≡ someBelow (2 ^ n) p
+  some-number = some-row n (λ v. p (value v)) ∙ some-ext (2 ^ n) _ p (λ i l. ap p (value-digits n i l))
+
+  pub pick-number : T (someBelow (2 ^ n) p) → value (least n .pick (λ v. p (value v))) ≡ firstBelow (2 ^ n) p
+  pick-number t =
+      let same : firstBelow (2 ^ n) (λ k. p (value (digits n k))) ≡ firstBelow (2 ^ n) p = first-ext (2 ^ n) _ p (λ i l. ap p (value-digits n i l)) in
+      let (i, l, u) = some-found (2 ^ n) p t in
+      ap value (pick-first n (λ v. p (value v)) (some-intro (2 ^ n) _ i l (rw (value-digits n i l) u)))
+      ∙ ap (λ k. value (digits n k)) same
+      ∙ value-digits n (firstBelow (2 ^ n) p) (first-passes (2 ^ n) p i l u .0)

@@ -10,7 +10,15 @@ use lib.Dec.{leb, leb→le, nleb→lt}
 use lib.Pow.{pow-pos, pow-mono}
 use Rattle.shares.specs.Below.{firstBelow}
 use Rattle.shares.specs.BelowLaws.{first-le, first-below, first-least}
-use Rattle.leaves.specs.Heights.{c, anyHeight, exactly, Room}
+use Rattle.leaves.specs.Heights.{c, anyHeight, exactly}
+use Rattle.leaves.specs.Room.{Room}
+
+-- ---- c
+
+-- some values, computed
+splits : (c 0 ≡ 0) × (c 1 ≡ 0) × (c 2 ≡ 1) × (c 3 ≡ 2) × (c 4 ≡ 2) × (c 5 ≡ 3)
+unfolding c firstBelow
+splits = (refl, refl, refl, refl, refl, refl)
 
 pub le-pow : (n : ℕ) → n ≤ 2 ^ n
 le-pow zero = zero-le
@@ -58,9 +66,6 @@ room-at {h} {n} {k} l = record {
   enough = le-trans (c-enough n) (pow-mono (omega arith));
   allowed = omega arith;
 }
-
-pub room-exact : (h n : ℕ) → Room (exactly (h + c n)) h n
-room-exact h n = record { times = c n; enough = c-enough n; allowed = refl }
 
 -- room for n is room for fewer
 pub room-less : {A : ℕ → Type 0} {h n m : ℕ} → m ≤ n → Room A h n → Room A h m

@@ -1,10 +1,10 @@
 -- Heights that solutions are held to, and how often a leaf is split. Assumes nothing.
 use mathlib.Core.Path.{_≡_}
-use Prim.Native.Nat.{ℕ, _+_, _^_, _≤_}
+use Prim.Native.Nat.{ℕ, _^_, _≤_}
 use lib.Dec.{leb}
 use Rattle.shares.specs.Below.{firstBelow}
 
--- c n: the least k with n ≤ 2 ^ k, so that a leaf split k times has room for n sub-leaves
+-- c n: the least k with n ≤ 2 ^ k, so that a leaf split k times has n sub-leaves or more
 unfoldable pub c : ℕ → ℕ
 c n = firstBelow n (λ k. leb n (2 ^ k))
 
@@ -19,9 +19,3 @@ atMost k w = w ≤ k
 -- held to the height k alone
 abbrev pub exactly : ℕ → ℕ → Type 0
 exactly k w = w ≡ k
-
--- among the heights A is one at which leaves of height h have room for n sub-leaves each
-pub record Room (A : ℕ → Type 0) (h n : ℕ) : Type 0 where
-  pub times : ℕ
-  pub enough : n ≤ 2 ^ times
-  pub allowed : A (h + times)

@@ -1,9 +1,15 @@
 pub mod Heights
+pub mod Room
 pub mod HeightLaws
 pub mod Choices
+pub mod RowNumbers
 pub mod ChoiceLaws
 pub mod Problem
+pub mod LeafSolutions
 pub mod ProblemLaws
+pub mod SameLaws
 pub mod Second
+pub mod LeafExtensions
 pub mod SecondLaws
 pub mod AtHeight
+pub mod AtHeightLaws

@@ -1,10 +1,8 @@
--- The problem at the leaves: one choice for each leaf, what is asked of it, its solutions of every height, the test that decides it,
--- and the fixed solution. Assumes nothing.
+-- The problem at the leaves: what is asked of the choice at each leaf, the test that decides it, and the fixed solution. Assumes nothing.
 use mathlib.Core.Bool.{Bool, cond, _&&_}
-use Prim.Native.Nat.{ℕ, _/_, _%_, _^_, _≤_, _<_}
-use lib.Dec.{T, ltb, eqb}
+use Prim.Native.Nat.{ℕ, _/_, _%_, _^_}
+use lib.Dec.{ltb, eqb}
 use Rattle.shares.specs.Below.{everyBelow, someBelow, firstBelow, countBelow}
-use Rattle.shares.specs.Blocks.{blockOf}
 use Rattle.leaves.specs.Choices.{Picker, someChoice}
 
 -- what is asked of a choice at each block; the blocks are the 2 ^ h leaves of the constants
@@ -14,24 +12,6 @@ pub record Problem (X : Type 0) : Type 0 where
   -- how many disequations there are, and that number j holds at block b for the choice x
   pub count : ℕ
   pub dis : ℕ → ℕ → X → Bool
-
--- the choices s at 2 ^ w leaves solve the problem: the positive clauses hold at every leaf, and each disequation at one
-pub record Solves {X : Type 0} (h : ℕ) (P : Problem X) (w : ℕ) (s : ℕ → X) : Type 0 where
-  pub tall : h ≤ w
-  pub everywhere : (i : ℕ) → i < 2 ^ w → T (P .pos (blockOf h w i) (s i))
-  pub somewhere : (j : ℕ) → j < P .count → (i : ℕ) × (i < 2 ^ w) × T (P .dis j (blockOf h w i) (s i))
-
--- a solution whose height is among A
-pub record Solution {X : Type 0} (A : ℕ → Type 0) (h : ℕ) (P : Problem X) : Type 0 where
-  pub height : ℕ
-  pub allowed : A height
-  pub leaves : ℕ → X
-  pub solves : Solves h P height leaves
-
--- each block by itself: it has a choice for the positive clauses, and each disequation has a block with a choice for it and them
-pub record Leafwise {X : Type 0} (h : ℕ) (P : Problem X) : Type 0 where
-  pub plain : (b : ℕ) → b < 2 ^ h → (x : X) × T (P .pos b x)
-  pub special : (j : ℕ) → j < P .count → (b : ℕ) × (b < 2 ^ h) × (x : X) × T (P .pos b x) × T (P .dis j b x)
 
 module _ {X : Type 0} (C : Picker X) (P : Problem X) where
   -- at block b some choice meets the positive clauses

@@ -1,24 +1,38 @@
--- Cut and glue: a problem at the leaves has a solution exactly if its test passes, and then the fixed one solves it. Assumes nothing.
-use mathlib.Core.Path.{_≡_}
-use mathlib.Core.Logic.{_⊎_, inl, inr, _↔_}
-use mathlib.Core.Bool.{Bool, not, _&&_}
+-- A solution of a problem at the leaves is cut into what each block has, and one is glued together from that: there is a solution exactly if
+-- the test passes, and then the fixed one solves the problem. Assumes nothing.
+use mathlib.Core.Path.{_≡_, refl}
+use mathlib.Core.Logic.{_⊎_, inl, inr}
+use mathlib.Core.Bool.{Bool, true, false, not, _&&_}
 use Prim.Native.Nat.{ℕ, _+_, _*_, _/_, _%_, _^_, _≤_, _<_, suc-le-suc}
 use native.Mathlib.Nat.{le-trans, le-add-right, eq-or-lt-of-le}
 use native.Mathlib.Omega.{arith}
 use lib.Dec.{T, ltb, eqb, ltb→lt, lt→ltb, eqb→eq, eqb-refl}
 use lib.Pow.{shr-lt, high, low}
 use Rattle.shares.specs.Test.{passes, and-intro, and-left, and-right, cond-passed, cond-failed}
-use Rattle.shares.specs.Below.{everyBelow, someBelow, countBelow}
+use Rattle.shares.specs.Below.{everyBelow, someBelow, firstBelow, countBelow}
 use Rattle.shares.specs.BelowLaws.{every-at, every-intro, some-intro, some-found, first-passes, first-below, first-min, count-le, count-lt}
-use Rattle.shares.specs.Blocks.{blockOf, firstOf, block-lt, first-lt, block-first, block-split, leaf-lt}
-use Rattle.leaves.specs.Heights.{Room}
-use Rattle.leaves.specs.Choices.{Picker}
+use Rattle.shares.specs.Blocks.{blockOf, firstOf}
+use Rattle.shares.specs.BlockLaws.{block-lt, first-lt, block-first, block-split, leaf-lt}
+use Rattle.leaves.specs.Room.{Room}
+use Rattle.leaves.specs.Choices.{Picker, someChoice, Row, nil, cons, at, pickRow, least}
 use Rattle.leaves.specs.ChoiceLaws.{choice-intro, choice-found, both-intro}
-use Rattle.leaves.specs.Problem.{Problem, Solves, Solution, Leafwise, plainAt, specialAt, solvable, blockFor, rank, disequationAt, choiceAt, candidate}
+use Rattle.leaves.specs.Problem.{Problem, plainAt, specialAt, solvable, blockFor, rank, disequationAt, choiceAt, candidate}
+use Rattle.leaves.specs.LeafSolutions.{SolvesLeaves, LeafSolution, Leafwise}
+
+-- ---- an example, computed: one block, two variables that are never both full, and neither of them empty
+
+abbrev apart : Problem (Row Bool 2)
+apart = record { pos = λ b x. not (at false x 0 && at false x 1); count = 2; dis = λ j b x. at false x j }
+
+-- no choice meets both disequations: each has a sub-leaf of its own
+apart-solved : (solvable (least 2) 0 apart ≡ true) × (rank (least 2) 0 apart 1 ≡ 1)
+    × (candidate (least 2) 0 apart 1 0 ≡ cons true (cons false nil)) × (candidate (least 2) 0 apart 1 1 ≡ cons false (cons true nil))
+unfolding everyBelow someBelow firstBelow countBelow someChoice at pickRow plainAt specialAt solvable blockFor rank disequationAt choiceAt candidate
+apart-solved = (refl, refl, refl, refl)
 
 -- ---- cut: a solution of any height has what each block needs
 
-pub cut : {X : Type 0} (h : ℕ) (P : Problem X) (w : ℕ) (s : ℕ → X) → Solves h P w s → Leafwise h P
+pub cut : {X : Type 0} (h : ℕ) (P : Problem X) (w : ℕ) (s : ℕ → X) → SolvesLeaves h P w s → Leafwise h P
 cut h P w s S = record {
   plain = λ b l. (s (firstOf h w b), rw (block-first h w b) at (S .everywhere (firstOf h w b) (first-lt (S .tall) l)));
   special = λ j l.
@@ -36,7 +50,7 @@ module _ {X : Type 0} (C : Picker X) (h : ℕ) (P : Problem X) where
       let (b, u, x, t, v) = L .special j l in
       some-intro (2 ^ h) _ b u (both-intro C (P .pos b) (P .dis j b) x t v)))
 
-  pub cut-solvable : (w : ℕ) (s : ℕ → X) → Solves h P w s → T (solvable C h P)
+  pub cut-solvable : (w : ℕ) (s : ℕ → X) → SolvesLeaves h P w s → T (solvable C h P)
   cut-solvable w s S = solvable-intro (cut h P w s S)
 
   -- ---- glue: one choice for each block, and one sub-leaf for each disequation
@@ -54,9 +68,9 @@ module _ {X : Type 0} (C : Picker X) (h : ℕ) (P : Problem X) where
         first-passes (2 ^ h) (specialAt C P j) b u v
 
     -- a sub-leaf where a disequation stands meets it, beside the positive clauses
-    served : (b r : ℕ) → disequationAt C h P b r < P .count → T (P .pos b (choiceAt C h P b r)) × T (P .dis (disequationAt C h P b r) b (choiceAt C h P b r))
+    special-meets : (b r : ℕ) → disequationAt C h P b r < P .count → T (P .pos b (choiceAt C h P b r)) × T (P .dis (disequationAt C h P b r) b (choiceAt C h P b r))
     unfolding choiceAt specialAt disequationAt
-    served b r l =
+    special-meets b r l =
         let j = disequationAt C h P b r in
         let v = first-below (P .count) (λ j. eqb (blockFor C h P j) b && eqb (rank C h P j) r) l in
         let e : blockFor C h P j ≡ b = eqb→eq (blockFor C h P j) b (and-left (eqb (blockFor C h P j) b) _ v) in
@@ -74,15 +88,15 @@ module _ {X : Type 0} (C : Picker X) (h : ℕ) (P : Problem X) where
         j = disequationAt C h P b r
 
         go : T (ltb j (P .count)) ⊎ T (not (ltb j (P .count))) → T (P .pos b (choiceAt C h P b r))
-        go (inl v) = served b r (ltb→lt j (P .count) v) .0
+        go (inl v) = special-meets b r (ltb→lt j (P .count) v) .0
         go (inr v) =
             rw (cond-failed (ltb j (P .count)) (C .pick (λ x. P .pos b x && P .dis j b x)) (C .pick (P .pos b)) v)
             (choice-found C (P .pos b) (plain-passes b l))
 
   -- no two disequations stand at one sub-leaf
-  places-apart : (i j : ℕ) → i < j → blockFor C h P i ≡ blockFor C h P j → ¬ (rank C h P i ≡ rank C h P j)
+  ranks-apart : (i j : ℕ) → i < j → blockFor C h P i ≡ blockFor C h P j → ¬ (rank C h P i ≡ rank C h P j)
   unfolding rank
-  places-apart i j l p q =
+  ranks-apart i j l p q =
       let v : T (eqb (blockFor C h P i) (blockFor C h P j)) = rw p (eqb-refl (blockFor C h P j)) in
       let e : countBelow i (λ i. eqb (blockFor C h P i) (blockFor C h P j)) ≡ countBelow j (λ i. eqb (blockFor C h P i) (blockFor C h P j)) = rw p at q in
       omega (arith, count-lt j (λ i. eqb (blockFor C h P i) (blockFor C h P j)) i l v)
@@ -109,7 +123,7 @@ module _ {X : Type 0} (C : Picker X) (h : ℕ) (P : Problem X) where
       go (inr m) =
           let i = disequationAt C h P b r in
           let v : T (p i) = first-passes (P .count) p j l own .1 in
-          absurd (places-apart i j m
+          absurd (ranks-apart i j m
           (eqb→eq (blockFor C h P i) b (and-left (eqb (blockFor C h P i) b) _ v))
           (eqb→eq (rank C h P i) r (and-right (eqb (blockFor C h P i) b) _ v)))
 
@@ -118,7 +132,7 @@ module _ {X : Type 0} (C : Picker X) (h : ℕ) (P : Problem X) where
   rank-lt k j e l = le-trans (suc-le-suc (count-le j (λ i. eqb (blockFor C h P i) (blockFor C h P j)))) (le-trans l e)
 
   -- the fixed solution solves the problem, at any height with room for its disequations
-  pub candidate-solves : T (solvable C h P) → (k : ℕ) → P .count ≤ 2 ^ k → Solves h P (h + k) (candidate C h P k)
+  pub candidate-solves : T (solvable C h P) → (k : ℕ) → P .count ≤ 2 ^ k → SolvesLeaves h P (h + k) (candidate C h P k)
   unfolding candidate
   candidate-solves t k e = record {
     tall = le-add-right h k;
@@ -129,19 +143,16 @@ module _ {X : Type 0} (C : Picker X) (h : ℕ) (P : Problem X) where
           blockFor C h P j * 2 ^ k + rank C h P j,
           leaf-lt h k (block-passes t j l .0) f,
           rw (block-split, high (blockFor C h P j) k f, low (blockFor C h P j) k f)
-              (rw g at (served t (blockFor C h P j) (rank C h P j) (rw g l) .1)),
+              (rw g at (special-meets t (blockFor C h P j) (rank C h P j) (rw g l) .1)),
         );
   }
 
-  -- ---- the test is right, of the solutions held to any heights that have room for the disequations
+  -- ---- where the test passes, there is a solution at any heights that have room for the disequations
 
-  pub solution-glued : (A : ℕ → Type 0) → Room A h (P .count) → T (solvable C h P) → Solution A h P
+  pub solution-glued : (A : ℕ → Type 0) → Room A h (P .count) → T (solvable C h P) → LeafSolution A h P
   solution-glued A r t = record {
     height = h + r .times;
     allowed = r .allowed;
     leaves = candidate C h P (r .times);
     solves = candidate-solves t (r .times) (r .enough);
   }
-
-  pub solvable-iff : (A : ℕ → Type 0) → Room A h (P .count) → Solution A h P ↔ T (solvable C h P)
-  solvable-iff A r = (λ S. cut-solvable (S .height) (S .leaves) (S .solves), solution-glued A r)

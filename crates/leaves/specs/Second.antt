@@ -1,53 +1,15 @@
--- A second system beside a solution of the first, at the leaves: extensions, and the tests that decide entailment. Assumes nothing.
+-- A second system beside the first, at the leaves: what it asks of the own choice, and the tests that decide entailment. Assumes nothing.
 use mathlib.Core.Bool.{Bool, not, _&&_}
-use Prim.Native.Nat.{ℕ, zero, suc, _^_, _≤_, _<_}
-use lib.Dec.{T}
+use Prim.Native.Nat.{ℕ, zero, suc, _^_}
 use Rattle.shares.specs.Below.{someBelow, firstBelow}
-use Rattle.shares.specs.Blocks.{blockOf}
-use Rattle.leaves.specs.Heights.{anyHeight}
 use Rattle.leaves.specs.Choices.{Picker, someChoice}
-use Rattle.leaves.specs.Problem.{Problem, Solution, solvable}
+use Rattle.leaves.specs.Problem.{Problem, solvable}
 
 -- what the second system asks of an own choice y, beside the free choice x, at block b
 pub record Second (X Y : Type 0) : Type 0 where
   pub pos : ℕ → X → Y → Bool
   pub count : ℕ
   pub dis : ℕ → ℕ → X → Y → Bool
-
--- the own choices t at 2 ^ v leaves extend the choices s at 2 ^ w leaves
-pub record Extends {X Y : Type 0} (h : ℕ) (Q : Second X Y) (w : ℕ) (s : ℕ → X) (v : ℕ) (t : ℕ → Y) : Type 0 where
-  pub tall : w ≤ v
-  pub everywhere : (i : ℕ) → i < 2 ^ v → T (Q .pos (blockOf h v i) (s (blockOf w v i)) (t i))
-  pub somewhere : (j : ℕ) → j < Q .count → (i : ℕ) × (i < 2 ^ v) × T (Q .dis j (blockOf h v i) (s (blockOf w v i)) (t i))
-
--- an extension whose height is among A
-pub record Extension {X Y : Type 0} (A : ℕ → Type 0) (h : ℕ) (Q : Second X Y) (w : ℕ) (s : ℕ → X) : Type 0 where
-  pub height : ℕ
-  pub allowed : A height
-  pub own : ℕ → Y
-  pub extends : Extends h Q w s height own
-
--- the second system's positive clauses alone
-abbrev pub positives : {X Y : Type 0} → Second X Y → Second X Y
-positives Q = record { pos = Q .pos; count = 0; dis = Q .dis }
-
--- its disequation j alone beside them
-abbrev pub only : {X Y : Type 0} → ℕ → Second X Y → Second X Y
-only j Q = record { pos = Q .pos; count = 1; dis = λ _. Q .dis j }
-
--- what the second system asks at the leaves of s: a problem whose blocks are those leaves
-abbrev pub beside : {X Y : Type 0} → ℕ → Second X Y → ℕ → (ℕ → X) → Problem Y
-beside h Q w s = record { pos = λ i. Q .pos (blockOf h w i) (s i); count = Q .count; dis = λ j i. Q .dis j (blockOf h w i) (s i) }
-
--- every solution of the first system extends to the second
-abbrev pub Entails : {X Y : Type 0} → (ℕ → Type 0) → ℕ → Problem X → Second X Y → Type 0
-Entails A h P Q = (S : Solution A h P) → Extension anyHeight h Q (S .height) (S .leaves)
-
--- a solution of the first system that does not
-abbrev pub Counter : {X Y : Type 0} → (ℕ → Type 0) → ℕ → Problem X → Second X Y → Type 0
-Counter A h P Q = (S : Solution A h P) × ¬ Extension anyHeight h Q (S .height) (S .leaves)
-
--- ---- the tests
 
 -- one disequation more, before the others
 abbrev pub before : {X : Type 0} → (ℕ → X → Bool) → (ℕ → ℕ → X → Bool) → ℕ → ℕ → X → Bool

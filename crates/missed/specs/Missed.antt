@@ -10,9 +10,11 @@ use Rattle.shares.specs.Below.{everyBelow, someBelow, firstBelow}
 use Rattle.shares.specs.Constant.{bit}
 use Rattle.leaves.specs.Choices.{least}
 use Rattle.leaves.specs.Problem.{solvable}
-use Rattle.words.specs.Sets.{wordCount, inSet, Words, allPassBut, someOwn}
+use Rattle.sets.specs.Sets.{inSet, Words}
+use Rattle.words.specs.Choices.{wordCount, allPassBut, someOwn}
 use Rattle.plans.specs.Numbers.{numbered}
-use Rattle.plans.specs.Tests.{Stored, leafValues, firstMeets, firstDiffers, secondDiffers, allowedIn, testsOf}
+use Rattle.questions.specs.Stored.{Stored}
+use Rattle.plans.specs.Tests.{leafValues, firstMeets, firstDiffers, secondDiffers, allowedIn, testsOf}
 use Rattle.plans.specs.declared.Search.the-variants.{Missed}
 
 -- some solution of the first system cannot have disequation j of the second
@@ -31,9 +33,9 @@ misses S values j = someBelow (2 ^ S .free) (allowedIn S (Missed j) values)
 unfoldable pub missesWith : Stored → ℕ → ℕ → ℕ → Bool
 missesWith S values j i = someBelow (2 ^ S .free) (λ x. allowedIn S (Missed j) values x && firstDiffers S values i x)
 
--- every leaf has a choice, and for each of `first` disequations some leaf has one that meets it too
+-- every leaf has a choice, and for each of `first-count` disequations some leaf has one that meets it too
 abbrev pub overall : ℕ → ℕ → (ℕ → Bool) → (ℕ → ℕ → Bool) → Bool
-overall leaves first plain special = everyBelow leaves plain && everyBelow first (λ i. someBelow leaves (special i))
+overall leaves first-count plain special = everyBelow leaves plain && everyBelow first-count (λ i. someBelow leaves (special i))
 
 -- ---- the sets of choices at a leaf
 
@@ -57,26 +59,26 @@ someOutside rows from others at count = someBelow (64 * count) (outside rows fro
 
 -- ---- leaf by leaf
 
--- disequation j has gone through one leaf. It stays possible if the leaf has a choice for it, and then bit i of its word is set if it was or if
+-- what one leaf says of disequation j. It stays possible if the leaf has a choice for it, and then bit i of its word is set if it was or if
 -- the leaf has one that meets disequation i too. Nothing else changes
-pub record Narrowed (j first : ℕ) (plain : Bool) (special : ℕ → Bool) (possible : ℕ) (met : List ℕ) (possible′ : ℕ) (met′ : List ℕ) : Type 0 where
+pub record Narrowed (j first-count : ℕ) (plain : Bool) (special : ℕ → Bool) (possible : ℕ) (met : List ℕ) (possible′ : ℕ) (met′ : List ℕ) : Type 0 where
   pub stays : bit possible′ j ≡ (bit possible j && plain)
-  pub word : T (bit possible′ j) → (i : ℕ) → i < first → bit (getD met′ j 0) i ≡ (bit (getD met j 0) i || special i)
+  pub word : T (bit possible′ j) → (i : ℕ) → i < first-count → bit (getD met′ j 0) i ≡ (bit (getD met j 0) i || special i)
   pub possible-kept : (k : ℕ) → k < 64 → (k ≡ j → ⊥) → bit possible′ k ≡ bit possible k
   pub word-kept : (k : ℕ) → (k ≡ j → ⊥) → getD met′ k 0 ≡ getD met k 0
 
--- the first `count` disequations have, and the others are as they were
-pub record Passed (count first : ℕ) (plain : ℕ → Bool) (special : ℕ → ℕ → Bool) (possible : ℕ) (met : List ℕ) (possible′ : ℕ) (met′ : List ℕ) : Type 0 where
+-- what it says of the first `count` disequations; the others are as they were
+pub record Passed (count first-count : ℕ) (plain : ℕ → Bool) (special : ℕ → ℕ → Bool) (possible : ℕ) (met : List ℕ) (possible′ : ℕ) (met′ : List ℕ) : Type 0 where
   pub stays : (j : ℕ) → j < count → bit possible′ j ≡ (bit possible j && plain j)
-  pub word : (j : ℕ) → j < count → T (bit possible′ j) → (i : ℕ) → i < first → bit (getD met′ j 0) i ≡ (bit (getD met j 0) i || special j i)
+  pub word : (j : ℕ) → j < count → T (bit possible′ j) → (i : ℕ) → i < first-count → bit (getD met′ j 0) i ≡ (bit (getD met j 0) i || special j i)
   pub possible-left : (j : ℕ) → count ≤ j → j < 64 → bit possible′ j ≡ bit possible j
   pub word-left : (j : ℕ) → count ≤ j → getD met′ j 0 ≡ getD met j 0
 
--- `done` leaves are gone through, with plain j b and special j i b at leaf b: a disequation is possible if every leaf had a choice for it, and
+-- what is known after `done` leaves, with plain j b and special j i b at leaf b: a disequation is possible if every leaf had a choice for it, and
 -- the word of one that is says which disequations of the first system were met at some leaf
-pub record Known (count first : ℕ) (plain : ℕ → ℕ → Bool) (special : ℕ → ℕ → ℕ → Bool) (done possible : ℕ) (met : List ℕ) : Type 0 where
+pub record Known (count first-count : ℕ) (plain : ℕ → ℕ → Bool) (special : ℕ → ℕ → ℕ → Bool) (done possible : ℕ) (met : List ℕ) : Type 0 where
   pub stays : (j : ℕ) → j < count → bit possible j ≡ everyBelow done (plain j)
-  pub word : (j : ℕ) → j < count → T (bit possible j) → (i : ℕ) → i < first → bit (getD met j 0) i ≡ someBelow done (special j i)
+  pub word : (j : ℕ) → j < count → T (bit possible j) → (i : ℕ) → i < first-count → bit (getD met j 0) i ≡ someBelow done (special j i)
 
 -- what is known of a stored question after `done` of its 2 ^ h leaves
 abbrev pub KnownOf : Stored → ℕ → ℕ → ℕ → List ℕ → Type 0
@@ -85,4 +87,4 @@ KnownOf S h done possible met =
 
 -- disequation j is possible, and each of the first system's is met
 abbrev pub isMissed : ℕ → List ℕ → ℕ → ℕ → Bool
-isMissed possible met first j = bit possible j && everyBelow first (bit (getD met j 0))
+isMissed possible met first-count j = bit possible j && everyBelow first-count (bit (getD met j 0))

@@ -19,7 +19,7 @@ use Rattle.shares.specs.BelowLaws.{every-at, every-intro, every-ext, every-more
 use Rattle.shares.specs.Constant.{bit}
 use Rattle.shares.specs.BitLaws.{bit-zero, bit-or}
 use Rattle.shares.specs.BitParts.{bit-digit, bit-not, bit-ones}
-use Rattle.words.specs.RemoveLaws.{without}
+use Rattle.sets.specs.RemoveLaws.{without}
 use Rattle.missed.specs.Missed.{overall, Narrowed, Passed, Known, isMissed}
 
 -- ---- one bit of a word
@@ -60,28 +60,28 @@ bits-later old x y i p before step k l = step k ∙ rw (ne-eqb k i (λ q. omega 
 -- the first `count` bits are all set if the lowest that is not set is no lower
 pub bits-all : (x count : ℕ) → x < 2 ^ 64 → count ≤ 64 → leb count (firstBelow 64 (bit ((2 ^ 64 - 1) - x))) ≡ everyBelow count (bit x)
 bits-all x count small l =
-    same-test (leb count first) (everyBelow count (bit x))
+    same-test (leb count lowest) (everyBelow count (bit x))
     (λ t. every-intro count (bit x) (λ i m. holds (bit x i) (λ u.
-    T-not (bit others i) (first-least 64 (bit others) i (lt-of-lt-of-le m (leb→le count first t))) (rw (bit-not 64 x i small (omega arith)) u))))
-    (λ t. le→leb count first (go t (decLt first count)))
+    T-not (bit others i) (first-least 64 (bit others) i (lt-of-lt-of-le m (leb→le count lowest t))) (rw (bit-not 64 x i small (omega arith)) u))))
+    (λ t. le→leb count lowest (go t (decLt lowest count)))
   where
     others : ℕ
     others = (2 ^ 64 - 1) - x
 
-    first : ℕ
-    first = firstBelow 64 (bit others)
+    lowest : ℕ
+    lowest = firstBelow 64 (bit others)
 
-    go : T (everyBelow count (bit x)) → Dec (first < count) → count ≤ first
+    go : T (everyBelow count (bit x)) → Dec (lowest < count) → count ≤ lowest
     go t (no n) = omega arith
     go t (yes m) =
-        absurd (T-not (bit x first) (rw (bit-not 64 x first small (omega arith)) at (first-below 64 (bit others) (omega arith)))
-        (every-at count (bit x) t first m))
+        absurd (T-not (bit x lowest) (rw (bit-not 64 x lowest small (omega arith)) at (first-below 64 (bit others) (omega arith)))
+        (every-at count (bit x) t lowest m))
 
 -- ---- one disequation at one leaf
 
-module _ (j first : ℕ) (plain : Bool) (special : ℕ → Bool) (possible : ℕ) (met : List ℕ) where
+module _ (j first-count : ℕ) (plain : Bool) (special : ℕ → Bool) (possible : ℕ) (met : List ℕ) where
   -- it was not possible
-  pub narrowed-before : bit possible j ≡ false → Narrowed j first plain special possible met possible met
+  pub narrowed-before : bit possible j ≡ false → Narrowed j first-count plain special possible met possible met
   narrowed-before e = record {
     stays = rw e;
     word = λ t. absurd (rw e at t);
@@ -90,8 +90,8 @@ module _ (j first : ℕ) (plain : Bool) (special : ℕ → Bool) (possible : ℕ
   }
 
   -- it stays
-  pub narrowed-stays : plain ≡ true → j < length met → (x : ℕ) → ((i : ℕ) → i < first → bit x i ≡ (bit (getD met j 0) i || special i))
-      → Narrowed j first plain special possible met possible (set met j x)
+  pub narrowed-stays : plain ≡ true → j < length met → (x : ℕ) → ((i : ℕ) → i < first-count → bit x i ≡ (bit (getD met j 0) i || special i))
+      → Narrowed j first-count plain special possible met possible (set met j x)
   narrowed-stays e l x w = record {
     stays = rw e (sym (and-true (bit possible j)));
     word = λ t i m. rw (getD-set-same met j x 0 l) (w i m);
@@ -99,11 +99,11 @@ module _ (j first : ℕ) (plain : Bool) (special : ℕ → Bool) (possible : ℕ
     word-kept = λ k n. getD-set-other met j k x 0 n;
   }
 
-  -- it goes
-  pub narrowed-goes : plain ≡ false → j < 64 → Narrowed j first plain special possible met (bitAnd possible ((2 ^ 64 - 1) - 2 ^ j)) met
-  narrowed-goes e l = record {
-    stays = gone ∙ sym (rw e (and-false (bit possible j)));
-    word = λ t. absurd (rw gone at t);
+  -- it is possible no longer
+  pub narrowed-out : plain ≡ false → j < 64 → Narrowed j first-count plain special possible met (bitAnd possible ((2 ^ 64 - 1) - 2 ^ j)) met
+  narrowed-out e l = record {
+    stays = cleared-here ∙ sym (rw e (and-false (bit possible j)));
+    word = λ t. absurd (rw cleared-here at t);
     possible-kept = λ k m n. cleared k m ∙ rw (ne-eqb k j n) (and-true (bit possible k));
     word-kept = λ k n. refl;
   }
@@ -111,13 +111,13 @@ module _ (j first : ℕ) (plain : Bool) (special : ℕ → Bool) (possible : ℕ
       cleared : (k : ℕ) → k < 64 → bit (bitAnd possible ((2 ^ 64 - 1) - 2 ^ j)) k ≡ (bit possible k && not (eqb k j))
       cleared k m = without possible (2 ^ j) (omega (arith, pow-mono {i = j} {j = 63} (omega arith))) k m ∙ ap (λ b. bit possible k && not b) (power-bit j k)
 
-      gone : bit (bitAnd possible ((2 ^ 64 - 1) - 2 ^ j)) j ≡ false
-      gone = cleared j l ∙ rw (eq-eqb j j refl) (and-false (bit possible j))
+      cleared-here : bit (bitAnd possible ((2 ^ 64 - 1) - 2 ^ j)) j ≡ false
+      cleared-here = cleared j l ∙ rw (eq-eqb j j refl) (and-false (bit possible j))
 
 -- ---- all of them
 
-module _ (first : ℕ) (plain : ℕ → Bool) (special : ℕ → ℕ → Bool) (possible : ℕ) (met : List ℕ) where
-  pub passed-none : Passed 0 first plain special possible met possible met
+module _ (first-count : ℕ) (plain : ℕ → Bool) (special : ℕ → ℕ → Bool) (possible : ℕ) (met : List ℕ) where
+  pub passed-none : Passed 0 first-count plain special possible met possible met
   passed-none = record {
     stays = λ j l. absurd (omega arith);
     word = λ j l. absurd (omega arith);
@@ -126,8 +126,8 @@ module _ (first : ℕ) (plain : ℕ → Bool) (special : ℕ → ℕ → Bool) (
   }
 
   -- one more
-  pub passed-more : (j : ℕ) → j < 64 → (possible′ : ℕ) (met′ : List ℕ) (possible″ : ℕ) (met″ : List ℕ) → Passed j first plain special possible met possible′ met′
-      → Narrowed j first (plain j) (special j) possible′ met′ possible″ met″ → Passed (j + 1) first plain special possible met possible″ met″
+  pub passed-more : (j : ℕ) → j < 64 → (possible′ : ℕ) (met′ : List ℕ) (possible″ : ℕ) (met″ : List ℕ) → Passed j first-count plain special possible met possible′ met′
+      → Narrowed j first-count (plain j) (special j) possible′ met′ possible″ met″ → Passed (j + 1) first-count plain special possible met possible″ met″
   passed-more j small possible′ met′ possible″ met″ P S = record {
     stays = λ k l. stays k l (ℕ-discrete k j);
     word = λ k l. word k l (ℕ-discrete k j);
@@ -139,15 +139,15 @@ module _ (first : ℕ) (plain : ℕ → Bool) (special : ℕ → ℕ → Bool) (
       stays k l (yes q) = rw q (S .stays ∙ ap (λ b. b && plain j) (P .possible-left j (omega arith) small))
       stays k l (no n) = S .possible-kept k (omega arith) n ∙ P .stays k (omega arith)
 
-      word : (k : ℕ) → k < j + 1 → Dec (k ≡ j) → T (bit possible″ k) → (i : ℕ) → i < first → bit (getD met″ k 0) i ≡ (bit (getD met k 0) i || special k i)
+      word : (k : ℕ) → k < j + 1 → Dec (k ≡ j) → T (bit possible″ k) → (i : ℕ) → i < first-count → bit (getD met″ k 0) i ≡ (bit (getD met k 0) i || special k i)
       word k l (yes q) t i m = rw q (S .word (rw q at t) i m ∙ ap (λ x. bit x i || special j i) (P .word-left j (omega arith)))
       word k l (no n) t i m =
           ap (λ x. bit x i) (S .word-kept k n) ∙ P .word k (omega arith) (rw (S .possible-kept k (omega arith) n) at t) i m
 
   -- with the same tests
   pub passed-as : (count possible′ : ℕ) (met′ : List ℕ) (plain′ : ℕ → Bool) (special′ : ℕ → ℕ → Bool) → ((j : ℕ) → j < count → plain j ≡ plain′ j)
-      → ((j i : ℕ) → j < count → i < first → special j i ≡ special′ j i) → Passed count first plain special possible met possible′ met′
-      → Passed count first plain′ special′ possible met possible′ met′
+      → ((j i : ℕ) → j < count → i < first-count → special j i ≡ special′ j i) → Passed count first-count plain special possible met possible′ met′
+      → Passed count first-count plain′ special′ possible met possible′ met′
   passed-as count possible′ met′ plain′ special′ p s P = record {
     stays = λ j l. P .stays j l ∙ ap (_&&_ (bit possible j)) (p j l);
     word = λ j l t i m. P .word j l t i m ∙ ap (_||_ (bit (getD met j 0) i)) (s j i l m);
@@ -157,15 +157,15 @@ module _ (first : ℕ) (plain : ℕ → Bool) (special : ℕ → ℕ → Bool) (
 
 -- ---- leaf by leaf
 
-module _ (count first : ℕ) (plain : ℕ → ℕ → Bool) (special : ℕ → ℕ → ℕ → Bool) where
+module _ (count first-count : ℕ) (plain : ℕ → ℕ → Bool) (special : ℕ → ℕ → ℕ → Bool) where
   -- before the first leaf all are possible
-  pub known-none : (met : List ℕ) → ((j : ℕ) → j < count → getD met j 0 ≡ 0) → Known count first plain special 0 (2 ^ count - 1) met
+  pub known-none : (met : List ℕ) → ((j : ℕ) → j < count → getD met j 0 ≡ 0) → Known count first-count plain special 0 (2 ^ count - 1) met
   unfolding everyBelow someBelow
   known-none met z = record { stays = λ j l. bit-ones count j l; word = λ j l t i m. ap (λ x. bit x i) (z j l) ∙ bit-zero i }
 
   -- one leaf more
-  pub known-more : (done possible : ℕ) (met : List ℕ) (possible′ : ℕ) (met′ : List ℕ) → Known count first plain special done possible met
-      → Passed count first (λ j. plain j done) (λ j i. special j i done) possible met possible′ met′ → Known count first plain special (done + 1) possible′ met′
+  pub known-more : (done possible : ℕ) (met : List ℕ) (possible′ : ℕ) (met′ : List ℕ) → Known count first-count plain special done possible met
+      → Passed count first-count (λ j. plain j done) (λ j i. special j i done) possible met possible′ met′ → Known count first-count plain special (done + 1) possible′ met′
   known-more done possible met possible′ met′ K P = record {
     stays = λ j l. P .stays j l ∙ ap (λ b. b && plain j done) (K .stays j l) ∙ sym (ap (λ d. everyBelow d (plain j)) (add-one done) ∙ every-more done (plain j));
     word = λ j l t i m.
@@ -176,9 +176,9 @@ module _ (count first : ℕ) (plain : ℕ → ℕ → Bool) (special : ℕ → �
 
   -- after the last, a disequation is missed if every leaf has a choice for it, and some leaf one for each disequation of the first system too
   module _ (leaves : ℕ) where
-    pub known-all : (possible : ℕ) (met : List ℕ) → Known count first plain special leaves possible met → (j : ℕ) → j < count → isMissed possible met first j ≡ overall leaves first (plain j) (special j)
+    pub known-all : (possible : ℕ) (met : List ℕ) → Known count first-count plain special leaves possible met → (j : ℕ) → j < count → isMissed possible met first-count j ≡ overall leaves first-count (plain j) (special j)
     known-all possible met K j l =
-        same-test (isMissed possible met first j) (overall leaves first (plain j) (special j))
+        same-test (isMissed possible met first-count j) (overall leaves first-count (plain j) (special j))
         (λ t.
         let u = and-left (bit possible j) _ t in
         and-intro (everyBelow leaves (plain j)) _ (rw (K .stays j l) at u)
@@ -187,12 +187,12 @@ module _ (count first : ℕ) (plain : ℕ → ℕ → Bool) (special : ℕ → �
         let u : T (bit possible j) = rw (K .stays j l) (and-left (everyBelow leaves (plain j)) _ t) in
         and-intro (bit possible j) _ u (rw (words u) (and-right (everyBelow leaves (plain j)) _ t)))
       where
-        words : T (bit possible j) → everyBelow first (bit (getD met j 0)) ≡ everyBelow first (λ i. someBelow leaves (special j i))
-        words u = every-ext first _ _ (λ i m. K .word j l u i m)
+        words : T (bit possible j) → everyBelow first-count (bit (getD met j 0)) ≡ everyBelow first-count (λ i. someBelow leaves (special j i))
+        words u = every-ext first-count _ _ (λ i m. K .word j l u i m)
 
     -- where none is possible after some leaves, none is missed
-    pub known-dead : (done : ℕ) (met : List ℕ) → done ≤ leaves → Known count first plain special done 0 met
-        → count ≡ firstBelow count (λ j. overall leaves first (plain j) (special j))
-    known-dead done met l K =
-        sym (first-none count _ (λ j m. ap (λ b. b && everyBelow first (λ i. someBelow leaves (special j i)))
+    pub known-possible-none : (done : ℕ) (met : List ℕ) → done ≤ leaves → Known count first-count plain special done 0 met
+        → count ≡ firstBelow count (λ j. overall leaves first-count (plain j) (special j))
+    known-possible-none done met l K =
+        sym (first-none count _ (λ j m. ap (λ b. b && everyBelow first-count (λ i. someBelow leaves (special j i)))
         (every-stays leaves done (plain j) l (sym (K .stays j m) ∙ bit-zero j))))

@@ -9,21 +9,23 @@ use lib.ListN.{getD}
 use borrow.Author.Tests.{le-ltb}
 use Rattle.shares.specs.Test.{is-true}
 use Rattle.shares.specs.Below.{everyBelow, someBelow, firstBelow}
-use Rattle.shares.specs.BelowLaws.{every-ext, some-ext, some-none, first-ext}
+use Rattle.shares.specs.BelowLaws.{every-ext, some-ext, some-none, first-ext, first-some}
 use Rattle.shares.specs.Constant.{bit}
 use Rattle.leaves.specs.Choices.{least}
 use Rattle.leaves.specs.Problem.{Problem, specialAt, solvable}
-use Rattle.words.specs.Sets.{wordCount, inSet, Words, allPassBut, someOwn, Periodic}
-use Rattle.words.specs.RemoveLaws.{Without}
-use Rattle.words.specs.SearchLaws.{in-word, lowest-lt, found-in-word}
-use Rattle.words.specs.GatherLaws.{own-none, periodic-some}
+use Rattle.sets.specs.Sets.{inSet, Words, Without}
+use Rattle.words.specs.Choices.{wordCount, allPassBut, someOwn, Periodic}
+use Rattle.sets.specs.SearchLaws.{in-word, found-in-word}
+use Rattle.words.specs.LowestLaws.{lowest-lt}
+use Rattle.sets.specs.GatherLaws.{own-none, periodic-some}
 use Rattle.words.specs.TermLaws.{pass-mod, but-mod}
 use Rattle.plans.specs.Numbers.{numbered}
-use Rattle.plans.specs.PlanLaws.{found-some, plain-is, special-is}
-use Rattle.plans.specs.Tests.{Stored, leafValues, firstMeets, firstDiffers, secondDiffers, allowedIn, specialIn, testsOf}
+use Rattle.questions.specs.Stored.{Stored}
+use Rattle.plans.specs.PlanLaws.{plain-is, special-is}
+use Rattle.plans.specs.Tests.{leafValues, firstMeets, firstDiffers, secondDiffers, allowedIn, specialIn, testsOf}
 use Rattle.plans.specs.LeafLaws.{differs-periodic}
 use Rattle.missed.specs.Missed.{missedIn, lowestMissedIn, misses, missesWith, overall, RowSets, outside, someOutside, Passed, KnownOf, isMissed}
-use Rattle.missed.specs.MissedLaws.{passed-as, known-more, known-all, known-dead}
+use Rattle.missed.specs.MissedLaws.{passed-as, known-more, known-all, known-possible-none}
 use Rattle.plans.specs.declared.Search.the-variants.{Missed}
 
 -- ---- choices from some word of a list
@@ -50,7 +52,7 @@ module _ (rows : List ℕ) (from : ℕ) (others : List ℕ) (at : ℕ) where
   unfolding someOutside
   outside-found w count x l small n before word =
       is-true (someBelow (64 * count) (outside rows from others at))
-      (found-some (64 * count) (outside rows from others at) (omega (arith, found-in-word (outside rows from others at) w count x l small n before word, lowest-lt x small n)))
+      (first-some (64 * count) (outside rows from others at) (omega (arith, found-in-word (outside rows from others at) w count x l small n before word, lowest-lt x small n)))
 
   pub outside-none : (count : ℕ) → ((z : ℕ) → z < 64 * count → outside rows from others at z ≡ false) → someOutside rows from others at count ≡ false
   unfolding someOutside
@@ -104,7 +106,7 @@ module _ (S : Stored) (values : ℕ) (second-rows : List ℕ) (j : ℕ)
       per : Periodic (S .free + 0) but
       per z = but-mod (S .free) 0 values z (S .clauses) 0 (getD (S .counts) 0 0) (256 + 4 * i)
 
--- all disequations have gone through a leaf, by the sets of its choices
+-- what a leaf says of all disequations, by the sets of its choices
 pub leaf-passed : (S : Stored) (values words : ℕ) (allowed first-rows second-rows : List ℕ) → words ≡ wordCount (S .free)
     → RowSets S values allowed first-rows second-rows
     → (possible : ℕ) (met : List ℕ) (possible′ : ℕ) (met′ : List ℕ)
@@ -158,4 +160,4 @@ module _ (S : Stored) (h : ℕ) where
   pub known-nothing : (done possible : ℕ) (met : List ℕ) → possible ≡ 0 → done ≤ 2 ^ h → KnownOf S h done possible met
       → getD (S .counts) 3 0 ≡ lowestMissedIn S h
   known-nothing done possible met z l K =
-      known-dead _ _ _ _ (2 ^ h) done met l (rw z at K) ∙ first-ext (getD (S .counts) 3 0) _ _ (λ j m. sym (missed-in S h j))
+      known-possible-none _ _ _ _ (2 ^ h) done met l (rw z at K) ∙ first-ext (getD (S .counts) 3 0) _ _ (λ j m. sym (missed-in S h j))

@@ -9,13 +9,14 @@ use Rattle.shares.specs.Below.{firstBelow, countBelow}
 use Rattle.leaves.specs.Heights.{c}
 use Rattle.leaves.specs.Choices.{least}
 use Rattle.leaves.specs.Problem.{Problem, solvable}
-use Rattle.words.specs.Sets.{wordCount, Periodic}
-use Rattle.plans.specs.Tests.{Stored, leafValues, secondMeets, extraOf, roomOf, allowedIn, testsOf}
+use Rattle.questions.specs.Stored.{Stored}
+use Rattle.words.specs.Choices.{wordCount, Periodic}
+use Rattle.plans.specs.Tests.{leafValues, secondMeets, extraOf, roomOf, allowedIn, testsOf}
 use Rattle.plans.specs.declared.Search.{Search}
 use Rattle.plans.specs.declared.Plan.{Plan}
 use Rattle.plans.specs.declared.Solved.{Solved}
 use Rattle.plans.specs.Numbers.{numbered, withoutFirst}
-use Rattle.plans.specs.Plan.{leafFor, rankOf, plainChoice, specialChoice, subLeafAfter, choiceAfter}
+use Rattle.plans.specs.Plan.{leafFor, rankOf, plainChoice, specialChoice, subLeafAfter, choiceAfter, noPlan}
 
 -- the tests at leaf b are those of the problem R, over choices of n variables
 pub record AtLeaf (n b : ℕ) (R : Problem ℕ) (allowed : ℕ → Bool) (special : ℕ → ℕ → Bool) : Type 0 where
@@ -35,7 +36,7 @@ pub record HasRoom (h k : ℕ) (R : Problem ℕ) : Type 0 where
   pub few : R .count ≤ 2 ^ k
   pub low : 2 ^ (h + k) ≤ 2048
 
--- while leaf b is gone through, the first e entries are those after it, the others those before it, and `next` is the next free sub-leaf
+-- in the middle of leaf b: the first e entries are those after it, the others those before it, and `next` is the next free sub-leaf
 pub record Entries (n h : ℕ) (R : Problem ℕ) (k b e next : ℕ) (subleaf choice : List ℕ) : Type 0 where
   pub next-is : next ≡ b * 2 ^ k + countBelow e (λ i. eqb (leafFor n h R i) b)
   pub sub-leaves-done : (j : ℕ) → j < e → getD subleaf j 0 ≡ subLeafAfter n h R k (b + 1) j
@@ -49,16 +50,16 @@ pub record After (n h : ℕ) (R : Problem ℕ) (k done : ℕ) (subleaf choice : 
   pub choices : (j : ℕ) → j < R .count → getD choice j 0 ≡ choiceAfter n h R done j
 
 -- a claim M of every problem, of n variables and so many entries, that tests at a leaf may be of: its leaf b, of 2 ^ h, is split k times
--- and begins at sub-leaf `first`
+-- and its sub-leaves begin at `base`
 abbrev pub ForLeaf : ℕ → ℕ → ℕ → ℕ → (ℕ → Bool) → (ℕ → ℕ → Bool) → ((h k b : ℕ) → Problem ℕ → Type 0) → Type 0
-ForLeaf n words entries first allowed special M =
-    (h k b : ℕ) (R : Problem ℕ) → HasRoom h k R → b < 2 ^ h → R .count ≡ entries → words ≡ wordCount n → first ≡ b * 2 ^ k
+ForLeaf n words entries base allowed special M =
+    (h k b : ℕ) (R : Problem ℕ) → HasRoom h k R → b < 2 ^ h → R .count ≡ entries → words ≡ wordCount n → base ≡ b * 2 ^ k
     → AtLeaf n b R allowed special → M h k b R
 
--- one leaf gone through, whose values are `values` and whose first sub-leaf is `first`: its least choice, and the entries after it
-pub record Visited (S : Stored) (search : Search) (values first : ℕ) (subleaf choice : List ℕ) (r : ℕ) (subleaf′ choice′ : List ℕ) : Type 0 where
+-- one leaf visited, whose values are `values` and whose sub-leaves begin at `base`: its least choice, and the entries after it
+pub record Visited (S : Stored) (search : Search) (values base : ℕ) (subleaf choice : List ℕ) (r : ℕ) (subleaf′ choice′ : List ℕ) : Type 0 where
   pub least : r ≡ firstBelow (64 * wordCount (S .free)) (allowedIn S search values)
-  pub entries : (h k b : ℕ) → HasRoom h k (testsOf S h search) → b < 2 ^ h → values ≡ leafValues S h b → first ≡ b * 2 ^ k
+  pub entries : (h k b : ℕ) → HasRoom h k (testsOf S h search) → b < 2 ^ h → values ≡ leafValues S h b → base ≡ b * 2 ^ k
       → After (S .free) h (testsOf S h search) k b subleaf choice → After (S .free) h (testsOf S h search) k (b + 1) subleaf′ choice′
 
 -- the first `done` leaves have their least choices
@@ -72,7 +73,7 @@ pub record LeafPlanned (n h : ℕ) (R : Problem ℕ) (k b : ℕ) (r : Bool) (pla
   pub entries : After n h R k b subleaf choice → After n h R k (b + 1) subleaf′ choice′
   pub none : T (not r) → (m : ℕ) → T (not (solvable (least n) h (numbered n (withoutFirst m R))))
 
--- all leaves gone through, if each has a choice; if not, the problem is not solvable
+-- all leaves planned, if each has a choice; if not, the problem is not solvable
 pub record Filled (n h : ℕ) (R : Problem ℕ) (k : ℕ) (r : Bool) (plain subleaf choice : List ℕ) : Type 0 where
   pub leaves : T r → Plains n h R (2 ^ h) plain
   pub entries : T r → After n h R k (2 ^ h) subleaf choice
@@ -87,9 +88,10 @@ pub record Made (n h : ℕ) (R : Problem ℕ) (k : ℕ) (plan : Plan) : Type 0 w
   pub sub-leaves : (j : ℕ) → j < R .count → getD (plan .subleaf) j 0 ≡ leafFor n h R j * 2 ^ k + rankOf n h R j
   pub choices : (j : ℕ) → j < R .count → getD (plan .choice) j 0 ≡ specialChoice n h R j (leafFor n h R j)
 
--- what a search gives: whether its problem is solvable, whether it is without the extra disequation, and if it is, the plan of the
--- problem's fixed solution
+-- what a search gives: whether its problem is solvable, whether it is without the extra disequation, and the plan of the problem's fixed
+-- solution if it is, `noPlan` if not
 pub record SolvedAs (S : Stored) (h : ℕ) (search : Search) (r : Solved) : Type 0 where
   pub found : r .found ≡ solvable (least (S .free)) h (numbered (S .free) (testsOf S h search))
   pub plainly : r .plainly ≡ solvable (least (S .free)) h (numbered (S .free) (withoutFirst (extraOf search) (testsOf S h search)))
   pub made : T (r .found) → Made (S .free) h (testsOf S h search) (c (roomOf search (getD (S .counts) 1 0))) (r .plan)
+  pub no-plan : T (not (r .found)) → r .plan ≡ noPlan

@@ -7,42 +7,23 @@ use native.Mathlib.Nat.{add-zero}
 use native.Mathlib.Decide.{decLt}
 use native.Mathlib.Numerals.{add-one}
 use native.Mathlib.Omega.{arith}
-use lib.Dec.{T, T-not, ltb, eqb}
+use lib.Dec.{ltb, eqb}
 use lib.ListN.{length, getD, set, length-set}
 use lib.Seq.{getD-set-same, getD-set-other}
 use borrow.Author.Tests.{lt-ltb, le-ltb, eq-eqb, ne-eqb}
-use Rattle.shares.specs.Below.{someBelow, firstBelow, countBelow, one}
-use Rattle.shares.specs.BelowLaws.{first-ext, some-found, first-passes}
-use Rattle.shares.specs.Blocks.{leaf-lt}
+use Rattle.shares.specs.Below.{firstBelow, countBelow, one}
+use Rattle.shares.specs.BelowLaws.{first-ext}
+use Rattle.shares.specs.BlockLaws.{leaf-lt}
 use Rattle.leaves.specs.Choices.{least}
 use Rattle.leaves.specs.Problem.{Problem}
 use Rattle.leaves.specs.ProblemLaws.{rank-lt}
-use Rattle.words.specs.Clause.{Clauses}
-use Rattle.words.specs.Sets.{wordCount, Periodic}
-use Rattle.words.specs.GatherLaws.{periodic-some, periodic-first}
+use Rattle.words.specs.Choices.{wordCount, Periodic}
+use Rattle.sets.specs.GatherLaws.{words-found, words-none}
 use Rattle.plans.specs.Numbers.{numbered}
 use Rattle.plans.specs.Plan.{noSubLeaf, leafFor, rankOf, specialChoice, subLeafAfter, choiceAfter}
-use Rattle.plans.specs.PlanLaws.{found-some, none-found, found-here, not-here, sub-leaf-there, sub-leaf-none, choice-there, choice-none, rank-here}
+use Rattle.plans.specs.PlanLaws.{found-here, not-here, sub-leaf-there, sub-leaf-none, choice-there, choice-none, rank-here}
 use Rattle.plans.specs.Tests.{takes, Assigned}
 use Rattle.plans.specs.Entries.{AtLeaf, HasRoom, Entries, After}
-
--- ---- a search by words finds what a search of the numbers below 2 ^ n finds
-
-module _ (n : ℕ) (p : ℕ → Bool) (per : Periodic n p) where
-  pub words-found : firstBelow (64 * wordCount n) p < 64 * wordCount n → (firstBelow (2 ^ n) p < 2 ^ n) × (firstBelow (64 * wordCount n) p ≡ firstBelow (2 ^ n) p)
-  words-found l =
-      let t : T (someBelow (2 ^ n) p) = rw (periodic-some n p per) at (found-some (64 * wordCount n) p l) in
-      let (i, u, v) = some-found (2 ^ n) p t in
-      (first-passes (2 ^ n) p i u v .0, periodic-first n p t)
-
-  pub words-none : 64 * wordCount n ≤ firstBelow (64 * wordCount n) p → 2 ^ n ≤ firstBelow (2 ^ n) p
-  words-none l = go (decLt (firstBelow (2 ^ n) p) (2 ^ n))
-    where
-      go : Dec (firstBelow (2 ^ n) p < 2 ^ n) → 2 ^ n ≤ firstBelow (2 ^ n) p
-      go (no m) = omega arith
-      go (yes m) =
-          absurd (T-not (someBelow (64 * wordCount n) p) (none-found (64 * wordCount n) p l)
-          (rw (periodic-some n p per) (found-some (2 ^ n) p m)))
 
 module _ (n h : ℕ) (R : Problem ℕ) (k : ℕ) (F : HasRoom h k R) (b : ℕ) (bl : b < 2 ^ h) (allowed : ℕ → Bool) (special : ℕ → ℕ → Bool)
     (L : AtLeaf n b R allowed special) where
@@ -195,7 +176,3 @@ assigned-lengths {subleaf} {choice} {e} {next} {limit} {x} P = (ap length (P .su
     go : (t : Bool) (l : List ℕ) (v : ℕ) → length (cond t (set l e v) l) ≡ length l
     go true l v = length-set l e v
     go false l v = refl
-
--- fewer clauses of a section
-pub clauses-fewer : {clauses : List ℕ} {start count k : ℕ} → Clauses clauses start count → k ≤ count → Clauses clauses start k
-clauses-fewer C l = record { room = omega (arith, C .room); terms = λ i m. C .terms i (omega arith) }

@@ -2,7 +2,7 @@
 use mathlib.Core.Path.{_≡_, sym, ap, _∙_}
 use mathlib.Core.Bool.{Bool, true, false}
 use mathlib.Core.List.{List}
-use Prim.Native.Nat.{ℕ, _+_, _-_, _*_, _^_, _≤_, _<_}
+use Prim.Native.Nat.{ℕ, _+_, _*_, _^_, _≤_, _<_}
 use native.Mathlib.Decide.{decLt}
 use native.Mathlib.Omega.{arith}
 use lib.Dec.{T, not-T}
@@ -13,18 +13,17 @@ use borrow.Author.Tests.{eq-eqb, ne-eqb}
 use Rattle.shares.specs.Test.{is-false}
 use Rattle.shares.specs.Below.{everyBelow, firstBelow}
 use Rattle.shares.specs.BelowLaws.{every-at, every-intro}
-use Rattle.shares.specs.Blocks.{leaf-lt}
-use Rattle.leaves.specs.Heights.{c}
-use Rattle.leaves.specs.HeightLaws.{c-enough, c-least}
+use Rattle.shares.specs.BlockLaws.{leaf-lt}
 use Rattle.leaves.specs.Choices.{least}
 use Rattle.leaves.specs.Problem.{Problem}
-use Rattle.words.specs.Sets.{wordCount}
+use Rattle.words.specs.Choices.{wordCount}
 use Rattle.plans.specs.Numbers.{withoutFirst}
 use Rattle.plans.specs.Plan.{noSubLeaf, hasSubLeaf, plainChoice}
 use Rattle.plans.specs.PlanLaws.{sub-leaf-none, choice-none, unsolvable-plain}
-use Rattle.plans.specs.Tests.{Stored, leafValues, allowedIn, testsOf}
+use Rattle.questions.specs.Stored.{Stored}
+use Rattle.plans.specs.Tests.{leafValues, allowedIn, testsOf}
 use Rattle.plans.specs.Entries.{HasRoom, After, Visited, Plains, LeafPlanned, Filled}
-use Rattle.plans.specs.EntryLaws.{words-found, words-none}
+use Rattle.sets.specs.GatherLaws.{words-found, words-none}
 use Rattle.plans.specs.LeafLaws.{allowed-periodic}
 use Rattle.plans.specs.declared.Search.{Search}
 
@@ -67,9 +66,9 @@ module _ (S : Stored) (h : ℕ) (search : Search) where
               let q : i ≡ b = omega arith in
               ap (λ j. getD (set plain b x) j 0) q ∙ getD-set-same plain b x 0 room ∙ e ∙ here .1 ∙ ap (plainChoice n h R) (sym q)
 
-  -- a leaf that was gone through, and has a choice
-  module _ (k b first values x : ℕ) (plain subleaf choice subleaf′ choice′ : List ℕ) (F : HasRoom h k R) (bl : b < 2 ^ h) (at : values ≡ leafValues S h b)
-      (ft : first ≡ b * 2 ^ k) (Vi : Visited S search values first subleaf choice x subleaf′ choice′) where
+  -- a leaf that was visited, and has a choice
+  module _ (k b base values x : ℕ) (plain subleaf choice subleaf′ choice′ : List ℕ) (F : HasRoom h k R) (bl : b < 2 ^ h) (at : values ≡ leafValues S h b)
+      (ft : base ≡ b * 2 ^ k) (Vi : Visited S search values base subleaf choice x subleaf′ choice′) where
     least-is : x ≡ firstBelow (64 * wordCount n) (R .pos b)
     least-is = Vi .least ∙ ap (λ y. firstBelow (64 * wordCount n) (allowedIn S search y)) at
 
@@ -107,21 +106,6 @@ module _ (S : Stored) (h : ℕ) (search : Search) where
   filled-all k b plain subleaf choice e P A = record { leaves = λ _. rw (← e) P; entries = λ _. rw (← e) A; none = λ f. absurd f }
 
 -- ---- numbers
-
--- c n is the least k with n ≤ 2 ^ k
-pub c-most : (n k : ℕ) → n ≤ 2 ^ k → c n ≤ k
-c-most n k l = go (decLt k (c n))
-  where
-    go : Dec (k < c n) → c n ≤ k
-    go (yes m) = absurd (omega (arith, c-least n k m))
-    go (no m) = omega arith
-
-pub c-more : (n k : ℕ) → 2 ^ k < n → k < c n
-c-more n k l = go (decLt k (c n))
-  where
-    go : Dec (k < c n) → k < c n
-    go (yes m) = m
-    go (no m) = let p : 2 ^ c n ≤ 2 ^ k = pow-mono (omega arith) in absurd (omega (arith, c-enough n))
 
 -- constants have 32 leaves, and rows 1,024
 pub leaves-le : {h : ℕ} → h ≤ 5 → 2 ^ h ≤ 32

@@ -8,15 +8,15 @@ use native.Mathlib.Omega.{arith}
 use lib.Dec.{ltb}
 use lib.ListN.{getD}
 use borrow.Author.Tests.{ltb-true}
-use Rattle.shares.specs.Constant.{bit, constantLevels}
-use Rattle.shares.specs.Blocks.{firstOf}
+use Rattle.shares.specs.Constant.{bit}
 use Rattle.shares.specs.Below.{firstBelow}
 use Rattle.shares.specs.BelowLaws.{first-ext}
-use Rattle.shares.specs.BitLaws.{bits-same, number-lt, bit-number}
-use Rattle.words.specs.Sets.{wordCount, inSet, Words, allPass, clauseFails, allPassBut, someOwn, Periodic}
+use Rattle.sets.specs.Sets.{inSet, Words}
+use Rattle.words.specs.Choices.{wordCount, allPass, clauseFails, allPassBut, someOwn, Periodic}
 use Rattle.words.specs.TermLaws.{pass-mod, fails-mod}
-use Rattle.words.specs.SearchLaws.{words-set}
-use Rattle.plans.specs.Tests.{Stored, leafValues, firstMeets, secondMeets, secondDiffers, specialIn, extraOf, allowedIn, testsOf}
+use Rattle.questions.specs.Stored.{Stored}
+use Rattle.sets.specs.SearchLaws.{words-set}
+use Rattle.plans.specs.Tests.{leafValues, firstMeets, secondMeets, secondDiffers, specialIn, extraOf, allowedIn, testsOf}
 use Rattle.plans.specs.Entries.{AtLeaf, LeafSets, After, ForLeaf, Visited}
 use Rattle.plans.specs.declared.Search.{Search}
 use Rattle.plans.specs.declared.Search.the-variants.{First, Unmet, Missed}
@@ -69,14 +69,6 @@ module _ (S : Stored) (search : Search) (h b : ℕ) (allowed other : ℕ → Boo
           ≡ cond v (not (secondMeets S (leafValues S h b) (z % 2 ^ S .free))) (clauseFails (S .clauses) (256 + 4 * (e - extraOf search)) (S .free) 0 (leafValues S h b) (z % 2 ^ S .free))
       periodic true e z = ap not (meets-periodic S (leafValues S h b) z)
       periodic false e z = fails-periodic (S .clauses) (256 + 4 * (e - extraOf search)) (S .free) (leafValues S h b) z
-
--- ---- the values of the constants
-
--- a word whose bits are the values at a leaf is their number
-pub leaf-is : (S : Stored) (h b r : ℕ) → r < 2 ^ 64
-    → ((i : ℕ) → bit r i ≡ (ltb i (S .defined) && bit (getD (S .constants) i 0) (firstOf h constantLevels b))) → r ≡ leafValues S h b
-unfolding leafValues
-leaf-is S h b r small bits = bits-same 64 r _ small (number-lt 64 _) (λ i l. bits i ∙ sym (bit-number 64 _ i l))
 
 -- ---- what filling the sets gives
 
@@ -136,14 +128,14 @@ module _ (S : Stored) (values : ℕ) where
       meets = λ l. absurd (omega arith);
     }
 
-  -- a leaf whose entries were gone through
-  pub visited : (search : Search) (first extra entries count : ℕ) (subleaf choice subleaf′ choice′ set other : List ℕ) (r : ℕ)
+  -- a leaf whose entries have their sub-leaves
+  pub visited : (search : Search) (base extra entries count : ℕ) (subleaf choice subleaf′ choice′ set other : List ℕ) (r : ℕ)
       → extra ≡ extraOf search → entries ≡ extraOf search + getD (S .counts) 1 0 → count ≡ wordCount (S .free)
       → LeafSets S search values (inSet set) (inSet other)
-      → ForLeaf (S .free) count entries first (inSet set) (specialIn (S .clauses) (S .free) values (inSet other) extra)
+      → ForLeaf (S .free) count entries base (inSet set) (specialIn (S .clauses) (S .free) values (inSet other) extra)
       (λ h k b R. After (S .free) h R k b subleaf choice → After (S .free) h R k (b + 1) subleaf′ choice′)
-      → r ≡ firstBelow (64 * count) (inSet set) → Visited S search values first subleaf choice r subleaf′ choice′
-  visited search first extra entries count subleaf choice subleaf′ choice′ set other r x e n L all f = record {
+      → r ≡ firstBelow (64 * count) (inSet set) → Visited S search values base subleaf choice r subleaf′ choice′
+  visited search base extra entries count subleaf choice subleaf′ choice′ set other r x e n L all f = record {
     least = f ∙ ap (λ w. firstBelow (64 * w) (inSet set)) n ∙ first-ext (64 * wordCount (S .free)) _ _ (L .allows);
     entries = λ h k b F bl at ft A.
         all h k b (testsOf S h search) F bl (sym e) n ft

@@ -1,12 +1,10 @@
 pub mod Numbers
-pub mod NumberLaws
 pub mod Plan
 pub mod PlanLaws
 pub mod Tests
 pub mod Entries
 pub mod EntryLaws
 pub mod AssignedLaws
-pub mod StoredLaws
 pub mod LeafLaws
 pub mod FillLaws
 pub mod Shown

@@ -1,7 +1,8 @@
 -- A problem at the leaves whose choices are numbers: n values as the digits of a number below 2 ^ n, the first the highest. Assumes nothing.
 use mathlib.Core.Bool.{Bool}
 use Prim.Native.Nat.{ℕ, _+_, _-_}
-use Rattle.leaves.specs.Choices.{Row, value}
+use Rattle.leaves.specs.Choices.{Row}
+use Rattle.leaves.specs.RowNumbers.{value}
 use Rattle.leaves.specs.Problem.{Problem}
 
 -- the problem of rows of n values that tests of their numbers pose

@@ -1,13 +1,19 @@
--- The entries of a plan while it is made, leaf by leaf: where each disequation stands, and with which choice. Assumes nothing.
+-- The entries of a plan while it is made, leaf by leaf: where each disequation stands, and with which choice; and the plan where there is
+-- no solution. Assumes nothing.
 use mathlib.Core.Bool.{Bool, not, cond, _&&_}
 use mathlib.Core.List.{List}
 use Prim.Native.Nat.{ℕ, _+_, _*_, _^_}
 use lib.Dec.{ltb, eqb}
-use lib.ListN.{getD}
+use lib.ListN.{getD, replicate}
 use Rattle.shares.specs.Below.{firstBelow}
 use Rattle.leaves.specs.Choices.{least}
 use Rattle.leaves.specs.Problem.{Problem, blockFor, rank}
+use Rattle.plans.specs.declared.Plan.{Plan}
 use Rattle.plans.specs.Numbers.{numbered}
+
+-- the plan that is given where no solution is found: no leaf, no entry
+unfoldable pub noPlan : Plan
+noPlan = record { low = 0; high = 0; plain = replicate 64 0; count = 0; subleaf = replicate 32 0; choice = replicate 32 0 }
 
 -- the mark of an entry that has no sub-leaf yet: past every sub-leaf
 abbrev pub noSubLeaf : ℕ

@@ -4,24 +4,16 @@ use mathlib.Core.Bool.{Bool, not, _&&_}
 use mathlib.Core.Logic.{_⊎_, inl, inr}
 use Prim.Native.Nat.{ℕ, _+_, _*_, _^_, _≤_, _<_}
 use native.Mathlib.Nat.{eq-or-lt-of-le, le-antisymm}
-use native.Mathlib.Omega.{arith}
 use lib.Dec.{T, T-not, not-T, eqb}
 use borrow.Author.Tests.{lt-ltb, le-ltb}
 use Rattle.shares.specs.Test.{and-intro, and-left, and-right}
 use Rattle.shares.specs.Below.{everyBelow, someBelow, firstBelow, countBelow}
-use Rattle.shares.specs.BelowLaws.{some-intro, some-found, first-min, first-below, first-passes, every-at, every-intro}
+use Rattle.shares.specs.BelowLaws.{first-min, first-below, first-some, first-not-some, every-at, every-intro}
 use Rattle.leaves.specs.Choices.{least}
 use Rattle.leaves.specs.Problem.{Problem, plainAt, specialAt, solvable, blockFor, rank}
 use Rattle.plans.specs.Numbers.{numbered}
-use Rattle.plans.specs.NumberLaws.{some-number}
+use Rattle.leaves.specs.ChoiceLaws.{some-number}
 use Rattle.plans.specs.Plan.{noSubLeaf, leafFor, rankOf, plainChoice, specialChoice, subLeafAfter, choiceAfter}
-
--- a search below a bound finds something exactly if something passes
-pub found-some : (m : ℕ) (p : ℕ → Bool) → firstBelow m p < m → T (someBelow m p)
-found-some m p l = some-intro m p (firstBelow m p) l (first-below m p l)
-
-pub none-found : (m : ℕ) (p : ℕ → Bool) → m ≤ firstBelow m p → T (not (someBelow m p))
-none-found m p l = not-T (someBelow m p) (λ t. let (i, u, v) = some-found m p t in omega (arith, first-passes m p i u v .0))
 
 module _ (n h : ℕ) (R : Problem ℕ) where
   -- the tests at a leaf as searches of numbers
@@ -41,7 +33,7 @@ module _ (n h : ℕ) (R : Problem ℕ) where
   unfolding blockFor
   found-here j b l m f =
       le-antisymm
-      (first-min (2 ^ h) (specialAt (least n) (numbered n R) j) b (rw (special-is j b) (found-some (2 ^ n) (λ x. R .pos b x && R .dis j b x) f)))
+      (first-min (2 ^ h) (specialAt (least n) (numbered n R) j) b (rw (special-is j b) (first-some (2 ^ n) (λ x. R .pos b x && R .dis j b x) f)))
       m
 
   -- it finds none: it stands later, or nowhere
@@ -57,7 +49,7 @@ module _ (n h : ℕ) (R : Problem ℕ) where
       go (inr k) = k
       go (inl e) =
           let t : T (p b) = rw (← e) at (first-below (2 ^ h) p (rw (← e) l)) in
-          absurd (T-not (someBelow (2 ^ n) (λ x. R .pos b x && R .dis j b x)) (none-found (2 ^ n) (λ x. R .pos b x && R .dis j b x) f) (rw (special-is j b) at t))
+          absurd (T-not (someBelow (2 ^ n) (λ x. R .pos b x && R .dis j b x)) (first-not-some (2 ^ n) (λ x. R .pos b x && R .dis j b x) f) (rw (special-is j b) at t))
 
   -- ---- entries
 
@@ -93,20 +85,20 @@ module _ (n h : ℕ) (R : Problem ℕ) where
   unfolding solvable blockFor
   solvable-of f g =
       and-intro (everyBelow (2 ^ h) (plainAt (least n) (numbered n R))) _
-      (every-intro (2 ^ h) _ (λ b l. rw (plain-is b) (found-some (2 ^ n) (R .pos b) (f b l))))
-      (every-intro (R .count) _ (λ j l. found-some (2 ^ h) (specialAt (least n) (numbered n R) j) (g j l)))
+      (every-intro (2 ^ h) _ (λ b l. rw (plain-is b) (first-some (2 ^ n) (R .pos b) (f b l))))
+      (every-intro (R .count) _ (λ j l. first-some (2 ^ h) (specialAt (least n) (numbered n R) j) (g j l)))
 
   -- one leaf has none, or one disequation: it is not
   pub unsolvable-plain : (b : ℕ) → b < 2 ^ h → 2 ^ n ≤ plainChoice n h R b → T (not (solvable (least n) h (numbered n R)))
   unfolding solvable
   unsolvable-plain b l f =
       not-T (solvable (least n) h (numbered n R)) (λ t.
-      T-not (someBelow (2 ^ n) (R .pos b)) (none-found (2 ^ n) (R .pos b) f)
+      T-not (someBelow (2 ^ n) (R .pos b)) (first-not-some (2 ^ n) (R .pos b) f)
       (rw (plain-is b) at (every-at (2 ^ h) (plainAt (least n) (numbered n R)) (and-left (everyBelow (2 ^ h) (plainAt (least n) (numbered n R))) _ t) b l)))
 
   pub unsolvable-special : (j : ℕ) → j < R .count → 2 ^ h ≤ leafFor n h R j → T (not (solvable (least n) h (numbered n R)))
   unfolding solvable blockFor
   unsolvable-special j l f =
       not-T (solvable (least n) h (numbered n R)) (λ t.
-      T-not (someBelow (2 ^ h) (specialAt (least n) (numbered n R) j)) (none-found (2 ^ h) (specialAt (least n) (numbered n R) j) f)
+      T-not (someBelow (2 ^ h) (specialAt (least n) (numbered n R) j)) (first-not-some (2 ^ h) (specialAt (least n) (numbered n R) j) f)
       (every-at (R .count) (λ j. someBelow (2 ^ h) (specialAt (least n) (numbered n R) j)) (and-right (everyBelow (2 ^ h) (plainAt (least n) (numbered n R))) _ t) j l))

@@ -11,14 +11,16 @@ use borrow.Author.Tests.{lt-ltb, le-ltb, eq-eqb, ne-eqb}
 use Rattle.shares.specs.Test.{and-left, and-right}
 use Rattle.shares.specs.Below.{someBelow}
 use Rattle.shares.specs.BelowLaws.{first-below}
-use Rattle.shares.specs.Blocks.{blockOf, block-split}
-use Rattle.leaves.specs.Choices.{least, value}
+use Rattle.shares.specs.Blocks.{blockOf}
+use Rattle.shares.specs.BlockLaws.{block-split}
+use Rattle.leaves.specs.Choices.{least}
+use Rattle.leaves.specs.RowNumbers.{value}
 use Rattle.leaves.specs.Problem.{Problem, solvable, disequationAt, choiceAt, candidate}
 use Rattle.leaves.specs.ProblemLaws.{at-block, rank-lt, plain-passes, block-passes}
 use Rattle.plans.specs.declared.Plan.{Plan}
 use Rattle.plans.specs.Shown.{planChoiceAfter, planChoice}
 use Rattle.plans.specs.Numbers.{numbered}
-use Rattle.plans.specs.NumberLaws.{pick-number}
+use Rattle.leaves.specs.ChoiceLaws.{pick-number}
 use Rattle.plans.specs.Plan.{leafFor, rankOf, plainChoice, specialChoice}
 use Rattle.plans.specs.PlanLaws.{plain-is, special-is}
 use Rattle.plans.specs.Entries.{Made}

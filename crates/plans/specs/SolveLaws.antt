@@ -12,21 +12,22 @@ use lib.ListN.{getD}
 use Rattle.shares.specs.Test.{is-true, is-false, holds}
 use Rattle.shares.specs.Below.{everyBelow}
 use Rattle.shares.specs.BelowLaws.{Below, every-at, every-intro, every-or}
-use Rattle.shares.specs.Blocks.{leaf-lt}
+use Rattle.shares.specs.BlockLaws.{leaf-lt}
 use Rattle.leaves.specs.Heights.{c}
-use Rattle.leaves.specs.HeightLaws.{c-enough}
+use Rattle.leaves.specs.HeightLaws.{c-enough, c-most}
 use Rattle.leaves.specs.Choices.{least}
 use Rattle.leaves.specs.Problem.{Problem, blockFor, specialAt, solvable}
 use Rattle.leaves.specs.ProblemLaws.{rank-lt}
 use borrow.Author.Tests.{le-ltb}
-use Rattle.words.specs.Sets.{clauseFails}
+use Rattle.words.specs.Choices.{clauseFails}
 use Rattle.plans.specs.declared.Plan.{Plan}
 use Rattle.plans.specs.Numbers.{numbered, withoutFirst}
-use Rattle.plans.specs.Plan.{noSubLeaf, hasSubLeaf, leafFor, rankOf}
+use Rattle.plans.specs.Plan.{noSubLeaf, hasSubLeaf, leafFor, rankOf, noPlan}
 use Rattle.plans.specs.PlanLaws.{sub-leaf-there, sub-leaf-none, choice-there, solvable-of, unsolvable-special}
-use Rattle.plans.specs.Tests.{Stored, leafValues, firstMeets, specialIn, extraOf, roomOf, testsOf}
+use Rattle.questions.specs.Stored.{Stored}
+use Rattle.plans.specs.Tests.{leafValues, firstMeets, specialIn, extraOf, roomOf, testsOf}
 use Rattle.plans.specs.Entries.{HasRoom, After, Plains, Filled, Made, SolvedAs}
-use Rattle.plans.specs.FillLaws.{c-most, assigned-not}
+use Rattle.plans.specs.FillLaws.{assigned-not}
 use Rattle.plans.specs.declared.Search.{Search}
 use Rattle.plans.specs.declared.Search.the-variants.{First, Unmet, Missed}
 
@@ -124,23 +125,25 @@ module _ (S : Stored) (h : ℕ) (search : Search) (k extra d : ℕ) (F : HasRoom
   count-is : testsOf S h search .count ≡ extra + d
   count-is = sym (ap₂ _+_ extra-is d-is)
 
-  pub solved : (filled found plainly : Bool) → Filled (S .free) h (testsOf S h search) k filled plain subleaf choice
+  pub solved : (filled found plainly : Bool) (plan : Plan) → (T found → plan ≡ planOf) → (T (not found) → plan ≡ noPlan) → Filled (S .free) h (testsOf S h search) k filled plain subleaf choice
       → found ≡ (filled && everyBelow (extra + d) (λ j. hasSubLeaf subleaf (0 + j))) → plainly ≡ (filled && everyBelow d (λ j. hasSubLeaf subleaf (extra + j)))
-      → SolvedAs S h search (record { found = found; plainly = plainly; plan = planOf })
+      → SolvedAs S h search (record { found = found; plainly = plainly; plan = plan })
   -- some leaf has no choice
-  solved false found plainly f u v = record {
+  solved false found plainly plan there none f u v = record {
     found = u ∙ sym (is-false _ (subst (λ R. T (not (solvable (least (S .free)) h (numbered (S .free) R)))) (without-none (testsOf S h search)) (f .none tt 0)));
     plainly = v ∙ sym (is-false _ (f .none tt (extraOf search)));
     made = λ t. absurd (rw u at t);
+    no-plan = none;
   }
   -- all have one
-  solved true found plainly f u v = record {
+  solved true found plainly plan there none f u v = record {
     found = u ∙ part-solvable (S .free) h (testsOf S h search) k planOf A P F 0 (extra + d) (rw (zero-add (extra + d)) count-is) ∙ ap (λ R. solvable (least (S .free)) h (numbered (S .free) R)) (without-none (testsOf S h search));
     plainly =
         v
         ∙ subst (λ m. everyBelow d (λ j. hasSubLeaf subleaf (extra + j)) ≡ solvable (least (S .free)) h (numbered (S .free) (withoutFirst m (testsOf S h search)))) extra-is
         (part-solvable (S .free) h (testsOf S h search) k planOf A P F extra d count-is);
-    made = λ t. rw (← room) (made (S .free) h (testsOf S h search) k planOf A P (λ j l. has-sub-leaf subleaf j (rw (zero-add j) at (every-at (extra + d) (λ j. hasSubLeaf subleaf (0 + j)) (rw u at t) j (rw (← count-is) l)))) refl refl (sym count-is));
+    made = λ t. rw (← room, there t) (made (S .free) h (testsOf S h search) k planOf A P (λ j l. has-sub-leaf subleaf j (rw (zero-add j) at (every-at (extra + d) (λ j. hasSubLeaf subleaf (0 + j)) (rw u at t) j (rw (← count-is) l)))) refl refl (sym count-is));
+    no-plan = none;
   }
     where
       A : After (S .free) h (testsOf S h search) k (2 ^ h) subleaf choice

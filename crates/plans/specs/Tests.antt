@@ -6,29 +6,15 @@ use Prim.Native.Nat.{ℕ, _+_, _-_, _*_, _%_, _^_, _<_, _≤_}
 use lib.Dec.{ltb, eqb}
 use lib.ListN.{getD, set}
 use Rattle.shares.specs.Below.{one}
-use Rattle.shares.specs.Blocks.{firstOf}
-use Rattle.shares.specs.Constant.{constantLevels, bit, numberOf}
 use Rattle.leaves.specs.Problem.{Problem}
 use Rattle.words.specs.Clause.{Clauses}
-use Rattle.words.specs.Sets.{allPass, clauseFails, allPassBut, someOwn}
+use Rattle.questions.specs.Stored.{Stored}
+use Rattle.words.specs.Choices.{valuesAt, allPass, clauseFails, allPassBut, someOwn}
 use Rattle.plans.specs.Plan.{noSubLeaf}
 use Rattle.plans.specs.declared.Search.{Search}
 use Rattle.plans.specs.declared.Search.the-variants.{First, Unmet, Missed}
 
--- what is read of a question: its clauses and constants as they are stored, how many there are, and how many variables
-pub record Stored : Type 0 where
-  pub clauses : List ℕ
-  pub counts : List ℕ
-  pub constants : List ℕ
-  pub defined : ℕ
-  pub free : ℕ
-  pub own : ℕ
-
--- the same from its parts
-abbrev pub stored : List ℕ → List ℕ → List ℕ → ℕ → ℕ → ℕ → Stored
-stored clauses counts constants defined free own = record { clauses = clauses; counts = counts; constants = constants; defined = defined; free = free; own = own }
-
--- its clauses can be read
+-- the clauses of a stored question can be read
 pub record Readable (clauses counts : List ℕ) (n m : ℕ) : Type 0 where
   pub variables : n + m ≤ 12
   pub first-positive : Clauses clauses 0 (getD counts 0 0)
@@ -38,8 +24,8 @@ pub record Readable (clauses counts : List ℕ) (n m : ℕ) : Type 0 where
   pub few : (getD counts 1 0 ≤ 31) × (getD counts 3 0 ≤ 31)
 
 -- the values of the constants at leaf b of 2 ^ h, constant i at bit i
-unfoldable pub leafValues : Stored → ℕ → ℕ → ℕ
-leafValues S h b = numberOf 64 (λ i. ltb i (S .defined) && bit (getD (S .constants) i 0) (firstOf h constantLevels b))
+abbrev pub leafValues : Stored → ℕ → ℕ → ℕ
+leafValues S h b = valuesAt (S .constants) (S .defined) h b
 
 -- choice x of the free variables meets the first system's positive clauses at a leaf with these values
 abbrev pub firstMeets : Stored → ℕ → ℕ → Bool

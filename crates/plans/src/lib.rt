@@ -8,10 +8,12 @@ ghost use Rattle.shares.specs.Below.{everyBelow, firstBelow};
 ghost use Rattle.shares.specs.Constant.{bit};
 ghost use Rattle.leaves.specs.Heights.{c};
 ghost use Rattle.words.specs.Clause.{Clauses};
-ghost use Rattle.words.specs.Sets.{wordCount, inSet};
-ghost use Rattle.plans.specs.Tests.{stored, Readable, leafValues, secondDiffers, specialIn, extraOf, roomOf, Named, testsOf, Assigned};
+ghost use Rattle.questions.specs.Stored.{stored};
+ghost use Rattle.words.specs.Choices.{wordCount};
+ghost use Rattle.sets.specs.Sets.{inSet};
+ghost use Rattle.plans.specs.Tests.{Readable, secondDiffers, specialIn, extraOf, roomOf, Named, testsOf, Assigned};
 ghost use Rattle.plans.specs.Entries.{LeafSets, ForLeaf, After, Visited, LeafPlanned, Filled, SolvedAs};
-ghost use Rattle.plans.specs.Plan.{hasSubLeaf};
+ghost use Rattle.plans.specs.Plan.{hasSubLeaf, noPlan};
 
 // What is searched for.
 pub enum Search {
@@ -42,12 +44,12 @@ fn special_word(
     ensures { λ r. ⌜ ((i : ℕ) → i < 64 → bit r i ≡ (inSet (now (set .entry)) (64 * w + i) && specialIn (now (clauses .entry)) free values (inSet (now (other .entry))) extra e (64 * w + i))) ⌝ }
 {
     if e < extra {
-        return words::outside_word(set, other, w);
+        return sets::outside_word(set, other, w);
     }
-    words::failing_word(set, clauses, 256 + 4 * (e - extra), free, values, w)
+    sets::failing_word(set, clauses, 256 + 4 * (e - extra), free, values, w)
 }
 
-// The least choice of the set in which disequation e holds, or 64 * count.
+// The least choice of the set in which disequation e holds, or 64 * words.
 fn least_special(
     clauses: &[u8; 768],
     free: usize,
@@ -55,22 +57,22 @@ fn least_special(
     extra: usize,
     set: &[u64; 64],
     other: &[u64; 64],
-    count: usize,
+    words: usize,
     e: usize,
 ) -> usize
-    requires { ⌜ (count ≤ 64) × (free ≤ 12) × (e < 32) ⌝ }
+    requires { ⌜ (words ≤ 64) × (free ≤ 12) × (e < 32) ⌝ }
     requires { ⌜ Clauses (now clauses) 256 (e + 1 - extra) ⌝ }
-    ensures { λ r. ⌜ r ≡ firstBelow (64 * count) (λ z. inSet (now (set .entry)) z && specialIn (now (clauses .entry)) free values (inSet (now (other .entry))) extra e z) ⌝ }
+    ensures { λ r. ⌜ r ≡ firstBelow (64 * words) (λ z. inSet (now (set .entry)) z && specialIn (now (clauses .entry)) free values (inSet (now (other .entry))) extra e z) ⌝ }
 {
     let mut w: usize = 0;
-    while w < count {
+    while w < words {
         let x = special_word(clauses, free, values, extra, set, other, e, w);
         if x != 0 {
             return 64 * w + words::lowest(x);
         }
         w += 1;
     }
-    64 * count
+    64 * words
 }
 
 // Gives disequation e a sub-leaf and a choice, if it has none yet and the leaf has a choice for it. The result is the next free sub-leaf.
@@ -81,21 +83,21 @@ fn assign_one(
     extra: usize,
     set: &[u64; 64],
     other: &[u64; 64],
-    count: usize,
+    words: usize,
     e: usize,
     next: usize,
     subleaf: &mut [u16],
     choice: &mut [u16],
 ) -> usize
-    requires { ⌜ (count ≤ 64) × (free ≤ 12) × (e < 32) × (next < 2048) × (length (now subleaf) ≡ 32) × (length (now choice) ≡ 32) ⌝ }
+    requires { ⌜ (words ≤ 64) × (free ≤ 12) × (e < 32) × (next < 2048) × (length (now subleaf) ≡ 32) × (length (now choice) ≡ 32) ⌝ }
     requires { ⌜ Clauses (now clauses) 256 (e + 1 - extra) ⌝ }
-    ensures { λ r. ⌜ Assigned (now (subleaf .entry)) (now (choice .entry)) e next (64 * count) (firstBelow (64 * count) (λ z. inSet (now (set .entry)) z && specialIn (now (clauses .entry)) free values (inSet (now (other .entry))) extra e z)) r (now (subleaf .exit)) (now (choice .exit)) ⌝ }
+    ensures { λ r. ⌜ Assigned (now (subleaf .entry)) (now (choice .entry)) e next (64 * words) (firstBelow (64 * words) (λ z. inSet (now (set .entry)) z && specialIn (now (clauses .entry)) free values (inSet (now (other .entry))) extra e z)) r (now (subleaf .exit)) (now (choice .exit)) ⌝ }
 {
     if subleaf[e] != NO_SUB_LEAF {
         return next;
     }
-    let x = least_special(clauses, free, values, extra, set, other, count, e);
-    if x < 64 * count {
+    let x = least_special(clauses, free, values, extra, set, other, words, e);
+    if x < 64 * words {
         subleaf[e] = next as u16;
         choice[e] = x as u16;
         return next + 1;
@@ -103,7 +105,7 @@ fn assign_one(
     next
 }
 
-// Goes through the entries at one leaf, whose first sub-leaf is `first`.
+// Gives sub-leaves and choices to the entries at one leaf, whose sub-leaves begin at `base`.
 fn assign_all(
     clauses: &[u8; 768],
     free: usize,
@@ -111,17 +113,17 @@ fn assign_all(
     extra: usize,
     set: &[u64; 64],
     other: &[u64; 64],
-    count: usize,
+    words: usize,
     entries: usize,
-    first: usize,
+    base: usize,
     subleaf: &mut [u16],
     choice: &mut [u16],
 )
-    requires { ⌜ (count ≤ 64) × (free ≤ 12) × (entries ≤ 32) × (first ≤ 1024) × (length (now subleaf) ≡ 32) × (length (now choice) ≡ 32) ⌝ }
+    requires { ⌜ (words ≤ 64) × (free ≤ 12) × (entries ≤ 32) × (base ≤ 1024) × (length (now subleaf) ≡ 32) × (length (now choice) ≡ 32) ⌝ }
     requires { ⌜ Clauses (now clauses) 256 (entries - extra) ⌝ }
-    ensures { λ _. ⌜ ForLeaf free count entries first (inSet (now (set .entry))) (specialIn (now (clauses .entry)) free values (inSet (now (other .entry))) extra) (λ h k b R. After free h R k b (now (subleaf .entry)) (now (choice .entry)) → After free h R k (b + 1) (now (subleaf .exit)) (now (choice .exit))) ⌝ }
+    ensures { λ _. ⌜ ForLeaf free words entries base (inSet (now (set .entry))) (specialIn (now (clauses .entry)) free values (inSet (now (other .entry))) extra) (λ h k b R. After free h R k b (now (subleaf .entry)) (now (choice .entry)) → After free h R k (b + 1) (now (subleaf .exit)) (now (choice .exit))) ⌝ }
 {
-    let mut next = first;
+    let mut next = base;
     let mut e: usize = 0;
     while e < entries {
         next = assign_one(
@@ -131,7 +133,7 @@ fn assign_all(
             extra,
             set,
             other,
-            count,
+            words,
             e,
             next,
             subleaf,
@@ -140,8 +142,6 @@ fn assign_all(
         e += 1;
     }
 }
-
-// ---- one leaf
 
 // How many clauses a section holds.
 fn count_of(counts: &[usize; 4], i: usize) -> usize
@@ -179,7 +179,7 @@ fn keep_missed(
     let mut meets = [0u64; 64];
     let mut with = [0u64; 64];
     let count = count_of(counts, 2);
-    words::fill_sets(
+    sets::fill_sets(
         clauses,
         384,
         count,
@@ -191,7 +191,7 @@ fn keep_missed(
         &mut meets,
         &mut with,
     );
-    words::remove(set, &with, words::word_count(free));
+    sets::remove(set, &with, words::word_count(free));
 }
 
 // The sets of one leaf: the choices that the search allows there and, where it has an extra disequation, those beside which the second
@@ -211,12 +211,12 @@ fn fill_leaf(
     ensures { λ _. ⌜ ((constants : List ℕ) (defined : ℕ) → LeafSets (stored (now (clauses .entry)) (now (counts .entry)) constants defined free own) search values (inSet (now (set .exit))) (inSet (now (other .exit)))) ⌝ }
 {
     let count = count_of(counts, 0);
-    words::fill_set(clauses, 0, count, free, values, set);
+    sets::fill_set(clauses, 0, count, free, values, set);
     match search {
         Search::First => {}
         Search::Unmet => {
             let positives = count_of(counts, 2);
-            words::fill_meets(clauses, 384, positives, free, own, values, other);
+            sets::fill_meets(clauses, 384, positives, free, own, values, other);
         }
         Search::Missed(j) => {
             keep_missed(clauses, counts, free, own, j, values, set);
@@ -224,8 +224,7 @@ fn fill_leaf(
     }
 }
 
-// Goes through one leaf, whose first sub-leaf is `first`: its entries get their sub-leaves, and the result is its least choice, or 64 for
-// each word of choices.
+// Plans one leaf, whose sub-leaves begin at `base`: its entries get theirs, and the result is its least choice, or 64 for each word of choices.
 fn visit_leaf(
     clauses: &[u8; 768],
     counts: &[usize; 4],
@@ -233,13 +232,13 @@ fn visit_leaf(
     own: usize,
     search: Search,
     values: u64,
-    first: usize,
+    base: usize,
     subleaf: &mut [u16],
     choice: &mut [u16],
 ) -> usize
     requires { ⌜ Readable (now clauses) (now counts) free own ⌝ }
-    requires { ⌜ Named (now counts) search × (first ≤ 1024) × (length (now subleaf) ≡ 32) × (length (now choice) ≡ 32) ⌝ }
-    ensures { λ r. ⌜ ((constants : List ℕ) (defined : ℕ) → Visited (stored (now (clauses .entry)) (now (counts .entry)) constants defined free own) search values first (now (subleaf .entry)) (now (choice .entry)) r (now (subleaf .exit)) (now (choice .exit))) ⌝ }
+    requires { ⌜ Named (now counts) search × (base ≤ 1024) × (length (now subleaf) ≡ 32) × (length (now choice) ≡ 32) ⌝ }
+    ensures { λ r. ⌜ ((constants : List ℕ) (defined : ℕ) → Visited (stored (now (clauses .entry)) (now (counts .entry)) constants defined free own) search values base (now (subleaf .entry)) (now (choice .entry)) r (now (subleaf .exit)) (now (choice .exit))) ⌝ }
 {
     let mut set = [0u64; 64];
     let mut other = [0u64; 64];
@@ -255,7 +254,7 @@ fn visit_leaf(
     );
     let extra = extra_of(search);
     let entries = extra + count_of(counts, 1);
-    let count = words::word_count(free);
+    let words = words::word_count(free);
     assign_all(
         clauses,
         free,
@@ -263,16 +262,14 @@ fn visit_leaf(
         extra,
         &set,
         &other,
-        count,
+        words,
         entries,
-        first,
+        base,
         subleaf,
         choice,
     );
-    words::least(&set, count)
+    sets::least(&set, words)
 }
-
-// ---- all leaves
 
 // How often leaves are split so that each has room for n sub-leaves.
 fn splits(n: usize) -> usize
@@ -298,15 +295,7 @@ fn room_of(search: Search, d: usize) -> usize
     }
 }
 
-// The values of the constants at leaf b of 2^h.
-pub fn values_at(constants: &[u64; 32], defined: usize, h: usize, b: usize) -> u64
-    requires { ⌜ (defined ≤ 32) × (h ≤ 5) × (b < 2 ^ h) ⌝ }
-    ensures { λ r. ⌜ ((clauses counts : List ℕ) (free own : ℕ) → r ≡ leafValues (stored clauses counts (now (constants .entry)) defined free own) h b) ⌝ }
-{
-    words::leaf_values(constants, defined, b * (1 << (5 - h)))
-}
-
-// Plans leaf b: its least choice, and the sub-leaves of the entries that stand there. The result is whether it has a choice.
+// Plans leaf b and keeps its least choice. The result is whether it has one.
 fn plan_leaf(
     clauses: &[u8; 768],
     counts: &[usize; 4],
@@ -327,8 +316,8 @@ fn plan_leaf(
     requires { ⌜ (length (now plain) ≡ 64) × (length (now subleaf) ≡ 32) × (length (now choice) ≡ 32) ⌝ }
     ensures { λ r. ⌜ LeafPlanned free h (testsOf (stored (now (clauses .entry)) (now (counts .entry)) (now (constants .entry)) defined free own) h search) k b r (now (plain .entry)) (now (subleaf .entry)) (now (choice .entry)) (now (plain .exit)) (now (subleaf .exit)) (now (choice .exit)) ⌝ }
 {
-    let values = values_at(constants, defined, h, b);
-    let first = b * basics::power(k);
+    let values = words::values_at(constants, defined, h, b);
+    let base = b * basics::power(k);
     let x = visit_leaf(
         clauses,
         counts,
@@ -336,7 +325,7 @@ fn plan_leaf(
         own,
         search,
         values,
-        first,
+        base,
         subleaf,
         choice,
     );
@@ -395,7 +384,7 @@ fn fill_plan(
     true
 }
 
-// Whether each of the entries from `from`, so many, has a sub-leaf.
+// Whether each of so many entries, from entry `from`, has a sub-leaf.
 fn all_assigned(subleaf: &[u16; 32], from: usize, entries: usize) -> bool
     requires { ⌜ from + entries ≤ 32 ⌝ }
     ensures { λ r. ⌜ r ≡ everyBelow entries (λ j. hasSubLeaf (now (subleaf .entry)) (from + j)) ⌝ }
@@ -433,7 +422,24 @@ pub struct Plan {
     pub choice: [u16; 32],
 }
 
-// Whether a search finds a solution, whether it finds one without its extra disequation, and the plan of the first.
+// The plan that is given where no solution is found: no leaf, no entry.
+fn no_plan() -> Plan
+    ensures { λ r. ⌜ r ≡ noPlan ⌝ }
+{
+    let plain = [0u16; 64];
+    let subleaf = [0u16; 32];
+    let choice = [0u16; 32];
+    Plan {
+        low: 0,
+        high: 0,
+        plain,
+        count: 0,
+        subleaf,
+        choice,
+    }
+}
+
+// Whether a search finds a solution, whether it finds one without its extra disequation, and the plan of the solution, empty where none is found.
 pub struct Solved {
     pub found: bool,
     pub plainly: bool,
@@ -441,10 +447,10 @@ pub struct Solved {
 }
 
 // Searches for a solution at the 2^h leaves.
-pub fn solve(
+pub fn solve<'a>(
     clauses: &[u8; 768],
-    counts: &[usize; 4],
-    constants: &[u64; 32],
+    counts: &'a [usize; 4],
+    constants: &'a [u64; 32],
     defined: usize,
     free: usize,
     own: usize,
@@ -477,14 +483,22 @@ pub fn solve(
     );
     let found = both_hold(filled, all_assigned(&subleaf, 0, extra + d));
     let plainly = both_hold(filled, all_assigned(&subleaf, extra, d));
-    let plan = Plan {
-        low: h,
-        high: h + k,
-        plain,
-        count: extra + d,
-        subleaf,
-        choice,
-    };
+    if found {
+        let plan = Plan {
+            low: h,
+            high: h + k,
+            plain,
+            count: extra + d,
+            subleaf,
+            choice,
+        };
+        return Solved {
+            found,
+            plainly,
+            plan,
+        };
+    }
+    let plan = no_plan();
     Solved {
         found,
         plainly,

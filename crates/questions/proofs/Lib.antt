@@ -1,2 +1,2 @@
-pub mod HeldFacts
+pub mod CommandFacts
 pub mod Turns

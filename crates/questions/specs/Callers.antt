@@ -1,8 +1,8 @@
--- What a caller of the reader may rely on: its answer, and what it holds of the question. Assumes nothing.
+-- What a caller of the reader may rely on: its answer, and what is stored of the question. Assumes nothing.
 use mathlib.Core.Path.{_≡_, refl, sym, ap, _∙_}
 use mathlib.Core.List.{List, [], _∷_, _++_}
 use mathlib.Core.Logic.{_⊎_, inl, inr}
-use Prim.Native.Nat.{ℕ, zero, suc, _+_, _-_, _*_, _≤_, _<_}
+use Prim.Native.Nat.{ℕ, zero, suc, _+_, _*_, _≤_, _<_}
 use native.Mathlib.Nat.{eq-or-lt-of-le, le-of-suc-le-suc, not-suc-le-zero}
 use native.Mathlib.Omega.{arith}
 use lib.Dec.{T}
@@ -13,56 +13,50 @@ use Rattle.systems.specs.Clauses.{Atom}
 use Rattle.systems.specs.Questions.{Kind, satisfiability, entailment, Question, WellFormed}
 use Rattle.questions.specs.declared.Reading.{Reading}
 use Rattle.questions.specs.Format.{Result, refused, accepted, names, read}
-use Rattle.questions.specs.Held.{kindNumber, storedAtom, atomsOf, Held, StoredClause, Stands, refusedAs, heldBy, HandsBack}
-use Rattle.questions.specs.FormatLaws.{longest, Limited, accepted-formed, accepted-limited, refusal-number, refusal-place}
-use Rattle.questions.specs.HeldLaws.{atoms-length, named-small}
+use Rattle.questions.specs.Stored.{kindNumber, storedAtom, atomsOf, Stored, storedOf, StoredClause, Stands, readingOf}
+use Rattle.questions.specs.FormatLaws.{accepted-formed, refusal-number}
+use Rattle.questions.specs.KeepingLaws.{atoms-length, named-small}
 
 -- ---- the answer
 
--- refusal 0: the bytes are those of a question, and what is held stands for it
-pub record Taken (s : List ℕ) (x : Held) : Type 0 where
+-- refusal 0: the bytes are those of a question, and what is stored stands for it
+pub record Taken (s : List ℕ) (r : Reading) (clauses : List ℕ) : Type 0 where
   pub question : Question
   pub read : read s ≡ accepted question
-  pub stands : Stands x question
+  pub stands : Stands (r .question .kind) (storedOf (r .question) clauses) question
   pub formed : WellFormed question
-  pub limited : Limited question
 
--- any other: its number and its place are those of the definition
-pub record TurnedAway (s : List ℕ) (r : Reading) : Type 0 where
-  pub read : read s ≡ refused (r .refusal) (r .place)
-  pub number : (1 ≤ r .refusal) × (r .refusal ≤ 10)
-  pub place : r .place ≤ longest
-  pub nothing : r ≡ refusedAs (r .refusal) (r .place)
-
-module _ (s : List ℕ) (r : Reading) (constants clauses counts : List ℕ) (a : HandsBack (read s) r constants clauses counts) where
-  pub answer-taken : r .refusal ≡ 0 → Taken s (heldBy r constants clauses counts)
-  answer-taken e = pick (read s) refl a
+module _ (s : List ℕ) (r : Reading) (e : r ≡ readingOf (read s)) where
+  pub answer-taken : (clauses : List ℕ) → ((q : Question) → read s ≡ accepted q → Stands (r .question .kind) (storedOf (r .question) clauses) q)
+      → r .refusal ≡ 0 → Taken s r clauses
+  answer-taken clauses d z = pick (read s) refl e
     where
-      pick : (o : Result) → read s ≡ o → HandsBack o r constants clauses counts → Taken s (heldBy r constants clauses counts)
-      pick (accepted q) h b = record { question = q; read = h; stands = b .2; formed = accepted-formed s q h; limited = accepted-limited s q h }
+      pick : (o : Result) → read s ≡ o → r ≡ readingOf o → Taken s r clauses
+      pick (accepted q) h b = record { question = q; read = h; stands = d q h; formed = accepted-formed s q h }
       pick (refused n p) h b = absurd (omega (arith, refusal-number s n p h .0, ap (λ r. r .refusal) b))
 
-  pub answer-refused : (r .refusal ≡ 0 → ⊥) → TurnedAway s r
-  answer-refused e = pick (read s) refl a
+  -- any other: its number and its place are those of the definition
+  pub answer-refused : (r .refusal ≡ 0 → ⊥) → read s ≡ refused (r .refusal) (r .place)
+  answer-refused z = pick (read s) refl e
     where
-      pick : (o : Result) → read s ≡ o → HandsBack o r constants clauses counts → TurnedAway s r
-      pick (accepted q) h b = absurd (e (b .0))
-      pick (refused n p) h b = rw b (record { read = h; number = refusal-number s n p h; place = refusal-place s n p h; nothing = refl })
+      pick : (o : Result) → read s ≡ o → r ≡ readingOf o → read s ≡ refused (r .refusal) (r .place)
+      pick (accepted q) h b = absurd (z (ap (λ r. r .refusal) b))
+      pick (refused n p) h b = rw b h
 
--- ---- what is held
+-- ---- the kind
 
-module _ (x : Held) (q : Question) (d : Stands x q) where
-  pub kind-satisfiability : x .kind ≡ 0 → q .kind ≡ satisfiability
+module _ {k : ℕ} (x : Stored) (q : Question) (d : Stands k x q) where
+  pub kind-satisfiability : k ≡ 0 → q .kind ≡ satisfiability
   kind-satisfiability e = pick (q .kind) (sym (d .kind) ∙ e)
     where
-      pick : (k : Kind) → kindNumber k ≡ 0 → k ≡ satisfiability
+      pick : (o : Kind) → kindNumber o ≡ 0 → o ≡ satisfiability
       pick satisfiability f = refl
       pick entailment f = absurd (omega arith)
 
-  pub kind-entailment : (x .kind ≡ 0 → ⊥) → q .kind ≡ entailment
+  pub kind-entailment : (k ≡ 0 → ⊥) → q .kind ≡ entailment
   kind-entailment e = pick (q .kind) (d .kind)
     where
-      pick : (k : Kind) → x .kind ≡ kindNumber k → k ≡ entailment
+      pick : (o : Kind) → k ≡ kindNumber o → o ≡ entailment
       pick satisfiability f = absurd (e f)
       pick entailment f = refl
 

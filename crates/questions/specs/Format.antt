@@ -1,4 +1,4 @@
--- A question in bytes: what reading gives for every byte string, by document 01, "A question in bytes" and "Turned away". Assumes nothing.
+-- A question in bytes: what reading gives for every byte string, by docs/SPEC.md, sections 3 and 7. Assumes nothing.
 use mathlib.Core.Bool.{Bool, true, false, cond, _&&_}
 use mathlib.Core.List.{List, [], _∷_, _++_}
 use Prim.Native.Nat.{ℕ, zero, suc, _+_, _-_}

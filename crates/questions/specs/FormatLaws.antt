@@ -28,7 +28,7 @@ use Rattle.questions.specs.Format.{Result, refused, accepted, mostVariab
 
 -- ---- the statements
 
--- what document 01 promises of an accepted question
+-- the limits of an accepted question
 pub record Limited (q : Question) : Type 0 where
   pub variables : q .free + q .own ≤ mostVariables
   pub levels : q .constants .levels ≡ constantLevels

@@ -1,8 +1,9 @@
 pub mod Format
-pub mod Held
+pub mod Stored
+pub mod Worked
+pub mod Keeping
 pub mod SectionLaws
 pub mod FormatLaws
-pub mod HeldLaws
-pub mod Worked
+pub mod KeepingLaws
 pub mod PrefixLaws
 pub mod Callers

@@ -153,11 +153,11 @@ module _ (s t : List ℕ) (k : ℕ) (e : take k s ≡ take k t) where
           (u, λ l. rw (ne-eqb next (length t) (λ w. omega (arith, same-length))) g)
 
   -- what f more commands refuse of one, g more refuse of the other
-  abbrev Alike : ℕ → ℕ → Type 0
-  Alike f g = (at : ℕ) (q : Question) (n p : ℕ) → at ≤ length s → length s < at + f → length t < at + g → p + sizeAt s p ≤ k
+  abbrev RefusedAlike : ℕ → ℕ → Type 0
+  RefusedAlike f g = (at : ℕ) (q : Question) (n p : ℕ) → at ≤ length s → length s < at + f → length t < at + g → p + sizeAt s p ≤ k
       → run f s at q ≡ refused n p → run g t at q ≡ refused n p
 
-  run-same : (f g : ℕ) → Alike f g
+  run-same : (f g : ℕ) → RefusedAlike f g
   unfolding run
   run-same zero g at q n p w a b l r = absurd (omega arith)
   run-same (suc f) zero at q n p w a b l r =
@@ -171,7 +171,7 @@ module _ (s t : List ℕ) (k : ℕ) (e : take k s ≡ take k t) where
       second : (j : Step) → judged q (readAt s at) ≡ j → at + sizeAt s at ≤ k → following (λ q′ at′. run g t at′ q′) (turn t at q) ≡ following (λ q′ at′. run g t at′ q′) (onward t at q j)
       second j h m = ap (following (λ q′ at′. run g t at′ q′)) (turn-t at q j h m)
 
-      on : (c : Command) (next : ℕ) (q′ : Question) → judged q (readAt s at) ≡ Take c next → onward t at q (Take c next) ≡ go q′ next → run f s next q′ ≡ refused n p → Alike f g
+      on : (c : Command) (next : ℕ) (q′ : Question) → judged q (readAt s at) ≡ Take c next → onward t at q (Take c next) ≡ go q′ next → run f s next q′ ≡ refused n p → RefusedAlike f g
           → following (λ q′ at′. run g t at′ q′) (turn t at q) ≡ refused n p
       on c next q′ h o z again =
           let d : readAt s at ≡ Take c next = judged-take q (readAt s at) c next h .0 in
@@ -190,7 +190,7 @@ module _ (s t : List ℕ) (k : ℕ) (e : take k s ≡ take k t) where
           let x = ended-same next q n p (wh .1) (first (Take Command.End next) h) in
           second (Take Command.End next) h (omega (arith, x .0)) ∙ x .1 (omega arith)
 
-      step : (j : Step) → judged q (readAt s at) ≡ j → Alike f g → following (λ q′ at′. run g t at′ q′) (turn t at q) ≡ refused n p
+      step : (j : Step) → judged q (readAt s at) ≡ j → RefusedAlike f g → following (λ q′ at′. run g t at′ q′) (turn t at q) ≡ refused n p
       step (Refused m) h again =
           let z : refused m at ≡ refused n p = first (Refused m) h in
           let u : p ≡ at = cc in

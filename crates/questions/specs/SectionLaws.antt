@@ -9,8 +9,9 @@ use Rattle.systems.specs.Clauses.{Atom, positive, negated, System, positives, d
 use Rattle.systems.specs.Questions.{Question}
 use Rattle.questions.specs.declared.Section.{Section}
 use Rattle.questions.specs.declared.Section.the-variants.{FirstPositive, FirstDisequation, SecondPositive, SecondDisequation}
-use Rattle.questions.specs.Format.{mostOf, inSection, withClause, withConstant}
-use Rattle.questions.specs.Held.{sectionNumber, sectionStart, countOf, nextSlot}
+use Rattle.questions.specs.Format.{mostOf, inSection, variablesFor, withClause, withConstant}
+use Rattle.questions.specs.Stored.{sectionNumber, clauseBytes, sectionStart, countOf}
+use Rattle.questions.specs.Keeping.{nextSlot}
 
 -- ---- lists
 
@@ -114,11 +115,22 @@ section-below SecondPositive = omega arith
 section-below SecondDisequation = omega arith
 
 -- a section's bytes lie within the clauses' bytes
-pub slot-fits : (counts : List ℕ) (σ : Section) → countOf counts σ < mostOf σ → nextSlot counts σ + 4 ≤ 768
-slot-fits counts FirstPositive h = omega arith
-slot-fits counts FirstDisequation h = omega arith
-slot-fits counts SecondPositive h = omega arith
-slot-fits counts SecondDisequation h = omega arith
+pub section-room : (σ : Section) → sectionStart σ + 4 * mostOf σ ≤ clauseBytes
+section-room FirstPositive = omega arith
+section-room FirstDisequation = omega arith
+section-room SecondPositive = omega arith
+section-room SecondDisequation = omega arith
+
+-- and so do the four bytes of its next clause
+pub slot-fits : (counts : List ℕ) (σ : Section) → countOf counts σ < mostOf σ → nextSlot counts σ + 4 ≤ clauseBytes
+slot-fits counts σ h = omega (arith, section-room σ)
+
+-- no section names more variables than there are
+pub variables-le : (free own : ℕ) (σ : Section) → variablesFor free own σ ≤ free + own
+variables-le free own FirstPositive = omega arith
+variables-le free own FirstDisequation = omega arith
+variables-le free own SecondPositive = omega arith
+variables-le free own SecondDisequation = omega arith
 
 -- the starts as a list
 pub section-starts : (σ : Section) → getD (0 ∷ 256 ∷ 384 ∷ 640 ∷ []) (sectionNumber σ) 0 ≡ sectionStart σ

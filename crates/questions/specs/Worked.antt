@@ -2,11 +2,12 @@
 use mathlib.Core.Path.{_≡_, refl}
 use mathlib.Core.List.{List, [], _∷_, _++_, map}
 use Prim.Native.Nat.{ℕ, zero, suc}
-use lib.ListN.{length}
+use lib.ListN.{replicate}
 use Rattle.shares.specs.Constant.{constantLevels, number}
 use Rattle.systems.specs.Clauses.{variable, constant, joined, equal, positive, negated, positives, disequations}
 use Rattle.systems.specs.Questions.{Question, satisfiability, entailment}
 use Rattle.questions.specs.Format.{Result, refused, accepted, entryOf, commandOf, wholeAt, readAt, termOf, names, fault, taken, ended, turn, run, headFits, opened, headOf, read}
+use Rattle.questions.specs.Stored.{clauseBytes, readingOf, writtenBy, clausesAfter}
 
 pub record Worked : Type 0 where
   pub bytes : List ℕ
@@ -26,7 +27,7 @@ both = 0x01 ∷ 0x01 ∷ 0x01 ∷ 0x01 ∷ []
 abbrev itself : List ℕ
 itself = 0x12 ∷ 0x00 ∷ 0x00 ∷ []
 
--- document 01's example, and its question: v0 join the left half is full
+-- the printing program's example, and its question: v0 join the left half is full
 abbrev example : List ℕ
 example = 0x01 ∷ 0x00 ∷ 0x01 ∷ 0x00 ∷ 0x03 ∷ 0xFF ∷ 0xFF ∷ 0x00 ∷ 0x00 ∷ 0x03 ∷ 0xFF ∷ 0xFF ∷ 0xFF ∷ 0xFF ∷ 0x10 ∷ 0x00 ∷ 0x20 ∷ 0x21 ∷ 0x00 ∷ []
 
@@ -159,6 +160,32 @@ pub worked-right : (map (λ w. read (w .bytes)) table ≡ map (λ w. w .result) 
 unfolding table limits times read headOf headFits opened run turn ended taken fault names termOf readAt wholeAt commandOf entryOf number positives disequations
 worked-right = (refl, refl)
 
-pub longest-length : length (full ++ (0x00 ∷ [])) ≡ 925
-unfolding times
-longest-length = refl
+-- ---- what is stored
+
+-- the clauses' bytes before, whatever they hold
+abbrev nines : List ℕ
+nines = replicate clauseBytes 9
+
+-- two clauses, the second of which names no variable
+abbrev second : List ℕ
+second = alone ++ itself ++ (0x12 ∷ 0x00 ∷ 0x01 ∷ [])
+
+-- the struct of a question, and of a refusal; the clauses' bytes after a question, after a string that is refused at its second clause, and after
+-- one whose head is refused
+pub stored-right : (readingOf (read entails) ≡ record {
+  refusal = 0;
+  place = 0;
+  question = record { kind = 1; free = 1; own = 1; constants = 0x80000001 ∷ replicate 31 0; defined = 1; counts = 0 ∷ 1 ∷ 1 ∷ 1 ∷ [] };
+})
+    × (readingOf (read second) ≡ record {
+      refusal = 8;
+      place = 7;
+      question = record { kind = 0; free = 0; own = 0; constants = replicate 32 0; defined = 0; counts = 0 ∷ 0 ∷ 0 ∷ 0 ∷ [] };
+    })
+    × (map (λ s. clausesAfter s nines) (entails ∷ second ∷ (0x01 ∷ 0x02 ∷ []) ∷ [])
+    ≡ (replicate 256 9 ++ (0x01 ∷ 0x00 ∷ 0x20 ∷ 0x00 ∷ replicate 124 9) ++ (0x01 ∷ 0x01 ∷ 0x00 ∷ 0x00 ∷ replicate 252 9) ++ (0x00 ∷ 0x00 ∷ 0x01 ∷ 0x20 ∷ replicate 124 9))
+    ∷ (0x01 ∷ 0x00 ∷ 0x00 ∷ 0x00 ∷ replicate 764 9)
+    ∷ nines
+    ∷ [])
+unfolding read headOf headFits opened run turn ended taken fault names termOf readAt wholeAt commandOf entryOf number positives disequations writtenBy clausesAfter
+stored-right = (refl, refl, refl)

@@ -175,6 +175,13 @@ first-min n p i t = let f : ¬ (i < firstBelow n p) = λ l. T-not (p i) (first-l
 pub first-passes : (n : ℕ) (p : ℕ → Bool) (i : ℕ) → i < n → T (p i) → (firstBelow n p < n) × T (p (firstBelow n p))
 first-passes n p i h t = let l : firstBelow n p < n = omega (arith, first-min n p i t) in (l, first-below n p l)
 
+-- a search below a bound finds something exactly if something passes
+pub first-some : (m : ℕ) (p : ℕ → Bool) → firstBelow m p < m → T (someBelow m p)
+first-some m p l = some-intro m p (firstBelow m p) l (first-below m p l)
+
+pub first-not-some : (m : ℕ) (p : ℕ → Bool) → m ≤ firstBelow m p → T (not (someBelow m p))
+first-not-some m p l = not-T (someBelow m p) (λ t. let (i, u, v) = some-found m p t in omega (arith, first-passes m p i u v .0))
+
 -- it is the one number that passes with none below it
 pub first-is : (n : ℕ) (p : ℕ → Bool) (r : ℕ) → r < n → ((i : ℕ) → i < r → p i ≡ false) → p r ≡ true → firstBelow n p ≡ r
 first-is n p r h before found =

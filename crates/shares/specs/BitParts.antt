@@ -87,7 +87,7 @@ pub bit-not : (w a i : ℕ) → a < 2 ^ w → i < w → bit ((2 ^ w - 1) - a) i 
 bit-not w a i h l =
     ap (λ x. bit x i) (complement w a h) ∙ bit-xor a (2 ^ w - 1) i ∙ ap (xor (bit a i)) (bit-ones w i l) ∙ xor-true (bit a i)
 
--- ---- one binary digit at place k
+-- ---- one binary digit, at bit k
 
 pub bit-digit : (v k j : ℕ) → v < 2 → bit (v * 2 ^ k) j ≡ (eqb j k && bit v 0)
 bit-digit v k j h = go (decLt j k) (ℕ-discrete j k)
@@ -116,6 +116,6 @@ bit-bytes (b ∷ bs) h i = pick (bit-bytes bs (λ j. h (suc j))) (decLt i 8)
     pick ih (yes l) = bit-low 8 (number bs) b (h 0) i l ∙ rw (div-eq-of-lt l, mod-eq-of-lt l)
     pick ih (no n) =
         let byte : suc ((i - 8) / 8) ≡ i / 8 = omega arith in
-        let place : (i - 8) % 8 ≡ i % 8 = omega arith in
+        let within : (i - 8) % 8 ≡ i % 8 = omega arith in
         subst (λ x. bit (number bs * 2 ^ 8 + b) x ≡ bit (getD (b ∷ bs) (i / 8) 0) (i % 8)) (omega arith)
-        (bit-high 8 (number bs) b (h 0) (i - 8) ∙ ih (i - 8) ∙ ap₂ (λ x y. bit (getD (b ∷ bs) x 0) y) byte place)
+        (bit-high 8 (number bs) b (h 0) (i - 8) ∙ ih (i - 8) ∙ ap₂ (λ x y. bit (getD (b ∷ bs) x 0) y) byte within)

@@ -19,16 +19,12 @@ use Rattle.shares.specs.Tree.{height, leafAt, treeOf, joinLeaf, joins, j
 use Rattle.shares.specs.TreeLaws.{treeOf-folded, treeOf-height, leafAt-treeOf, height-iff}
 use Rattle.shares.specs.JoinLaws.{join-iff, join-none-iff}
 use Rattle.shares.specs.Constant.{bit, numberTree}
-use Rattle.shares.specs.BitLaws.{bit-and, bit-or, bit-xor, bit-half, bit-zero, bits-same, bits-zero}
+use Rattle.shares.specs.BitLaws.{bit-and, bit-or, bit-xor, bit-half, bit-zero, bits-zero}
 
 -- ---- a number is its tree's
 
 pub leaf-number : (k n i : ℕ) → i < 2 ^ k → leafAt k (numberTree k n) i ≡ bit n i
 leaf-number k n i l = leafAt-treeOf k (bit n) i l
-
-pub number-injective : (k x y : ℕ) → x < 2 ^ (2 ^ k) → y < 2 ^ (2 ^ k) → numberTree k x ≡ numberTree k y → x ≡ y
-number-injective k x y hx hy e =
-    bits-same (2 ^ k) x y hx hy (λ i l. sym (leaf-number k x i l) ∙ ap (λ t. leafAt k t i) e ∙ leaf-number k y i l)
 
 -- ---- the join of two numbers
 
@@ -97,7 +93,7 @@ starts i b p n = go (suc i % b) refl
         absurd (n (ap (λ m. m / b) here ∙ digits-div q small))
 
 -- a tree of given leaves is no taller than h exactly if neighbours in a block are equal
-pub neighbours-iff : (h w : ℕ) (f : ℕ → Bool) → h ≤ w
+neighbours-iff : (h w : ℕ) (f : ℕ → Bool) → h ≤ w
     → (height (treeOf w f) ≤ h) ↔ ((i : ℕ) → T (inner h w i) → f i ≡ f (suc i))
 neighbours-iff h w f le = (λ low. only (height-iff h w f le .0 low), λ e. height-iff h w f le .1 (back e))
   where

@@ -1,31 +1,55 @@
--- Closed examples, computed: the two halves as constants, their join, a join that is undefined, and heights. Assumes nothing.
+-- Closed examples, computed: folding, unfolding, joins, constants, heights and texts. Assumes nothing.
 use mathlib.Core.Path.{_≡_, refl}
 use mathlib.Core.Bool.{true, false}
 use mathlib.Core.List.{[], _∷_}
 use mathlib.Core.Option.{none, some}
 use Rattle.shares.specs.Below.{everyBelow}
 use Rattle.shares.specs.Tree.{Tree, leaf, pair, twins, fold, height, half, full, leafAt, treeOf, joinLeaf, treeIf, joinAt, join}
-use Rattle.shares.specs.Constant.{bit, constant}
+use Rattle.shares.specs.Constant.{bit, constant, number}
 use Rattle.shares.specs.Text.{text}
 
--- the left half and the right half
+-- the left half
 abbrev L : Tree
 L = pair (leaf true) (leaf false)
 
+-- the right half
 abbrev R : Tree
 R = pair (leaf false) (leaf true)
 
+folded : (fold (leaf false) (leaf false) ≡ leaf false) × (fold (leaf true) (leaf true) ≡ leaf true) × (fold (leaf false) (leaf true) ≡ R)
+unfolding fold twins
+folded = (refl, refl, refl)
+
+unfolded : (leafAt 1 L 0 ≡ true) × (leafAt 1 L 1 ≡ false) × (leafAt 2 L 1 ≡ true) × (leafAt 2 L 2 ≡ false)
+unfolding leafAt half full
+unfolded = (refl, refl, refl, refl)
+
+joined : (join L R ≡ some (leaf true)) × (join R R ≡ none) × (join (leaf false) L ≡ some L) × (join L (leaf true) ≡ none)
+unfolding treeOf fold twins joinLeaf treeIf join joinAt everyBelow leafAt half full height
+joined = (refl, refl, refl, refl)
+
+-- a taller right half counts too
+heights : (height (leaf true) ≡ 0) × (height L ≡ 1) × (height (pair L (leaf false)) ≡ 2) × (height (pair (leaf false) R) ≡ 2)
+unfolding height
+heights = (refl, refl, refl, refl)
+
+-- leaf i is at bit i
 constants : (constant 0x0000FFFF ≡ L) × (constant 0xFFFF0000 ≡ R) × (constant 0 ≡ leaf false) × (constant 0xFFFFFFFF ≡ leaf true)
 unfolding treeOf fold twins bit
 constants = (refl, refl, refl, refl)
 
-joined : (join L R ≡ some (leaf true)) × (join R R ≡ none) × (join (constant 0x00000001) (constant 0x00000002) ≡ some (constant 0x00000003))
+constants-joined : join (constant 0x00000001) (constant 0x00000002) ≡ some (constant 0x00000003)
 unfolding treeOf fold twins bit joinLeaf treeIf join joinAt everyBelow leafAt half full height
-joined = (refl, refl, refl)
+constants-joined = refl
 
-heights : (height (constant 0xFFFF0001) ≡ 5) × (height (constant 0x00FF00FF) ≡ 2) × (height (constant 0xFFFF0000) ≡ 1) × (height (constant 0) ≡ 0)
+constant-heights : (height (constant 0xFFFF0001) ≡ 5) × (height (constant 0x80000000) ≡ 5) × (height (constant 0x00FF00FF) ≡ 2) × (height (constant 0) ≡ 0)
 unfolding treeOf fold twins bit height
-heights = (refl, refl, refl, refl)
+constant-heights = (refl, refl, refl, refl)
+
+-- the lowest byte comes first
+bytes : number (0x34 ∷ 0x12 ∷ []) ≡ 0x1234
+unfolding number
+bytes = refl
 
 -- "(o*)"
 texts : text R ≡ 0x28 ∷ 0x6F ∷ 0x2A ∷ 0x29 ∷ []

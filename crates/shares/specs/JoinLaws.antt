@@ -9,7 +9,8 @@ use lib.Dec.{T, T-not, not-T}
 use Rattle.shares.specs.Test.{passes, beq-iff, same-test, cond-passed, cond-failed, cond-law}
 use Rattle.shares.specs.Below.{everyBelow}
 use Rattle.shares.specs.BelowLaws.{Below, every-at, every-intro, every-ext, every-or, fails-iff}
-use Rattle.shares.specs.Blocks.{blockOf, firstOf, block-lt, first-lt, block-first}
+use Rattle.shares.specs.Blocks.{blockOf, firstOf}
+use Rattle.shares.specs.BlockLaws.{block-lt, first-lt, block-first}
 use Rattle.shares.specs.Tree.{Tree, Folded, height, leafAt, treeOf, joinLeaf, isLeaf, joins, defined, treeIf, joinAt, join}
 use Rattle.shares.specs.TreeLaws.{leafAt-treeOf, treeOf-folded, treeOf-height, treeOf-ext, treeOf-leafAt, treeOf-blocks, blocks}
 
@@ -20,17 +21,17 @@ is-leaf-iff none z = (λ t. absurd t, λ e. absurd (Option·none-ne-some z e))
 is-leaf-iff (some v) z = (λ t. ap some (beq-iff v z .0 t), λ e. beq-iff v z .1 (Option·some-injective v z e))
 
 -- the test at one leaf says that the join there is the third
-pub joins-iff : (x y z : Bool) → T (joins x y z) ↔ (joinLeaf x y ≡ some z)
+joins-iff : (x y z : Bool) → T (joins x y z) ↔ (joinLeaf x y ≡ some z)
 unfolding joins
 joins-iff x y z = is-leaf-iff (joinLeaf x y) z
 
 -- it is undefined for full with full alone
-pub overlap-iff : (x y : Bool) → T (not (defined (joinLeaf x y))) ↔ T (x && y)
+overlap : (x y : Bool) → not (defined (joinLeaf x y)) ≡ (x && y)
 unfolding joinLeaf
-overlap-iff true true = (λ t. tt, λ t. tt)
-overlap-iff true false = (λ t. t, λ t. t)
-overlap-iff false true = (λ t. t, λ t. t)
-overlap-iff false false = (λ t. t, λ t. t)
+overlap true true = refl
+overlap true false = refl
+overlap false true = refl
+overlap false false = refl
 
 -- ---- 2 ^ k leaves that may be undefined
 
@@ -135,8 +136,8 @@ pub join-none-iff : (k : ℕ) (a b : Tree) → height a ≤ k → height b ≤ k
 unfolding joinAt
 join-none-iff k a b ha hb =
     let J = treeIf-none-iff k (λ i. joinLeaf (leafAt k a i) (leafAt k b i)) in (
-      λ e. let (i, l, t) = J .0 (joinAt-join k a b ha hb ∙ e) in (i, l, overlap-iff (leafAt k a i) (leafAt k b i) .0 t),
-      λ (i, l, t). sym (joinAt-join k a b ha hb) ∙ J .1 (i, l, overlap-iff (leafAt k a i) (leafAt k b i) .1 t),
+      λ e. let (i, l, t) = J .0 (joinAt-join k a b ha hb ∙ e) in (i, l, rw (overlap (leafAt k a i) (leafAt k b i)) at t),
+      λ (i, l, t). sym (joinAt-join k a b ha hb) ∙ J .1 (i, l, rw (overlap (leafAt k a i) (leafAt k b i)) t),
     )
 
 -- a join that is defined is folded, and no taller than the two

@@ -2,7 +2,6 @@
 use mathlib.Core.Path.{_≡_, refl, sym, ap, ap₂, _∙_, subst}
 use mathlib.Core.Bool.{Bool, true, false, not, Bool·beq, Bool-set}
 use mathlib.Core.HLevel.{Unit-prop, ×₃-prop, isProp→PathP}
-use mathlib.Core.List.{List, [], _∷_, _++_}
 use mathlib.Core.Logic.{_↔_}
 use Prim.Native.Nat.{ℕ, zero, suc, _+_, _-_, _/_, _%_, _^_, _≤_, _<_, zero-le}
 use native.Mathlib.Nat.{not-suc-le-zero, two-pow-succ, div-eq-of-lt, mod-eq-of-lt, add-div-left, add-mod-left, add-zero, add-suc, div-one, add-sub-of-le, div-mul-le-self, lt-of-le-of-lt, le-trans}
@@ -11,12 +10,11 @@ use native.Mathlib.Numerals.{add-one, one-add}
 use native.Mathlib.Omega.{arith}
 use lib.Arith.{lt-one}
 use lib.Dec.{T}
-use lib.ListN.{length, getD, length-append, List·getD-append}
 use lib.Pow.{pow-pos, shr-shr, field}
-use lib.Seq.{getD-append-add}
 use Rattle.shares.specs.Test.{is-false, beq-iff, cond-law}
 use Rattle.shares.specs.BelowLaws.{Below, fails-iff}
-use Rattle.shares.specs.Blocks.{blockOf, firstOf, block-lt, block-first}
+use Rattle.shares.specs.Blocks.{blockOf, firstOf}
+use Rattle.shares.specs.BlockLaws.{block-lt, block-first}
 use Rattle.shares.specs.Tree.{Tree, leaf, pair, twins, fold, Folded, Share, height, half, full, leafAt, treeOf}
 
 -- ---- folding
@@ -44,7 +42,7 @@ half-leaves zero b = refl
 half-leaves (suc i) b = refl
 
 -- folding keeps the halves
-pub half-fold : (i : ℕ) (l r : Tree) → half i (fold l r) ≡ half i (pair l r)
+half-fold : (i : ℕ) (l r : Tree) → half i (fold l r) ≡ half i (pair l r)
 half-fold i l r = fold-law (λ t. half i t ≡ half i (pair l r)) l r (λ b p q. rw (p, q) (half-leaves i b)) (λ n. refl)
 
 fold-folded : (l r : Tree) → Folded l → Folded r → Folded (fold l r)
@@ -227,26 +225,3 @@ height-iff h w f le = (only, back)
         subst (λ t. height t ≤ h)
         (sym (treeOf-ext w _ _ e ∙ treeOf-blocks h w (λ q. f (firstOf h w q)) le))
         (treeOf-height h (λ q. f (firstOf h w q)))
-
--- ---- the leaves as a list
-
--- those of the left half, then those of the right
-unfoldable pub leaves : ℕ → Tree → List Bool
-leaves zero t = full t ∷ []
-leaves (suc k) t = leaves k (half 0 t) ++ leaves k (half 1 t)
-
-pub leaves-length : (k : ℕ) (t : Tree) → length (leaves k t) ≡ 2 ^ k
-unfolding leaves
-leaves-length zero t = refl
-leaves-length (suc k) t = rw (length-append, leaves-length k (half 0 t), leaves-length k (half 1 t)) (sym (two-pow-succ k))
-
-pub leaves-at : (k : ℕ) (t : Tree) (i : ℕ) → i < 2 ^ k → getD (leaves k t) i false ≡ leafAt k t i
-unfolding leaves leafAt
-leaves-at zero t i h = rw (lt-one h)
-leaves-at (suc k) t i h =
-    halves (λ i. getD (leaves (suc k) t) i false ≡ leafAt (suc k) t i) k
-    (λ i l. List·getD-append (leaves k (half 0 t)) _ false i (rw (leaves-length k (half 0 t)) l) ∙ leaves-at k (half 0 t) i l ∙ sym (leaf-left k t i l))
-    (λ i l.
-    ap (λ n. getD (leaves (suc k) t) (n + i) false) (sym (leaves-length k (half 0 t)))
-    ∙ getD-append-add (leaves k (half 0 t)) _ i false ∙ leaves-at k (half 1 t) i l ∙ sym (leaf-right k t i l))
-    i h

@@ -11,7 +11,8 @@ use lib.Pow.{pow-mono}
 use Rattle.shares.specs.Tree.{leafAt, treeOf}
 use Rattle.shares.specs.TreeLaws.{treeOf-height, leafAt-treeOf, blocks}
 use Rattle.shares.specs.Constant.{bit}
-use Rattle.shares.specs.Blocks.{blockOf, block-lt, block-block}
+use Rattle.shares.specs.Blocks.{blockOf}
+use Rattle.shares.specs.BlockLaws.{block-lt, block-block}
 use Rattle.plans.specs.declared.Plan.{Plan}
 use Rattle.plans.specs.Shown.{Showable, planChoiceAfter, planChoice, planTree}
 use Rattle.rows.specs.Rows.{bytesAt, rowLeaf, rowOf}

@@ -1,10 +1,9 @@
 -- A question at the leaves: the test of an atom at one leaf, and the problems that the two systems pose there. Assumes nothing.
 use mathlib.Core.Bool.{Bool, true, false, not, cond, _&&_, Bool·beq}
 use mathlib.Core.List.{List, [], _∷_}
-use Prim.Native.Nat.{ℕ, _-_}
+use Prim.Native.Nat.{ℕ, _-_, _*_, _^_}
 use lib.Dec.{ltb}
 use lib.ListN.{length, getD}
-use Rattle.shares.specs.Blocks.{firstOf}
 use Rattle.shares.specs.Constant.{bit}
 use Rattle.shares.specs.Tree.{joins}
 use Rattle.leaves.specs.Choices.{Row, at}
@@ -13,10 +12,10 @@ use Rattle.leaves.specs.Second.{Second}
 use Rattle.systems.specs.Clauses.{Constants, Term, variable, constant, Atom, joined, equal, positives, disequations, disequation}
 use Rattle.systems.specs.Questions.{Question}
 
--- a term at block b of 2 ^ h, where variable v is x v
+-- a term at block b of 2 ^ h, where variable v is x v; a constant there is its first leaf in the block
 unfoldable pub termAt : ℕ → Constants → ℕ → (ℕ → Bool) → Term → Bool
 termAt h cs b x (variable v) = x v
-termAt h cs b x (constant i) = bit (getD (cs .numbers) i 0) (firstOf h (cs .levels) b)
+termAt h cs b x (constant i) = bit (getD (cs .numbers) i 0) (b * 2 ^ (cs .levels - h))
 
 -- an atom there
 unfoldable pub atomAt : ℕ → Constants → ℕ → (ℕ → Bool) → Atom → Bool

@@ -1,6 +1,6 @@
 -- Terms and atoms at the leaves of trees: an atom holds exactly if its test passes at every leaf, for every height from h up. Assumes nothing.
-use mathlib.Core.Path.{_≡_, sym, ap, _∙_}
-use mathlib.Core.Bool.{Bool, not}
+use mathlib.Core.Path.{_≡_, refl, sym, ap, _∙_}
+use mathlib.Core.Bool.{Bool, true, not}
 use mathlib.Core.List.{List, [], _∷_}
 use mathlib.Core.Logic.{_↔_}
 use Prim.Native.Nat.{ℕ, _^_, _≤_, _<_}
@@ -9,16 +9,37 @@ use lib.Dec.{T}
 use lib.ListN.{length, getD}
 use Rattle.shares.specs.Test.{and-intro, and-left, and-right}
 use Rattle.shares.specs.BelowLaws.{Below, fails-iff}
-use Rattle.shares.specs.Blocks.{blockOf, firstOf, block-lt, first-lt, block-first}
-use Rattle.shares.specs.Tree.{Folded, height, leafAt}
+use Rattle.shares.specs.Blocks.{blockOf, firstOf}
+use Rattle.shares.specs.BlockLaws.{block-lt, first-lt, block-first}
+use Rattle.shares.specs.Tree.{Folded, height, leafAt, joinLeaf, joins}
 use Rattle.shares.specs.TreeLaws.{treeOf-folded, blocks, equal-test-iff}
 use Rattle.shares.specs.JoinLaws.{join-iff}
 use Rattle.shares.specs.Constant.{bit, numberTree}
 use Rattle.shares.specs.ConstantLaws.{leaf-number}
-use Rattle.systems.specs.Clauses.{Term, variable, constant, Atom, joined, equal, System, positives, disequations, disequation, Constants, constantTree, Assignment, valueOf, Holds, AllHold}
-use Rattle.systems.specs.Questions.{Defined, Within, InAtom, InSystem}
+use Rattle.leaves.specs.Choices.{nil}
+use Rattle.systems.specs.Clauses.{Term, variable, constant, Atom, joined, equal, negated, System, positives, disequations, disequation, Constants, constantTree, Assignment, valueOf, Holds, AllHold}
+use Rattle.systems.specs.Questions.{satisfiability, Question, Defined, InAtom, InSystem}
+use Rattle.systems.specs.Bounds.{Within}
 use Rattle.systems.specs.SystemLaws.{InAtoms, in-positives, in-disequation}
-use Rattle.systems.specs.AtLeaves.{termAt, atomAt, allAt}
+use Rattle.systems.specs.AtLeaves.{termAt, atomAt, allAt, firstAt}
+
+-- ---- an example, computed: full join full is undefined, so its negation holds
+
+abbrev fullTwice : Question
+fullTwice = record {
+  kind = satisfiability;
+  free = 0;
+  own = 0;
+  constants = record { levels = 0; numbers = 1 ∷ [] };
+  first = negated (joined (constant 0) (constant 0) (constant 0)) ∷ [];
+  second = [];
+}
+
+full-twice-denied : firstAt 0 fullTwice .dis 0 0 nil ≡ true
+unfolding disequations termAt atomAt joins joinLeaf bit
+full-twice-denied = refl
+
+-- ---- terms and atoms, at every leaf
 
 -- a term names something defined, no taller than h
 abbrev pub Good : ℕ → ℕ → Constants → Term → Type 0

@@ -8,15 +8,18 @@ use native.Mathlib.Omega.{arith}
 use lib.Dec.{T, T-not, ltb, ltb→lt, lt→ltb, nltb→le}
 use Rattle.shares.specs.Test.{holds, cond-law}
 use Rattle.shares.specs.BelowLaws.{first-below, first-least, first-min}
-use Rattle.leaves.specs.Heights.{anyHeight, Room}
+use Rattle.leaves.specs.Heights.{anyHeight}
+use Rattle.leaves.specs.Room.{Room}
 use Rattle.leaves.specs.HeightLaws.{room-less}
 use Rattle.leaves.specs.Choices.{Row, at, least}
-use Rattle.leaves.specs.Problem as leaf
+use Rattle.leaves.specs.LeafSolutions.{LeafSolution}
 use Rattle.leaves.specs.ProblemLaws.{cut-solvable, solution-glued}
-use Rattle.leaves.specs.Second as leaf2
+use Rattle.leaves.specs.Second.{Second, canBeMissed, firstMissed}
+use Rattle.leaves.specs.LeafExtensions.{LeafExtension, positivesOnly, only, EntailsLeaves, LeafCounterexample}
 use Rattle.leaves.specs.SecondLaws.{one-at-a-time, always-met, never-missed, can-be-unmet, can-be-missed}
 use Rattle.systems.specs.Clauses.{Assignment}
-use Rattle.systems.specs.Questions.{Kind, satisfiability, entailment, Question, WellFormed, Bounds, firstCount, secondCount}
+use Rattle.systems.specs.Questions.{Kind, satisfiability, entailment, Question, WellFormed, firstCount, secondCount}
+use Rattle.systems.specs.Bounds.{Bounds}
 use Rattle.systems.specs.Solutions.{tallest, both, Solution, Extends, MeetsPositives, MeetsWith, Every, SomeNot, Entails}
 use Rattle.systems.specs.Answers.{Answer, satisfied, unsatisfied, vacuous, entailed, unmet, missed, kindOf, Says, Answers, needed}
 use Rattle.systems.specs.SystemLaws.{parts}
@@ -36,11 +39,11 @@ extends-with q σ j l E =
 
 -- some solution misses disequation j of the second, at the leaves
 abbrev someMissed : ℕ → Question → ℕ → Bool
-someMissed h q = leaf2.canBeMissed (least (q .free)) (least (q .own)) h (firstAt h q) (secondAt h q)
+someMissed h q = canBeMissed (least (q .free)) (least (q .own)) h (firstAt h q) (secondAt h q)
 
 -- solutions by trees whose height is among A are solutions at the leaves whose height is among A′
 module _ (h : ℕ) (q : Question) (F : WellFormed q) (B : Bounds h q) (A A′ : ℕ → Type 0) (R : Read h A A′) where
-  pub to-leaves : Solution A q → leaf.Solution A′ h (firstAt h q)
+  pub to-leaves : Solution A q → LeafSolution A′ h (firstAt h q)
   to-leaves S =
       let (w, k, l, a) = R .up (tallest (q .free) (S .values)) (S .allowed) in
       record {
@@ -50,7 +53,7 @@ module _ (h : ℕ) (q : Question) (F : WellFormed q) (B : Bounds h q) (A A′ : 
         solves = first-iff h q F B w l (S .values) _ (rows-read (q .free) w (S .values) k) .0 (S .solves);
       }
 
-  pub from-leaves : leaf.Solution A′ h (firstAt h q) → Solution A q
+  pub from-leaves : LeafSolution A′ h (firstAt h q) → Solution A q
   from-leaves L = record {
     values = sharesOf (L .height) (L .leaves);
     allowed = R .down (L .height) _ (L .allowed) (shares-low (q .free) (L .height) (L .leaves));
@@ -58,16 +61,16 @@ module _ (h : ℕ) (q : Question) (F : WellFormed q) (B : Bounds h q) (A A′ : 
   }
 
   -- a property of assignments that is an extension of their rows
-  module _ (P : Assignment → Type 0) (Q : leaf2.Second (Row Bool (q .free)) (Row Bool (q .own)))
+  module _ (P : Assignment → Type 0) (Q : Second (Row Bool (q .free)) (Row Bool (q .own)))
       (iff : (w : ℕ) → h ≤ w → (σ : Assignment) (s : ℕ → Row Bool (q .free)) → Reads (q .free) w σ (λ i. at false (s i))
-      → P σ ↔ leaf2.Extension anyHeight h Q w s) where
-    pub every-from : leaf2.Entails A′ h (firstAt h q) Q → Every A q P
+      → P σ ↔ LeafExtension anyHeight h Q w s) where
+    every-from : EntailsLeaves A′ h (firstAt h q) Q → Every A q P
     unfolding to-leaves
     every-from E S =
         let (w, k, l, a) = R .up (tallest (q .free) (S .values)) (S .allowed) in
         iff w l (S .values) (rowsAt (q .free) w (S .values)) (rows-read (q .free) w (S .values) k) .1 (E (to-leaves S))
 
-    pub some-not-from : leaf2.Counter A′ h (firstAt h q) Q → SomeNot A q P
+    some-not-from : LeafCounterexample A′ h (firstAt h q) Q → SomeNot A q P
     unfolding from-leaves
     some-not-from (L, n) = (
       from-leaves L,
@@ -84,30 +87,30 @@ module _ (h : ℕ) (q : Question) (F : WellFormed q) (B : Bounds h q) (A A′ : 
       let L = to-leaves S in
       T-not (canSolve h q) t (cut-solvable (least (q .free)) h (firstAt h q) (L .height) (L .leaves) (L .solves))
 
-  can-break : Room A′ h (suc (firstCount q)) → T (canSolve h q) → T (someUnmet h q) → SomeNot A q (MeetsPositives q)
-  can-break r t u =
-      some-not-from (MeetsPositives q) (leaf2.positives (secondAt h q)) (meets-iff h q F B)
+  some-unmet : Room A′ h (suc (firstCount q)) → T (canSolve h q) → T (someUnmet h q) → SomeNot A q (MeetsPositives q)
+  some-unmet r t u =
+      some-not-from (MeetsPositives q) (positivesOnly (secondAt h q)) (meets-iff h q F B)
       (can-be-unmet (least (q .free)) (least (q .own)) h (firstAt h q) (secondAt h q) A′ r t u)
 
-  cannot-break : T (not (someUnmet h q)) → Every A q (MeetsPositives q)
-  cannot-break u =
-      every-from (MeetsPositives q) (leaf2.positives (secondAt h q)) (meets-iff h q F B)
+  none-unmet : T (not (someUnmet h q)) → Every A q (MeetsPositives q)
+  none-unmet u =
+      every-from (MeetsPositives q) (positivesOnly (secondAt h q)) (meets-iff h q F B)
       (always-met (least (q .free)) (least (q .own)) h (firstAt h q) (secondAt h q) A′ u)
 
-  can-miss : Room A′ h (firstCount q) → (j : ℕ) → j < secondCount q → T (someMissed h q j) → SomeNot A q (MeetsWith j q)
-  can-miss r j l t =
-      some-not-from (MeetsWith j q) (leaf2.only j (secondAt h q)) (λ w hw σ s R. with-iff h q F B w hw σ s R j l)
+  some-missed : Room A′ h (firstCount q) → (j : ℕ) → j < secondCount q → T (someMissed h q j) → SomeNot A q (MeetsWith j q)
+  some-missed r j l t =
+      some-not-from (MeetsWith j q) (only j (secondAt h q)) (λ w hw σ s R. with-iff h q F B w hw σ s R j l)
       (can-be-missed (least (q .free)) (least (q .own)) h (firstAt h q) (secondAt h q) A′ r j t)
 
   -- each solution meets disequation j at the leaves, where none leaves the positive clauses unmet and none misses j
-  never-misses : T (not (someUnmet h q)) → (j : ℕ) → T (not (someMissed h q j)) → leaf2.Entails A′ h (firstAt h q) (leaf2.only j (secondAt h q))
+  never-misses : T (not (someUnmet h q)) → (j : ℕ) → T (not (someMissed h q j)) → EntailsLeaves A′ h (firstAt h q) (only j (secondAt h q))
   never-misses u j t =
       never-missed (least (q .free)) (least (q .own)) h (firstAt h q) (secondAt h q) A′ j t
       (always-met (least (q .free)) (least (q .own)) h (firstAt h q) (secondAt h q) A′ u)
 
-  cannot-miss : T (not (someUnmet h q)) → (j : ℕ) → j < secondCount q → T (not (someMissed h q j)) → Every A q (MeetsWith j q)
-  cannot-miss u j l t =
-      every-from (MeetsWith j q) (leaf2.only j (secondAt h q)) (λ w hw σ s R. with-iff h q F B w hw σ s R j l) (never-misses u j t)
+  none-missed : T (not (someUnmet h q)) → (j : ℕ) → j < secondCount q → T (not (someMissed h q j)) → Every A q (MeetsWith j q)
+  none-missed u j l t =
+      every-from (MeetsWith j q) (only j (secondAt h q)) (λ w hw σ s R. with-iff h q F B w hw σ s R j l) (never-misses u j t)
 
   all-extend : T (not (someUnmet h q)) → ((j : ℕ) → j < secondCount q → T (not (someMissed h q j))) → Entails A q
   all-extend u f =
@@ -119,15 +122,15 @@ module _ (h : ℕ) (q : Question) (F : WellFormed q) (B : Bounds h q) (A A′ : 
   -- ---- the lowest disequation that can be missed
 
   lowest-missed : lowestMissed h q < secondCount q → T (someMissed h q (lowestMissed h q))
-  unfolding leaf2.firstMissed
+  unfolding firstMissed
   lowest-missed l = first-below (secondCount q) (someMissed h q) l
 
   none-lower : (i : ℕ) → i < lowestMissed h q → T (not (someMissed h q i))
-  unfolding leaf2.firstMissed
+  unfolding firstMissed
   none-lower i l = first-least (secondCount q) (someMissed h q) i l
 
   lowest-le : (j : ℕ) → T (someMissed h q j) → lowestMissed h q ≤ j
-  unfolding leaf2.firstMissed
+  unfolding firstMissed
   lowest-le j t = first-min (secondCount q) (someMissed h q) j t
 
   -- ---- the decision says what is so
@@ -138,14 +141,14 @@ module _ (h : ℕ) (q : Question) (F : WellFormed q) (B : Bounds h q) (A A′ : 
   says-right entailment r =
       cond-law (Says A q) (canSolve h q) _ vacuous
       (λ t. cond-law (Says A q) (someUnmet h q) unmet _
-      (can-break (room-less (omega arith) r) t)
+      (some-unmet (room-less (omega arith) r) t)
       (λ u. cond-law (Says A q) (ltb (lowestMissed h q) (secondCount q)) (missed (lowestMissed h q)) entailed
       (λ v.
       let l = ltb→lt (lowestMissed h q) (secondCount q) v in (
         l,
-        cannot-break u,
-        can-miss (room-less (omega arith) r) (lowestMissed h q) l (lowest-missed l),
-        λ i m. cannot-miss u i (le-trans m (omega arith)) (none-lower i m),
+        none-unmet u,
+        some-missed (room-less (omega arith) r) (lowestMissed h q) l (lowest-missed l),
+        λ i m. none-missed u i (le-trans m (omega arith)) (none-lower i m),
       ))
       (λ v.
       let l = nltb→le (lowestMissed h q) (secondCount q) v in
@@ -154,7 +157,7 @@ module _ (h : ℕ) (q : Question) (F : WellFormed q) (B : Bounds h q) (A A′ : 
 
   -- ---- and whatever answer says what is so is the decision
 
-  pub says-only : (a : Answer) → Room A′ h (needed (kindOf a) (firstCount q)) → Says A q a → decideKind h q (kindOf a) ≡ a
+  says-only : (a : Answer) → Room A′ h (needed (kindOf a) (firstCount q)) → Says A q a → decideKind h q (kindOf a) ≡ a
   unfolding decideKind
   says-only satisfied r S = cond-law (λ x. x ≡ satisfied) (canSolve h q) _ _ (λ t. refl) (λ t. absurd (cannot-solve t S))
   says-only unsatisfied r n = cond-law (λ x. x ≡ unsatisfied) (canSolve h q) _ _ (λ t. absurd (n (can-solve r t))) (λ t. refl)
@@ -163,29 +166,29 @@ module _ (h : ℕ) (q : Question) (F : WellFormed q) (B : Bounds h q) (A A′ : 
   says-only entailed r (S, E) =
       cond-law (λ x. x ≡ entailed) (canSolve h q) _ _
       (λ t. cond-law (λ x. x ≡ entailed) (someUnmet h q) _ _
-      (λ u. let (N, n) = can-break (room-less (omega arith) r) t u in absurd (n (extends-positives q (N .values) (E N))))
+      (λ u. let (N, n) = some-unmet (room-less (omega arith) r) t u in absurd (n (extends-positives q (N .values) (E N))))
       (λ u. cond-law (λ x. x ≡ entailed) (ltb (lowestMissed h q) (secondCount q)) _ _
       (λ v.
       let l = ltb→lt (lowestMissed h q) (secondCount q) v in
-      let (N, n) = can-miss (room-less (omega arith) r) (lowestMissed h q) l (lowest-missed l) in
+      let (N, n) = some-missed (room-less (omega arith) r) (lowestMissed h q) l (lowest-missed l) in
       absurd (n (extends-with q (N .values) (lowestMissed h q) l (E N))))
       (λ v. refl)))
       (λ t. absurd (cannot-solve t S))
   says-only unmet r (S, n) =
       cond-law (λ x. x ≡ unmet) (canSolve h q) _ _
-      (λ t. cond-law (λ x. x ≡ unmet) (someUnmet h q) _ _ (λ u. refl) (λ u. absurd (n (cannot-break u S))))
+      (λ t. cond-law (λ x. x ≡ unmet) (someUnmet h q) _ _ (λ u. refl) (λ u. absurd (n (none-unmet u S))))
       (λ t. absurd (cannot-solve t S))
   says-only (missed j) r (l, M, (S, n), E) =
       cond-law (λ x. x ≡ missed j) (canSolve h q) _ _
       (λ t. cond-law (λ x. x ≡ missed j) (someUnmet h q) _ _
-      (λ u. let (N, m) = can-break (room-less (omega arith) r) t u in absurd (m (M N)))
+      (λ u. let (N, m) = some-unmet (room-less (omega arith) r) t u in absurd (m (M N)))
       (λ u.
-      let avoids : T (someMissed h q j) = holds (someMissed h q j) (λ x. n (cannot-miss u j l x S)) in
-      let low : lowestMissed h q ≤ j = lowest-le j avoids in
+      let missable : T (someMissed h q j) = holds (someMissed h q j) (λ x. n (none-missed u j l x S)) in
+      let low : lowestMissed h q ≤ j = lowest-le j missable in
       let below : lowestMissed h q < secondCount q = omega arith in
       let no-lower : ¬ (lowestMissed h q < j) =
       λ m.
-      let (N, x) = can-miss (room-less (omega arith) r) (lowestMissed h q) below (lowest-missed below) in
+      let (N, x) = some-missed (room-less (omega arith) r) (lowestMissed h q) below (lowest-missed below) in
       x (E (lowestMissed h q) m N) in
       let same : lowestMissed h q ≡ j = omega arith in
       cond-law (λ x. x ≡ missed j) (ltb (lowestMissed h q) (secondCount q)) _ _

@@ -9,24 +9,29 @@ use Rattle.shares.specs.Test.{and-left, and-right}
 use Rattle.systems.specs.Clauses.{Term, variable, constant, Atom, joined, equal, positive, negated, System, Constants}
 use Rattle.systems.specs.Questions.{Kind, satisfiability, entailment, Question, Defined, InAtom, InSystem, Alone, WellFormed}
 
+-- a term names something defined
 abbrev definedTest : ℕ → Constants → Term → Bool
 definedTest n cs (variable v) = ltb v n
 definedTest n cs (constant i) = ltb i (length (cs .numbers))
 
+-- every term of an atom passes
 abbrev atomTest : (Term → Bool) → Atom → Bool
 atomTest p (joined u v w) = p u && (p v && p w)
 atomTest p (equal u v) = p u && p v
 
+-- every term of a system passes
 abbrev systemTest : (Term → Bool) → System → Bool
 systemTest p [] = true
 systemTest p (positive a ∷ s) = atomTest p a && systemTest p s
 systemTest p (negated a ∷ s) = atomTest p a && systemTest p s
 
+-- a question of satisfiability has no own variable and no second system
 abbrev aloneTest : Kind → ℕ → System → Bool
 aloneTest satisfiability m [] = eqb m 0
 aloneTest satisfiability m (x ∷ s) = false
 aloneTest entailment m s = true
 
+-- a question is well formed
 abbrev pub formedTest : Question → Bool
 formedTest q =
     aloneTest (q .kind) (q .own) (q .second)

@@ -10,6 +10,7 @@ use Rattle.systems.specs.Solutions.{heightOf, Solution, Extends, Extends
 use Rattle.systems.specs.Answers.{Answer, Answers, needed, shows, Shown}
 use Rattle.systems.specs.Decide.{decideAt, shownAt}
 
+-- the rule, as one claim
 pub record HeightRule (h : ℕ) (q : Question) : Type 0 where
   -- some solution exists, of whatever height, exactly if one no taller than h + c d does
   pub solution : Solution anyHeight q ↔ Solution (atMost (h + c (firstCount q))) q

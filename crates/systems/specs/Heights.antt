@@ -14,16 +14,18 @@ use Rattle.shares.specs.Tree.{height}
 use Rattle.shares.specs.TreeLaws.{treeOf-height}
 use Rattle.shares.specs.Constant.{numberTree}
 use Rattle.leaves.specs.Heights.{c, anyHeight, atMost, exactly}
-use Rattle.leaves.specs.HeightLaws.{c-enough, room-any, room-at, room-exact}
+use Rattle.leaves.specs.HeightLaws.{c-enough, room-any, room-at}
 use Rattle.leaves.specs.Choices.{Row, at, least}
-use Rattle.leaves.specs.Problem.{Problem, Solves, candidate}
+use Rattle.leaves.specs.Problem.{Problem, candidate}
+use Rattle.leaves.specs.LeafSolutions.{SolvesLeaves}
 use Rattle.leaves.specs.ProblemLaws.{cut-solvable, candidate-solves, solution-glued}
 use Rattle.leaves.specs.Second.{withUnmet, withMissed, canBeMissed, firstMissed}
 use Rattle.leaves.specs.SecondLaws.{extension-room, unmet-solvable, unmet-first, unmet-counter, missed-first, missed-counter}
 use Rattle.systems.specs.Clauses.{Term, variable, constant, Constants, Assignment}
-use Rattle.systems.specs.Questions.{Kind, satisfiability, entailment, Question, Defined, Within, WellFormed, Bounds, tallestConstant, questionHeight, firstCount, secondCount}
-use Rattle.systems.specs.Solutions.{tallest, heightOf, SolvesFirst, Solution, Extends, ExtendsBy, SomeNot, Entails}
-use Rattle.systems.specs.Answers.{Answer, satisfied, unsatisfied, vacuous, entailed, unmet, missed, kindOf, Says, Answers, Yes, verdict, needed, shows, Shown}
+use Rattle.systems.specs.Questions.{Kind, satisfiability, entailment, Question, Defined, WellFormed, tallestConstant, questionHeight, firstCount, secondCount}
+use Rattle.systems.specs.Bounds.{Within, Bounds}
+use Rattle.systems.specs.Solutions.{tallest, heightOf, SolvesFirst, Solution, Extends, ExtendsBy, MeetsPositives, MeetsWith, SomeNot, Entails}
+use Rattle.systems.specs.Answers.{Answer, satisfied, unsatisfied, vacuous, entailed, unmet, missed, kindOf, Says, Answers, Yes, verdict, needed, shows, Fails, Shown}
 use Rattle.systems.specs.SystemLaws.{in-system}
 use Rattle.systems.specs.AtLeaves.{firstAt, secondAt}
 use Rattle.systems.specs.AtomLaws.{Reads}
@@ -37,8 +39,8 @@ use Rattle.systems.specs.HeightRule.{HeightRule}
 constant-low : (k : ℕ) (l : List ℕ) (i : ℕ) → i < length l → height (numberTree k (getD l i 0)) ≤ tallestConstant k l
 unfolding tallestConstant
 constant-low k [] i u = absurd (not-suc-le-zero u)
-constant-low k (n ∷ l) zero u = le-max-left _ _
-constant-low k (n ∷ l) (suc i) u = le-trans (constant-low k l i (le-of-suc-le-suc u)) (le-max-right (height (numberTree k n)) _)
+constant-low k (n ∷ l) zero u = omega arith
+constant-low k (n ∷ l) (suc i) u = omega (arith, constant-low k l i (le-of-suc-le-suc u))
 
 pub tallest-low : (k : ℕ) (l : List ℕ) → tallestConstant k l ≤ k
 unfolding tallestConstant
@@ -55,6 +57,14 @@ question-bounds q F = record {
   first = in-system _ _ _ (λ t d _. term-within (q .free) (q .constants) t d) (q .first) (F .first) (F .first);
   second = in-system _ _ _ (λ t d _. term-within (q .free + q .own) (q .constants) t d) (q .second) (F .second) (F .second);
 }
+
+-- ---- what cannot meet the positive clauses, or have a disequation beside them, does not extend
+
+unmet-fails : (q : Question) (σ : Assignment) → ¬ MeetsPositives q σ → Fails q σ unmet
+unmet-fails q σ n = (λ E. n (extends-positives q σ E), n)
+
+missed-fails : (q : Question) (σ : Assignment) (j : ℕ) → j < secondCount q → ¬ MeetsWith j q σ → Fails q σ (missed j)
+missed-fails q σ j l n = (λ E. n (extends-with q σ j l E), n)
 
 -- ---- what a verdict says
 
@@ -92,31 +102,31 @@ module _ (A : ℕ → Type 0) (q : Question) where
   no-means unsatisfied s e = s
   no-means vacuous s e = absurd (one-two e)
   no-means entailed s e = absurd (one-two e)
-  no-means unmet (S, n) e = (S, λ E. n (extends-positives q (S .values) E))
-  no-means (missed j) s e = let (S, n) = s .2 in (S, λ E. n (extends-with q (S .values) j (s .0) E))
+  no-means unmet (S, n) e = (S, unmet-fails q (S .values) n .0)
+  no-means (missed j) s e = let (S, n) = s .2 in (S, missed-fails q (S .values) j (s .0) n .0)
 
 -- ---- the rule
 
 module _ (h : ℕ) (q : Question) (F : WellFormed q) (B : Bounds h q) where
-  -- at height h + c n, trees no taller than it are read at its leaves
-  read-room : (n : ℕ) → Read h (atMost (h + c n)) (exactly (h + c n))
-  read-room n = read-most (le-add-right h (c n))
+  -- from height h + c n up, trees no taller than a height are read at its leaves
+  read-from : (n : ℕ) {k : ℕ} → h + c n ≤ k → Read h (atMost k) (exactly k)
+  read-from n l = read-most (le-trans (le-add-right h _) l)
 
   raise : {A : ℕ → Type 0} → Solution A q → Solution anyHeight q
   raise S = record { values = S .values; allowed = tt; solves = S .solves }
 
-  solution-rule : Solution anyHeight q ↔ Solution (atMost (h + c (firstCount q))) q
-  solution-rule = (
+  solution-rule : (k : ℕ) → h + c (firstCount q) ≤ k → Solution anyHeight q ↔ Solution (atMost k) q
+  solution-rule k l = (
     λ S.
         let L = to-leaves h q F B anyHeight anyHeight (read-any h) S in
         let t = cut-solvable (least (q .free)) h (firstAt h q) (L .height) (L .leaves) (L .solves) in
-        from-leaves h q F B _ _ (read-room (firstCount q)) (solution-glued (least (q .free)) h (firstAt h q) _ (room-exact h (firstCount q)) t),
+        from-leaves h q F B _ _ (read-from (firstCount q) l) (solution-glued (least (q .free)) h (firstAt h q) _ (room-at l) t),
     raise,
   )
 
-  refutation-rule : (¬ Entails anyHeight q) ↔ SomeNot (atMost (h + c (firstCount q + 1))) q (Extends q)
+  refutation-rule : (k : ℕ) → h + c (firstCount q + 1) ≤ k → (¬ Entails anyHeight q) ↔ SomeNot (atMost k) q (Extends q)
   unfolding raise
-  refutation-rule = (λ n. go n (verdict-or a), λ (S, n) E. n (E (raise S)))
+  refutation-rule k l = (λ n. go n (verdict-or a), λ (S, n) E. n (E (raise S)))
     where
       a : Answer
       a = decideKind h q entailment
@@ -124,34 +134,33 @@ module _ (h : ℕ) (q : Question) (F : WellFormed q) (B : Bounds h q) where
       kind : kindOf a ≡ entailment
       kind = decide-kind h q entailment
 
-      go : ¬ Entails anyHeight q → (verdict a ≡ 1) ⊎ (verdict a ≡ 2) → SomeNot (atMost (h + c (firstCount q + 1))) q (Extends q)
+      go : ¬ Entails anyHeight q → (verdict a ≡ 1) ⊎ (verdict a ≡ 2) → SomeNot (atMost k) q (Extends q)
       go n (inl e) =
           absurd (n (subst (λ k. Yes anyHeight k q) kind
           (yes-means anyHeight q a (says-right h q F B anyHeight anyHeight (read-any h) entailment (room-any h _)) e)))
       go n (inr e) =
-          subst (λ k. No (atMost (h + c (firstCount q + 1))) k q) kind
-          (no-means _ q a (says-right h q F B _ _ (read-room (firstCount q + 1)) entailment (room-exact h _)) e)
+          subst (λ a. No (atMost k) a q) kind
+          (no-means _ q a (says-right h q F B _ _ (read-from (firstCount q + 1) l) entailment (room-at l)) e)
 
   -- any assignment that extends, extends so
-  pub extension-rule : (σ : Assignment) → Extends q σ → ExtendsBy (atMost (max (heightOf q σ) h + c (secondCount q))) q σ
-  extension-rule σ E =
+  extension-rule : (σ : Assignment) → Extends q σ → (k : ℕ) → max (heightOf q σ) h + c (secondCount q) ≤ k → ExtendsBy (atMost k) q σ
+  extension-rule σ E k m =
       let w = max (tallest (q .free) σ) h in
       let l = le-max-right (tallest (q .free) σ) h in
       let r = rows-read (q .free) w σ (le-max-left (tallest (q .free) σ) h) in
-      let v = w + c (secondCount q) in
-      extension-iff h q F B w l σ _ r (atMost v) (exactly v) (read-most (le-add-right w _)) .1
-      (extension-room (least (q .own)) h (secondAt h q) w _ l anyHeight (exactly v) (room-exact w (secondCount q))
+      extension-iff h q F B w l σ _ r (atMost k) (exactly k) (read-most (le-trans (le-add-right w _) m)) .1
+      (extension-room (least (q .own)) h (secondAt h q) w _ l anyHeight (exactly k) (room-at m)
       (extension-iff h q F B w l σ _ r anyHeight anyHeight (read-any w) .0 E))
 
   held-rule : (k : ℕ) → h + c (needed (q .kind) (firstCount q)) ≤ k → (a : Answer) → Answers (atMost k) q a ↔ Answers anyHeight q a
   held-rule k l a =
       Iff·trans
-      (answers-iff h q F B (atMost k) (exactly k) (read-most (le-trans (le-add-right h _) l)) (room-at l) a)
+      (answers-iff h q F B (atMost k) (exactly k) (read-from (needed (q .kind) (firstCount q)) l) (room-at l) a)
       (Iff·symm (answers-iff h q F B anyHeight anyHeight (read-any h) (room-any h _) a))
 
   -- ---- the solution that is shown
 
-  module _ (P : Problem (Row Bool (q .free))) (k : ℕ) (S : Solves h (firstAt h q) (h + k) (candidate (least (q .free)) h P k)) where
+  module _ (P : Problem (Row Bool (q .free))) (k : ℕ) (S : SolvesLeaves h (firstAt h q) (h + k) (candidate (least (q .free)) h P k)) where
     fixed-reads : Reads (q .free) (h + k) (fixed h q P k) (λ i. at false (candidate (least (q .free)) h P k i))
     fixed-reads = shares-read (q .free) (h + k) _
 
@@ -164,7 +173,7 @@ module _ (h : ℕ) (q : Question) (F : WellFormed q) (B : Bounds h q) where
   shown-satisfied : T (canSolve h q) → Shown h q satisfied (shownWith h q satisfied)
   shown-satisfied t =
       let S = candidate-solves (least (q .free)) h (firstAt h q) t (c (firstCount q)) (c-enough (firstCount q)) in
-      record { solves = fixed-solves (firstAt h q) (c (firstCount q)) S; low = fixed-low (firstAt h q) (c (firstCount q)) S; fails = tt }
+      record { solves = fixed-solves (firstAt h q) (c (firstCount q)) S; low = omega (arith, fixed-low (firstAt h q) (c (firstCount q)) S); fails = tt }
 
   -- room for one more than the disequations
   room-more : suc (firstCount q) ≤ 2 ^ c (firstCount q + 1)
@@ -178,9 +187,9 @@ module _ (h : ℕ) (q : Question) (F : WellFormed q) (B : Bounds h q) where
       let S₁ = unmet-first (least (q .own)) h (firstAt h q) (secondAt h q) (h + k) _ S in
       record {
         solves = fixed-solves P k S₁;
-        low = fixed-low P k S₁;
-        fails = λ m. unmet-counter (least (q .own)) h (firstAt h q) (secondAt h q) (h + k) _ S
-            (meets-iff h q F B (h + k) (le-add-right h k) _ _ (fixed-reads P k S₁) .0 m);
+        low = omega (arith, fixed-low P k S₁);
+        fails = unmet-fails q _ (λ m. unmet-counter (least (q .own)) h (firstAt h q) (secondAt h q) (h + k) _ S
+            (meets-iff h q F B (h + k) (le-add-right h k) _ _ (fixed-reads P k S₁) .0 m));
       }
 
   shown-missed : (j : ℕ) → j < secondCount q → T (canBeMissed (least (q .free)) (least (q .own)) h (firstAt h q) (secondAt h q) j)
@@ -193,9 +202,9 @@ module _ (h : ℕ) (q : Question) (F : WellFormed q) (B : Bounds h q) where
       let S₁ = missed-first (least (q .own)) h (firstAt h q) (secondAt h q) (h + k) _ j S in
       record {
         solves = fixed-solves P k S₁;
-        low = fixed-low P k S₁;
-        fails = λ m. missed-counter (least (q .own)) h (firstAt h q) (secondAt h q) (h + k) _ j S
-            (with-iff h q F B (h + k) (le-add-right h k) _ _ (fixed-reads P k S₁) j l .0 m);
+        low = omega (arith, fixed-low P k S₁);
+        fails = missed-fails q _ j l (λ m. missed-counter (least (q .own)) h (firstAt h q) (secondAt h q) (h + k) _ j S
+            (with-iff h q F B (h + k) (le-add-right h k) _ _ (fixed-reads P k S₁) j l .0 m));
       }
 
   shown-rule : T (shows (decideAt h q)) → Shown h q (decideAt h q) (shownAt h q)
@@ -219,10 +228,10 @@ module _ (h : ℕ) (q : Question) (F : WellFormed q) (B : Bounds h q) where
   -- with any h that bounds the constants that clauses name
   pub height-rule-at : HeightRule h q
   height-rule-at = record {
-    solution = solution-rule;
-    refutation = refutation-rule;
-    extension = λ E S. extension-rule (S .values) (E S);
-    held = held-rule;
+    solution = solution-rule _ (omega arith);
+    refutation = refutation-rule _ (omega arith);
+    extension = λ E S. extension-rule (S .values) (E S) _ (omega arith);
+    held = λ k l. held-rule k (omega arith);
     decision = answers-iff h q F B anyHeight anyHeight (read-any h) (room-any h _);
     shown = shown-rule;
   }

@@ -1,5 +1,6 @@
 pub mod Clauses
 pub mod Questions
+pub mod Bounds
 pub mod Solutions
 pub mod Answers
 pub mod AtLeaves

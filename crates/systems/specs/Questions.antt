@@ -1,11 +1,11 @@
 -- A question, when it is well formed, and its numbers h, d and e. Assumes nothing.
 use mathlib.Core.Path.{_≡_}
 use mathlib.Core.List.{List, [], _∷_}
-use Prim.Native.Nat.{ℕ, _+_, _≤_, _<_, max}
+use Prim.Native.Nat.{ℕ, _+_, _<_, max}
 use lib.ListN.{length}
 use Rattle.shares.specs.Tree.{height}
 use Rattle.shares.specs.Constant.{numberTree}
-use Rattle.systems.specs.Clauses.{Constants, constantTree, Term, variable, constant, Atom, joined, equal, positive, negated, System, disequations}
+use Rattle.systems.specs.Clauses.{Constants, Term, variable, constant, Atom, joined, equal, positive, negated, System, disequations}
 
 -- kind 0 asks whether the first system is satisfiable, kind 1 whether it entails the second
 pub data Kind : Type 0 where
@@ -68,14 +68,3 @@ firstCount q = length (disequations (q .first))
 -- e: how many the second has
 abbrev pub secondCount : Question → ℕ
 secondCount q = length (disequations (q .second))
-
--- a constant that a term names is no taller than h
-abbrev pub Within : ℕ → Constants → Term → Type 0
-Within h cs (variable v) = Unit {0}
-Within h cs (constant i) = height (constantTree cs i) ≤ h
-
--- h, which constants have room for, is no less than the height of any constant that some clause names: all that a law uses of h
-pub record Bounds (h : ℕ) (q : Question) : Type 0 where
-  pub low : h ≤ q .constants .levels
-  pub first : InSystem (Within h (q .constants)) (q .first)
-  pub second : InSystem (Within h (q .constants)) (q .second)

@@ -8,6 +8,7 @@ use Rattle.systems.specs.Questions.{InAtom, InSystem}
 
 -- ---- a system holds exactly if its positive clauses and each of its disequations do
 
+-- its positive clauses hold, and so does each of its disequations
 abbrev pub Parts : Constants → Assignment → System → Type 0
 Parts cs ρ s = AllHold cs ρ (positives s) × ((j : ℕ) → j < length (disequations s) → ¬ Holds cs ρ (disequation s j))
 
@@ -52,7 +53,7 @@ in-positives P [] p = tt
 in-positives P (positive a ∷ s) p = (p .0, in-positives P s (p .1))
 in-positives P (negated a ∷ s) p = in-positives P s (p .1)
 
-pub in-disequations : (P : Term → Type 0) (s : System) → InSystem P s → InAtoms P (disequations s)
+in-disequations : (P : Term → Type 0) (s : System) → InSystem P s → InAtoms P (disequations s)
 unfolding disequations
 in-disequations P [] p = tt
 in-disequations P (positive a ∷ s) p = in-disequations P s (p .1)

@@ -1,4 +1,4 @@
--- The questions of document 01 that are worked by hand and marked M, in one table. Assumes nothing.
+-- Questions worked by hand, in one table: those of docs/SPEC.md, section 12, that are marked P, in its order. Assumes nothing.
 use mathlib.Core.Path.{_≡_}
 use mathlib.Core.Logic.{_↔_}
 use mathlib.Core.List.{List, [], _∷_}
@@ -44,6 +44,7 @@ halves = record { levels = constantLevels; numbers = 0x00000000 ∷ 0xFFFFFFFF �
 abbrev wholes : Constants
 wholes = record { levels = constantLevels; numbers = 0x00000000 ∷ 0xFFFFFFFF ∷ [] }
 
+-- the four as terms
 abbrev empty : Term
 empty = constant 0
 
@@ -60,13 +61,15 @@ R = constant 3
 abbrev v : ℕ → Term
 v i = variable i
 
--- "a join b is c", "a is b", "a is not b"
+-- "a join b is c"
 abbrev joinIs : Term → Term → Term → Clause
 joinIs a b c = positive (joined a b c)
 
+-- "a is b"
 abbrev is : Term → Term → Clause
 is a b = positive (equal a b)
 
+-- "a is not b"
 abbrev isNot : Term → Term → Clause
 isNot a b = negated (equal a b)
 
@@ -78,16 +81,17 @@ asks n cs s = record { kind = satisfiability; free = n; own = 0; constants = cs;
 abbrev entails : ℕ → ℕ → Constants → System → System → Question
 entails n m cs s t = record { kind = entailment; free = n; own = m; constants = cs; first = s; second = t }
 
--- an example of which document 01 names no height that solutions lack
+-- an example that names no height that solutions lack
 abbrev example : Question → Answer → ℕ → Example
 example q a k = record { question = q; answer = a; height = k; never = [] }
 
--- one of which it does
+-- one that does
 abbrev exampleNever : Question → Answer → ℕ → List ℕ → Example
 exampleNever q a k l = record { question = q; answer = a; height = k; never = l }
 
 -- ---- the table
 
+-- each question, in the words above it
 abbrev pub worked : List Example
 worked =
     -- no variable, no clause: yes, height 0

@@ -1,11 +1,11 @@
 -- Every example of the table is right in the model: computed by the decision, which is exact. Assumes nothing.
-use mathlib.Core.Path.{_≡_, refl, sym, ap, _∙_}
+use mathlib.Core.Path.{_≡_, refl, sym, _∙_}
 use mathlib.Core.Bool.{Bool, true, not, _&&_}
 use mathlib.Core.List.{List, [], _∷_}
-use Prim.Native.Nat.{ℕ, zero, suc, _≤_}
+use Prim.Native.Nat.{ℕ, _≤_}
 use native.Mathlib.Omega.{arith}
-use lib.Dec.{T, T-not, leb, eqb, leb→le, eqb→eq}
-use Rattle.shares.specs.Test.{and-left, and-right}
+use lib.Dec.{T, T-not, leb, leb→le}
+use Rattle.shares.specs.Test.{of-true, and-left, and-right}
 use Rattle.shares.specs.Below.{everyBelow, someBelow, firstBelow}
 use Rattle.shares.specs.Tree.{twins, fold, height, treeOf, joinLeaf, joins}
 use Rattle.shares.specs.Constant.{bit}
@@ -13,11 +13,12 @@ use Rattle.leaves.specs.Heights.{c, atMost, exactly}
 use Rattle.leaves.specs.Choices.{someChoice, at, pickRow, least}
 use Rattle.leaves.specs.Problem.{plainAt, specialAt, solvable}
 use Rattle.leaves.specs.Second.{meets, meetsWith, canBeUnmet, canBeMissed, firstMissed}
-use Rattle.leaves.specs.AtHeight.{solvesTest, solvableAt, solvable-at}
+use Rattle.leaves.specs.AtHeight.{solvesTest, solvableAt}
+use Rattle.leaves.specs.AtHeightLaws.{solvable-at}
 use Rattle.systems.specs.Clauses.{positives, disequations}
 use Rattle.systems.specs.Questions.{Question, WellFormed, tallestConstant, questionHeight}
 use Rattle.systems.specs.Solutions.{Solution}
-use Rattle.systems.specs.Answers.{Answer, satisfied, unsatisfied, vacuous, entailed, unmet, missed, heightGiven}
+use Rattle.systems.specs.Answers.{heightGiven}
 use Rattle.systems.specs.AtLeaves.{termAt, atomAt, allAt, bothAt, firstAt}
 use Rattle.systems.specs.Decide.{decideKind, decide}
 use Rattle.systems.specs.Link.{read-most}
@@ -26,57 +27,16 @@ use Rattle.systems.specs.Heights.{question-bounds, exact}
 use Rattle.systems.specs.FormedTest.{formedTest, formed-of}
 use Rattle.systems.specs.Worked.{Example, Never, Right, AllRight, worked}
 
--- ---- a test of an example
-
--- an answer as a number, and back
-abbrev code : Answer → ℕ
-code satisfied = 0
-code unsatisfied = 1
-code vacuous = 2
-code entailed = 3
-code unmet = 4
-code (missed j) = suc (suc (suc (suc (suc j))))
-
-decode : ℕ → Answer
-decode zero = satisfied
-decode (suc zero) = unsatisfied
-decode (suc (suc zero)) = vacuous
-decode (suc (suc (suc zero))) = entailed
-decode (suc (suc (suc (suc zero)))) = unmet
-decode (suc (suc (suc (suc (suc j))))) = missed j
-
-decode-code : (a : Answer) → decode (code a) ≡ a
-unfolding decode
-decode-code satisfied = refl
-decode-code unsatisfied = refl
-decode-code vacuous = refl
-decode-code entailed = refl
-decode-code unmet = refl
-decode-code (missed j) = refl
-
-same-of : (a b : Answer) → T (eqb (code a) (code b)) → a ≡ b
-same-of a b t = sym (decode-code a) ∙ ap decode (eqb→eq (code a) (code b) t) ∙ decode-code b
+-- ---- heights that no solution has
 
 -- no solution has height k: trying every one at its leaves finds none
 abbrev neverTest : Question → ℕ → Bool
 neverTest q k = leb (questionHeight q) k && not (solvableAt (least (q .free)) (questionHeight q) (firstAt (questionHeight q) q) k)
 
+-- none has one of these heights
 abbrev neversTest : Question → List ℕ → Bool
 neversTest q [] = true
 neversTest q (k ∷ l) = neverTest q k && neversTest q l
-
-abbrev rightTest : Example → Bool
-rightTest x =
-    formedTest (x .question)
-    && (eqb (code (decide (x .question))) (code (x .answer))
-    && (eqb (heightGiven (questionHeight (x .question)) (x .question) (x .answer)) (x .height)
-    && neversTest (x .question) (x .never)))
-
-unfoldable allTest : List Example → Bool
-allTest [] = true
-allTest (x ∷ l) = rightTest x && allTest l
-
--- ---- where it passes, the example is right
 
 never-of : (q : Question) → WellFormed q → (k : ℕ) → T (neverTest q k) → ¬ Solution (exactly k) q
 never-of q F k t S =
@@ -91,32 +51,59 @@ nevers-of : (q : Question) → WellFormed q → (l : List ℕ) → T (neversTest
 nevers-of q F [] t = tt
 nevers-of q F (k ∷ l) t = (never-of q F k (and-left (neverTest q k) _ t), nevers-of q F l (and-right (neverTest q k) _ t))
 
-right-of : (x : Example) → T (rightTest x) → Right x
-right-of x t =
-    let q = x .question in
-    let t₁ = and-right (formedTest q) _ t in
-    let same = eqb (code (decide q)) (code (x .answer)) in
-    let t₂ = and-right same _ t₁ in
-    let given = eqb (heightGiven (questionHeight q) q (x .answer)) (x .height) in
-    let F = formed-of q (and-left (formedTest q) _ t) in
-    let e : decide q ≡ x .answer = same-of (decide q) (x .answer) (and-left same _ t₁) in
+-- ---- the table, computed
+
+-- of an example: the decision is its answer, the height given is its height, its question is well formed, and it has no solution of the heights named
+abbrev Computed : Example → Type 0
+Computed x =
+    (decide (x .question) ≡ x .answer)
+    × (heightGiven (questionHeight (x .question)) (x .question) (x .answer) ≡ x .height)
+    × (formedTest (x .question) ≡ true)
+    × (neversTest (x .question) (x .never) ≡ true)
+
+-- of every example of a table
+abbrev AllComputed : List Example → Type 0
+AllComputed [] = Unit {0}
+AllComputed (x ∷ l) = Computed x × AllComputed l
+
+infixr 5 _also_
+-- what is computed of an example, and of the rest of the table
+abbrev _also_ : {A B : Type 0} → A → B → A × B
+_also_ a b = (a, b)
+
+-- a line for each
+computed : AllComputed worked
+unfolding decideKind tallestConstant treeOf fold twins height bit joins joinLeaf positives disequations termAt atomAt allAt bothAt solvable plainAt specialAt someChoice everyBelow someBelow firstBelow pickRow at c meets meetsWith canBeUnmet canBeMissed firstMissed solvesTest solvableAt
+computed =
+    (refl, refl, refl, refl)
+    also (refl, refl, refl, refl)
+    also (refl, refl, refl, refl)
+    also (refl, refl, refl, refl)
+    also (refl, refl, refl, refl)
+    also (refl, refl, refl, refl)
+    also (refl, refl, refl, refl)
+    also (refl, refl, refl, refl)
+    also (refl, refl, refl, refl)
+    also (refl, refl, refl, refl)
+    also (refl, refl, refl, refl)
+    also (refl, refl, refl, refl)
+    also tt
+
+-- ---- so every example is right
+
+right-of : (x : Example) → Computed x → Right x
+right-of x (e, g, f, n) =
+    let F = formed-of (x .question) (of-true f) in
     record {
       formed = F;
-      answered = λ a. (λ m. sym e ∙ exact q F a .0 m, λ f. exact q F a .1 (e ∙ f));
-      given = eqb→eq _ _ (and-left given _ t₂);
-      never = nevers-of q F (x .never) (and-right given _ t₂);
+      answered = λ a. (λ m. sym e ∙ exact (x .question) F a .0 m, λ s. exact (x .question) F a .1 (e ∙ s));
+      given = g;
+      never = nevers-of (x .question) F (x .never) (of-true n);
     }
 
-all-of : (l : List Example) → T (allTest l) → AllRight l
-unfolding allTest
-all-of [] t = tt
-all-of (x ∷ l) t = (right-of x (and-left (rightTest x) _ t), all-of l (and-right (rightTest x) _ t))
-
--- ---- the table is right
-
-computed : T (allTest worked)
-unfolding allTest decideKind tallestConstant treeOf fold twins height bit joins joinLeaf positives disequations termAt atomAt allAt bothAt solvable plainAt specialAt someChoice everyBelow someBelow firstBelow pickRow at c meets meetsWith canBeUnmet canBeMissed firstMissed solvesTest solvableAt
-computed = tt
+all-right : (l : List Example) → AllComputed l → AllRight l
+all-right [] t = tt
+all-right (x ∷ l) (r, t) = (right-of x r, all-right l t)
 
 pub worked-right : AllRight worked
-worked-right = all-of worked computed
+worked-right = all-right worked computed

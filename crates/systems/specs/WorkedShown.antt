@@ -1,4 +1,4 @@
--- Two solutions that are shown, computed: the printed example of document 01, and the order of sub-leaves for reason 2. Assumes nothing.
+-- Two solutions that are shown, computed: the printed example of docs/SPEC.md, 12.13, and the order of sub-leaves for reason 2. Assumes nothing.
 use mathlib.Core.Path.{_≡_, refl}
 use mathlib.Core.Bool.{true, false}
 use mathlib.Core.List.{[], _∷_}

@@ -1,12 +1,9 @@
 pub mod Clause
-pub mod Sets
+pub mod Choices
 pub mod Table
 pub mod ClauseLaws
 pub mod TermLaws
 pub mod TableLaws
-pub mod SearchLaws
+pub mod LowestLaws
 pub mod Stores
-pub mod GatherLaws
-pub mod FoldLaws
 pub mod Shifts
-pub mod RemoveLaws

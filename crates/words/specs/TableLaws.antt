@@ -10,7 +10,7 @@ use Rattle.shares.specs.Constant.{bit}
 use Rattle.shares.specs.BitLaws.{bit-zero}
 use Rattle.words.specs.Clause.{clauseTest, allClauses, position, termValue, Clauses}
 use Rattle.words.specs.ClauseLaws.{clause-ext, section-ext}
-use Rattle.words.specs.Sets.{allPass, clauseFails, allPassBut}
+use Rattle.words.specs.Choices.{allPass, clauseFails, allPassBut}
 use Rattle.words.specs.Table.{Terms, Changed, ConstantWords}
 use Rattle.words.specs.TermLaws.{value-variable, value-constant, value-none, value-fixed}
 use Rattle.shares.specs.BitParts.{bit-low}

@@ -1,14 +1,19 @@
--- Laws of terms: the digit of a variable, a term's value by its kind, and the parts of a choice. Assumes nothing.
+-- Laws of terms: the digit of a variable, the values of the constants, a term's value by its kind, and the parts of a choice.
+-- Assumes nothing.
 use mathlib.Core.Path.{_≡_, sym, ap, ap₂, _∙_, fun-ext}
 use mathlib.Core.Bool.{false, not, _&&_}
 use mathlib.Core.List.{List}
 use Prim.Native.Nat.{ℕ, _+_, _-_, _*_, _%_, _^_, _≤_, _<_}
 use native.Mathlib.Decide.{decLt}
 use native.Mathlib.Omega.{arith}
+use lib.Dec.{ltb}
+use lib.ListN.{getD}
 use borrow.Author.Tests.{lt-ltb, le-ltb}
-use Rattle.shares.specs.Constant.{bit}
+use Rattle.shares.specs.Blocks.{firstOf}
+use Rattle.shares.specs.Constant.{constantLevels, bit}
+use Rattle.shares.specs.BitLaws.{bits-same, number-lt, bit-number}
 use Rattle.words.specs.Clause.{clauseTest, allClauses, position, termValue}
-use Rattle.words.specs.Sets.{allPass, clauseFails, allPassBut}
+use Rattle.words.specs.Choices.{valuesAt, allPass, clauseFails, allPassBut}
 use Rattle.shares.specs.BitParts.{bit-mod, bit-low, bit-high}
 
 -- ---- the digit of a variable
@@ -29,12 +34,24 @@ position-lt n m t h = go (decLt t n)
     go (no g) = rw (position-own n m t (omega arith)) (omega arith)
 
 -- a variable is found from its digit as the digit is found from it
-pub position-back : (n m t : ℕ) → t < n + m → position n m (position n m t) ≡ t
-position-back n m t h = go (decLt t n)
+pub position-twice : (n m t : ℕ) → t < n + m → position n m (position n m t) ≡ t
+position-twice n m t h = go (decLt t n)
   where
     go : Dec (t < n) → position n m (position n m t) ≡ t
     go (yes l) = rw (position-free n m t l, position-free n m (n - 1 - t) (omega arith)) (omega arith)
     go (no g) = rw (position-own n m t (omega arith), position-own n m (2 * n + m - 1 - t) (omega arith)) (omega arith)
+
+-- so `position n m p` is also the variable that has digit p
+pub has-digit : (n m p : ℕ) → p < n + m → (position n m p < n + m) × (position n m (position n m p) ≡ p)
+has-digit n m p h = (position-lt n m p h, position-twice n m p h)
+
+-- ---- the values of the constants
+
+-- a word whose bits are the values at a leaf is their number
+pub values-is : (constants : List ℕ) (defined h b r : ℕ) → r < 2 ^ 64
+    → ((i : ℕ) → bit r i ≡ (ltb i defined && bit (getD constants i 0) (firstOf h constantLevels b))) → r ≡ valuesAt constants defined h b
+unfolding valuesAt
+values-is constants defined h b r small bits = bits-same 64 r _ small (number-lt 64 _) (λ i l. bits i ∙ sym (bit-number 64 _ i l))
 
 -- ---- a term's value by its kind
 

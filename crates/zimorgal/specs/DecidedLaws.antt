@@ -9,7 +9,8 @@ use Rattle.shares.specs.Test.{of-true}
 use Rattle.systems.specs.Questions.{Question, WellFormed, questionHeight}
 use Rattle.systems.specs.Answers.{Answer, satisfied, unsatisfied, vacuous, entailed, unmet, missed, shows, heightGiven}
 use Rattle.systems.specs.Decide.{decide}
-use Rattle.questions.specs.Held.{Held, Stands}
+use Rattle.questions.specs.Stored.{storedOf, Stands}
+use Rattle.questions.specs.declared.Reading.{Reading}
 use Rattle.questions.specs.Callers.{Taken}
 use Rattle.plans.specs.Shown.{Showable}
 use Rattle.rows.specs.Rows.{rowLevels, answerBytes, zeros, filledWith}
@@ -61,16 +62,16 @@ module _ (q : Question) (d : Decision) (D : Decided q d) where
       go false u = refl
 
 -- asking, once a question was read that both buffers are long enough for, and decided
-pub given-answer : (s answer work : List ℕ) (x : Held) (T : Taken s x) → answerBytes ≤ length answer → workBytes ≤ length work
-    → (d : Decision) → ((q : Question) → Stands x q → WellFormed q → Decided q d)
+pub given-answer : (s answer work : List ℕ) (x : Reading) (clauses : List ℕ) (T : Taken s x clauses) → answerBytes ≤ length answer → workBytes ≤ length work
+    → (d : Decision) → ((q : Question) → Stands (x .question .kind) (storedOf (x .question) clauses) q → WellFormed q → Decided q d)
     → (r : Outcome) → r ≡ answerOutcome (answerOf (d .finding)) (cond (shows (answerOf (d .finding))) (d .plan .high) 0)
-    → (answer′ : List ℕ) → answer′ ≡ cond (shows (answerOf (d .finding))) (shown.shownAnswer (x .free) (d .plan) answer) answer
+    → (answer′ : List ℕ) → answer′ ≡ cond (shows (answerOf (d .finding))) (shown.shownAnswer (x .question .free) (d .plan) answer) answer
     → (work′ : List ℕ) → work′ ≡ zeros workBytes ++ drop workBytes work → Given s answer work r answer′ work′
 unfolding workAfter
-given-answer s answer work x T la lw d decided r er answer′ ea work′ ew =
+given-answer s answer work x clauses T la lw d decided r er answer′ ea work′ ew =
     let q = T .question in
     let D = decided q (T .stands) (T .formed) in
     given s answer work (answered q) (asked-answered s (length answer) (length work) q (T .read) la lw) r answer′ work′
     (er ∙ outcome-same q d D)
-    (ea ∙ answer-same q d D (x .free) answer (T .stands .free))
+    (ea ∙ answer-same q d D (x .question .free) answer (T .stands .free))
     ew

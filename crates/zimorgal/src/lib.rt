@@ -151,10 +151,8 @@ pub fn ask(question: &[u8], answer: &mut [u8], work: &mut [u8]) -> Outcome
     ensures work { λ _. ⌜ now (work .exit) ≡ workAfter (askedWith (now (question .entry)) (now (answer .entry)) (now (work .entry))) (now (work .entry)) ⌝ }
     ensures model { λ r. ⌜ ((q : model.Question) → askedWith (now (question .entry)) (now (answer .entry)) (now (work .entry)) ≡ answered q → Exact q r × Demand3 q r (now (answer .exit))) ⌝ }
 {
-    let mut constants = [0u64; 32];
     let mut clauses = [0u8; 768];
-    let mut counts = [0usize; 4];
-    let reading = questions::read(question, &mut constants, &mut clauses, &mut counts);
+    let reading = questions::read(question, &mut clauses);
     if reading.refusal != 0 {
         return refused(reading.refusal, reading.place);
     }
@@ -164,16 +162,9 @@ pub fn ask(question: &[u8], answer: &mut [u8], work: &mut [u8]) -> Outcome
     if work.len() < WORK_BYTES {
         return refused(12, 0);
     }
-    let decision = decide::decide(
-        reading.kind,
-        &clauses,
-        &counts,
-        &constants,
-        reading.defined,
-        reading.free,
-        reading.own,
-    );
-    show_solution(answer, reading.free, decision);
+    let asked = reading.question;
+    let decision = decide::decide(asked, &clauses);
+    show_solution(answer, asked.free, decision);
     clear_work(work);
     found(decision)
 }

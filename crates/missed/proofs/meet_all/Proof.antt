@@ -10,12 +10,12 @@ use Rattle.missed.proofs.meet_all.Statement.{statement}
 use Rattle.missed.proofs.meet_all.Tie as tie
 
 abbrev Inv-loop : tie.InvT-loop
-Inv-loop first-rows first second-rows j words met r₀ i₀ r i =
-    (i ≤ first) × ((k : ℕ) → k < i → bit r k ≡ (bit met k || someOutside first-rows (64 * k) second-rows (64 * j) words))
+Inv-loop first-rows first-count second-rows j words met r₀ i₀ r i =
+    (i ≤ first-count) × ((k : ℕ) → k < i → bit r k ≡ (bit met k || someOutside first-rows (64 * k) second-rows (64 * j) words))
     × ((k : ℕ) → i ≤ k → bit r k ≡ bit met k)
 
 abbrev μ-loop : tie.MeasureT-loop
-μ-loop first-rows first second-rows j words met r₀ i₀ r i = first - i
+μ-loop first-rows first-count second-rows j words met r₀ i₀ r i = first-count - i
 
 loop-holds : tie.Need-loop-holds Inv-loop μ-loop
 loop-holds c = (omega arith, λ k l. absurd (omega arith), λ k l. refl)

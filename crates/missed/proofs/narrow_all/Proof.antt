@@ -1,4 +1,4 @@
--- `missed::narrow_all` meets its contract. The loop's invariant: the first j disequations have gone through the leaf. Assumes nothing.
+-- `missed::narrow_all` meets its contract. The loop's invariant: what the leaf says of the first j disequations is known. Assumes nothing.
 use mathlib.Core.Path.{_≡_}
 use Prim.Native.Nat.{_*_, _-_, _≤_}
 use native.Mathlib.Omega.{arith}
@@ -9,12 +9,12 @@ use Rattle.missed.proofs.narrow_all.Statement.{statement}
 use Rattle.missed.proofs.narrow_all.Tie as tie
 
 abbrev Inv-loop : tie.InvT-loop
-Inv-loop allowed first-rows first second-rows second words possible met₀ r₀ j₀ met r j =
-    (j ≤ second) × (length met ≡ 32)
-    × Passed j first (λ j. someOutside allowed 0 second-rows (64 * j) words) (λ j i. someOutside first-rows (64 * i) second-rows (64 * j) words) possible met₀ r met
+Inv-loop allowed first-rows first-count second-rows second-count words possible met₀ r₀ j₀ met r j =
+    (j ≤ second-count) × (length met ≡ 32)
+    × Passed j first-count (λ j. someOutside allowed 0 second-rows (64 * j) words) (λ j i. someOutside first-rows (64 * i) second-rows (64 * j) words) possible met₀ r met
 
 abbrev μ-loop : tie.MeasureT-loop
-μ-loop allowed first-rows first second-rows second words possible met₀ r₀ j₀ met r j = second - j
+μ-loop allowed first-rows first-count second-rows second-count words possible met₀ r₀ j₀ met r j = second-count - j
 
 loop-holds : tie.Need-loop-holds Inv-loop μ-loop
 loop-holds c = (omega arith, c .before .before .before .pre .3, passed-none _ _ _ _ _)
@@ -42,7 +42,7 @@ same-length c = omega arith
 
 returns : tie.Need-returns Inv-loop μ-loop
 returns c =
-    let e : c .before .loop .j ≡ c .before .before .before .before .before .args .second = omega arith in
+    let e : c .before .loop .j ≡ c .before .before .before .before .before .args .second-count = omega arith in
     rw e at (c .before .loop .inv .2)
 
 pub narrow-all-spec : {M : Type 1} → statement M

@@ -1,7 +1,7 @@
 -- `missed::narrow_leaf` meets its contract: the sets are those of the leaf. Assumes nothing.
 use native.Mathlib.Omega.{arith}
-use Rattle.words.specs.GatherLaws.{words-le}
-use Rattle.plans.specs.Tests.{stored}
+use Rattle.questions.specs.Stored.{stored}
+use Rattle.sets.specs.GatherLaws.{words-le}
 use Rattle.missed.specs.MissedSetLaws.{leaf-passed}
 use borrow.Author.Needs.{needs}
 use Rattle.missed.proofs.narrow_leaf.Statement.{statement}

@@ -5,7 +5,7 @@ use native.Mathlib.Omega.{arith}
 use lib.ListN.{length, getD, getD-replicate}
 use lib.Pow.{pow-pos, pow-mono}
 use Rattle.words.specs.Shifts.{power-shift}
-use Rattle.plans.specs.Tests.{Stored, stored}
+use Rattle.questions.specs.Stored.{Stored, stored}
 use Rattle.missed.specs.Missed.{KnownOf}
 use Rattle.missed.specs.MissedLaws.{known-none}
 use Rattle.missed.specs.MissedSetLaws.{known-leaf, known-lowest, known-nothing}
@@ -13,12 +13,12 @@ use Rattle.missed.proofs.narrow_leaves.Statement.{statement}
 use Rattle.missed.proofs.narrow_leaves.Tie as tie
 
 abbrev Inv-loop : tie.InvT-loop
-Inv-loop clauses counts constants defined free own h first-rows₀ second-rows₀ second allowed₀ meets₀ met₀ possible₀ leaves b₀ first-rows second-rows allowed meets met possible b =
+Inv-loop clauses counts constants defined free own h first-rows₀ second-rows₀ second-count allowed₀ meets₀ met₀ possible₀ leaves b₀ first-rows second-rows allowed meets met possible b =
     (b ≤ 2 ^ h) × (length met ≡ 32) × KnownOf (stored clauses counts constants defined free own) h b possible met
     × (length first-rows ≡ length first-rows₀) × (length second-rows ≡ length second-rows₀)
 
 abbrev μ-loop : tie.MeasureT-loop
-μ-loop clauses counts constants defined free own h first-rows₀ second-rows₀ second allowed₀ meets₀ met₀ possible₀ leaves b₀ first-rows second-rows allowed meets met possible b =
+μ-loop clauses counts constants defined free own h first-rows₀ second-rows₀ second-count allowed₀ meets₀ met₀ possible₀ leaves b₀ first-rows second-rows allowed meets met possible b =
     2 ^ h - b
 
 -- the question that is stored
@@ -34,8 +34,8 @@ leaf-count s = power-shift (s .args .h) (omega (arith, s .pre .2))
 all-possible : (s : tie.Start Inv-loop μ-loop) → (1 * 2 ^ getD (s .args .counts .now) 3 0) % 2 ^ 64 ≡ 2 ^ getD (s .args .counts .now) 3 0
 all-possible s = power-shift (getD (s .args .counts .now) 3 0) (omega (arith, s .pre .0 .few))
 
-element-copy-out-second : tie.Need-element-copy-out-second Inv-loop μ-loop
-element-copy-out-second c = omega arith
+element-copy-out-second-count : tie.Need-element-copy-out-second-count Inv-loop μ-loop
+element-copy-out-second-count c = omega arith
 
 shl-possible : tie.Need-shl-possible Inv-loop μ-loop
 shl-possible c = omega (arith, c .before .before .before .pre .0 .few)
@@ -91,16 +91,16 @@ loop-again c =
     let r = c .before .before .before .before .before .narrow-leaf in (
       omega (arith, c .before .before .before .before .before .before .before .before .before .before .before .before .before .loop-test .taken, leaf-count s),
       r .kept .1 .1 .1 .1 .1 .1 .1 .1 .1 .1 .0 ∙ l .inv .1,
-      known-leaf (asStored s) (s .args .h) (l .b) _ (l .possible) (l .met) (r .result) _ (c .before .before .before .before .before .before .before .before .before .before .before .values-at .ensures _ _ _ _) (l .inv .2) (r .ensures _ _),
+      known-leaf (asStored s) (s .args .h) (l .b) _ (l .possible) (l .met) (r .result) _ (c .before .before .before .before .before .before .before .before .before .before .before .values-at .ensures) (l .inv .2) (r .ensures _ _),
       r .kept .1 .1 .1 .1 .1 .1 .0 ∙ l .inv .3,
       r .kept .1 .1 .1 .1 .1 .1 .1 .1 .0 ∙ l .inv .4,
     )
 
-element-copy-out-first-missed : tie.Need-element-copy-out-first-missed Inv-loop μ-loop
-element-copy-out-first-missed c = omega arith
+element-copy-out-lowest-found : tie.Need-element-copy-out-lowest-found Inv-loop μ-loop
+element-copy-out-lowest-found c = omega arith
 
-first-missed-requires : tie.Need-first-missed-requires Inv-loop μ-loop
-first-missed-requires c κs = omega (arith, c .before .before .before .before .before .before .before .pre .0 .few)
+lowest-found-requires : tie.Need-lowest-found-requires Inv-loop μ-loop
+lowest-found-requires c κs = omega (arith, c .before .before .before .before .before .before .before .pre .0 .few)
 
 same-length-3 : tie.Need-same-length-3 Inv-loop μ-loop
 same-length-3 c = c .before .before .before .before .loop .inv .3
@@ -113,7 +113,7 @@ returns-2 c =
     let s = c .before .before .before .before .before .before .before .before in
     let l = c .before .before .before .before .loop in
     let e : l .b ≡ 2 ^ s .args .h = omega (arith, c .before .before .before .loop-test .left, leaf-count s) in
-    c .first-missed .ensures ∙ known-lowest (asStored s) (s .args .h) (l .possible) (l .met) (rw e at (l .inv .2))
+    c .lowest-found .ensures ∙ known-lowest (asStored s) (s .args .h) (l .possible) (l .met) (rw e at (l .inv .2))
 
 pub narrow-leaves-spec : {M : Type 1} → statement M
 narrow-leaves-spec =
@@ -121,7 +121,7 @@ narrow-leaves-spec =
     (tie.spec
     Inv-loop
     μ-loop
-    element-copy-out-second
+    element-copy-out-second-count
     shl-possible
     sub-possible
     shl-leaves
@@ -135,8 +135,8 @@ narrow-leaves-spec =
     add-b
     loop-less
     loop-again
-    element-copy-out-first-missed
-    first-missed-requires
+    element-copy-out-lowest-found
+    lowest-found-requires
     same-length-3
     same-length-4
     returns-2)

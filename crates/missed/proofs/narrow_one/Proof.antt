@@ -3,7 +3,7 @@ use mathlib.Core.Path.{sym, _∙_}
 use native.Mathlib.Omega.{arith}
 use borrow.Author.Tests.{not-true}
 use Rattle.words.specs.Shifts.{power-shift}
-use Rattle.missed.specs.MissedLaws.{narrowed-before, narrowed-stays, narrowed-goes}
+use Rattle.missed.specs.MissedLaws.{narrowed-before, narrowed-stays, narrowed-out}
 use borrow.Author.Needs.{needs}
 use Rattle.missed.proofs.narrow_one.Statement.{statement}
 use Rattle.missed.proofs.narrow_one.Tie as tie
@@ -49,7 +49,7 @@ shl-result c = search needs
 returns-3 : tie.Need-returns-3
 returns-3 c =
     let a = c .before .before .before .before .before .before .before .before .args in
-    rw (power-shift (a .j) (omega arith)) (narrowed-goes _ _ _ _ _ _ (sym (c .before .any-outside .ensures) ∙ c .if2 .left) (omega arith))
+    rw (power-shift (a .j) (omega arith)) (narrowed-out _ _ _ _ _ _ (sym (c .before .any-outside .ensures) ∙ c .if2 .left) (omega arith))
 
 pub narrow-one-spec : {M : Type 1} → statement M
 narrow-one-spec =

@@ -1,5 +1,5 @@
 -- `missed::word_outside` meets its contract. Assumes nothing.
-use Rattle.words.specs.RemoveLaws.{without}
+use Rattle.sets.specs.RemoveLaws.{without}
 use borrow.Author.Needs.{needs}
 use Rattle.missed.proofs.word_outside.Statement.{statement}
 use Rattle.missed.proofs.word_outside.Tie as tie

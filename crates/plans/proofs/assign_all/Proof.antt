@@ -4,21 +4,22 @@ use mathlib.Core.Path.{_≡_, _∙_}
 use Prim.Native.Nat.{_+_, _-_, _≤_}
 use native.Mathlib.Omega.{arith}
 use lib.ListN.{length}
-use Rattle.words.specs.Sets.{inSet}
+use Rattle.sets.specs.Sets.{inSet}
 use Rattle.plans.specs.Tests.{specialIn}
 use Rattle.plans.specs.Entries.{ForLeaf, After, Entries}
-use Rattle.plans.specs.EntryLaws.{entries-none, entries-more, entries-all, assigned-next, assigned-lengths, clauses-fewer}
+use Rattle.plans.specs.EntryLaws.{entries-none, entries-more, entries-all, assigned-next, assigned-lengths}
+use Rattle.words.specs.ClauseLaws.{clauses-fewer}
 use Rattle.plans.proofs.assign_all.Statement.{statement}
 use Rattle.plans.proofs.assign_all.Tie as tie
 
 abbrev Inv-loop : tie.InvT-loop
-Inv-loop clauses free values extra set other count entries first subleaf₀ choice₀ next₀ e₀ subleaf choice next e =
-    (e ≤ entries) × (next ≤ first + e) × (length subleaf ≡ 32) × (length choice ≡ 32)
-    × ForLeaf free count entries first (inSet set) (specialIn clauses free values (inSet other) extra)
+Inv-loop clauses free values extra set other words entries base subleaf₀ choice₀ next₀ e₀ subleaf choice next e =
+    (e ≤ entries) × (next ≤ base + e) × (length subleaf ≡ 32) × (length choice ≡ 32)
+    × ForLeaf free words entries base (inSet set) (specialIn clauses free values (inSet other) extra)
     (λ h k b R. After free h R k b subleaf₀ choice₀ → Entries free h R k b e next subleaf choice)
 
 abbrev μ-loop : tie.MeasureT-loop
-μ-loop clauses free values extra set other count entries first subleaf₀ choice₀ next₀ e₀ subleaf choice next e =
+μ-loop clauses free values extra set other words entries base subleaf₀ choice₀ next₀ e₀ subleaf choice next e =
     entries - e
 
 loop-holds : tie.Need-loop-holds Inv-loop μ-loop

@@ -2,7 +2,7 @@
 use native.Mathlib.Omega.{arith}
 use borrow.Author.Needs.{needs}
 use Rattle.plans.specs.LeafLaws.{sets-first, sets-unmet, sets-missed}
-use Rattle.plans.specs.Tests.{stored}
+use Rattle.questions.specs.Stored.{stored}
 use Rattle.plans.proofs.fill_leaf.Statement.{statement}
 use Rattle.plans.proofs.fill_leaf.Tie as tie
 

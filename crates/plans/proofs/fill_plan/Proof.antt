@@ -8,7 +8,8 @@ use borrow.Author.Needs.{needs}
 use Rattle.shares.specs.Test.{of-true}
 use Rattle.plans.specs.FillLaws.{leaves-le, plains-none, filled-none, filled-all}
 use Rattle.plans.specs.Entries.{Plains, After}
-use Rattle.plans.specs.Tests.{stored, testsOf}
+use Rattle.questions.specs.Stored.{stored}
+use Rattle.plans.specs.Tests.{testsOf}
 use Rattle.plans.proofs.fill_plan.Statement.{statement}
 use Rattle.plans.proofs.fill_plan.Tie as tie
 

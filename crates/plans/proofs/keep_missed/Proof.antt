@@ -2,8 +2,8 @@
 use native.Mathlib.Omega.{arith}
 use borrow.Author.Needs.{needs}
 use Rattle.plans.specs.LeafLaws.{missed-is}
-use Rattle.plans.specs.Tests.{stored}
-use Rattle.words.specs.GatherLaws.{words-le}
+use Rattle.questions.specs.Stored.{stored}
+use Rattle.sets.specs.GatherLaws.{words-le}
 use Rattle.words.specs.ClauseLaws.{clauses-at}
 use Rattle.plans.proofs.keep_missed.Statement.{statement}
 use Rattle.plans.proofs.keep_missed.Tie as tie
@@ -43,8 +43,8 @@ same-length c = search needs
 returns : tie.Need-returns
 returns c = let s = c .before .before .before .before .before .before .before .before .before .before .before .before .before in
     let a = s .args in
-    λ constants defined z l. missed-is (stored (a .clauses .now) (a .counts .now) constants defined (a .free) (a .own)) _ _ _ _ _ _ (c .before .before .before .before .before .before .before .before .before .before .before .count-of .ensures) (c .before .before .before .before .before .before .before .before .fill-sets .ensures .1 .1)
-    (λ y m. c .before .before .remove .ensures y (rw (c .before .before .before .word-count .ensures) m)) z l
+    λ constants defined z l. missed-is (stored (a .clauses .now) (a .counts .now) constants defined (a .free) (a .own)) _ _ _ _ _ _ (c .before .before .before .before .before .before .before .before .before .before .before .count-of .ensures) (c .before .before .before .before .before .before .before .before .fill-sets .ensures .1 .1 .0)
+    (λ y m. c .before .before .remove .ensures .0 y (rw (c .before .before .before .word-count .ensures) m)) z l
 
 pub keep-missed-spec : {M : Type 1} → statement M
 keep-missed-spec =

@@ -6,18 +6,18 @@ use native.Mathlib.Omega.{arith}
 use borrow.Author.Needs.{needs}
 use Rattle.shares.specs.BelowLaws.{first-le, first-none}
 use Rattle.shares.specs.Constant.{bit}
-use Rattle.words.specs.Sets.{inSet}
-use Rattle.words.specs.SearchLaws.{found-in-word, none-in-word}
+use Rattle.sets.specs.Sets.{inSet}
+use Rattle.sets.specs.SearchLaws.{found-in-word, none-in-word}
 use Rattle.plans.specs.Tests.{specialIn}
 use Rattle.plans.proofs.least_special.Statement.{statement}
 use Rattle.plans.proofs.least_special.Tie as tie
 
 abbrev Inv-loop : tie.InvT-loop
-Inv-loop clauses free values extra set other count e w₀ w = (w ≤ count)
+Inv-loop clauses free values extra set other words e w₀ w = (w ≤ words)
     × ((z : ℕ) → z < 64 * w → (inSet set z && specialIn clauses free values (inSet other) extra e z) ≡ false)
 
 abbrev μ-loop : tie.MeasureT-loop
-μ-loop clauses free values extra set other count e w₀ w = count - w
+μ-loop clauses free values extra set other words e w₀ w = words - w
 
 loop-holds : tie.Need-loop-holds Inv-loop μ-loop
 loop-holds c = (omega arith, λ z l. absurd (omega arith))

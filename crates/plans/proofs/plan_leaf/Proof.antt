@@ -1,7 +1,7 @@
 -- `plans::plan_leaf` meets its contract: the leaf has a choice, or has none. Assumes nothing.
 use Rattle.plans.specs.FillLaws.{leaves-le, row-room, fits, turn-found, turn-none}
-use Rattle.plans.specs.Tests.{stored}
-use Rattle.words.specs.GatherLaws.{words-le}
+use Rattle.questions.specs.Stored.{stored}
+use Rattle.sets.specs.GatherLaws.{words-le}
 use native.Mathlib.Omega.{arith}
 use Prim.Native.Nat.{_*_}
 use mathlib.Core.Path.{ap}
@@ -15,8 +15,8 @@ values-at-requires c κs = search needs
 power-requires : tie.Need-power-requires
 power-requires c κs = search needs
 
-mul-first : tie.Need-mul-first
-mul-first c = let p = c .before .before .before .before .before .pre .1 .0 in rw (c .power .ensures) (omega (arith, row-room (p .2) (p .3) (p .5)))
+mul-base : tie.Need-mul-base
+mul-base c = let p = c .before .before .before .before .before .pre .1 .0 in rw (c .power .ensures) (omega (arith, row-room (p .2) (p .3) (p .5)))
 
 visit-leaf-requires : tie.Need-visit-leaf-requires
 visit-leaf-requires c κs =
@@ -54,7 +54,7 @@ returns c =
     let a = s .args in
     let p = s .pre .1 .0 in
     let S = stored (a .clauses .now) (a .counts .now) (a .constants .now) (a .defined) (a .free) (a .own) in
-    turn-found S (a .h) (a .search) (a .k) (a .b) _ _ _ _ _ _ _ _ (fits S (a .h) (a .search) (p .2) (p .3) (p .4)) (p .5) (c .before .before .before .before .before .before .before .before .before .before .values-at .ensures _ _ _ _) (ap (λ y. a .b * y) (c .before .before .before .before .before .before .before .before .before .power .ensures))
+    turn-found S (a .h) (a .search) (a .k) (a .b) _ _ _ _ _ _ _ _ (fits S (a .h) (a .search) (p .2) (p .3) (p .4)) (p .5) (c .before .before .before .before .before .before .before .before .before .before .values-at .ensures) (ap (λ y. a .b * y) (c .before .before .before .before .before .before .before .before .before .power .ensures))
     (c .before .before .before .before .before .before .visit-leaf .ensures (a .constants .now) (a .defined)) (omega (arith, p .5, leaves-le (p .2), s .pre .1 .1 .0)) (omega (arith, c .if1 .taken, c .before .word-count .ensures))
 
 same-length-4 : tie.Need-same-length-4
@@ -68,7 +68,7 @@ returns-2 c =
     let a = c .before .before .before .before .before .before .before .before .before .before .before .before .before .before .args in
     let p = c .before .before .before .before .before .before .before .before .before .before .before .before .before .before .pre .1 .0 in
     let S = stored (a .clauses .now) (a .counts .now) (a .constants .now) (a .defined) (a .free) (a .own) in
-    turn-none S (a .h) (a .search) (a .k) (a .b) _ _ _ _ _ _ _ _ (fits S (a .h) (a .search) (p .2) (p .3) (p .4)) (p .5) (c .before .before .before .before .before .before .before .before .before .before .values-at .ensures _ _ _ _) (ap (λ y. a .b * y) (c .before .before .before .before .before .before .before .before .before .power .ensures))
+    turn-none S (a .h) (a .search) (a .k) (a .b) _ _ _ _ _ _ _ _ (fits S (a .h) (a .search) (p .2) (p .3) (p .4)) (p .5) (c .before .before .before .before .before .before .before .before .before .before .values-at .ensures) (ap (λ y. a .b * y) (c .before .before .before .before .before .before .before .before .before .power .ensures))
     (c .before .before .before .before .before .before .visit-leaf .ensures (a .constants .now) (a .defined)) (omega (arith, c .if1 .left, c .before .word-count .ensures))
 
 pub plan-leaf-spec : {M : Type 1} → statement M
@@ -77,7 +77,7 @@ plan-leaf-spec =
     (tie.spec
     values-at-requires
     power-requires
-    mul-first
+    mul-base
     visit-leaf-requires
     word-count-requires
     mul-if1

@@ -1,4 +1,5 @@
 -- `plans::room_of` meets its contract, by cases on the search. Assumes nothing.
+use native.Mathlib.Omega.{arith}
 use borrow.Author.Needs.{needs}
 use Rattle.plans.proofs.room_of.Statement.{statement}
 use Rattle.plans.proofs.room_of.Tie as tie
@@ -22,10 +23,10 @@ returns : tie.Need-returns
 returns c = search needs
 
 returns-2 : tie.Need-returns-2
-returns-2 c = simp (c .enum-told2 .given .1)
+returns-2 c = rw (c .enum-told2 .given .1) (omega arith)
 
 returns-3 : tie.Need-returns-3
-returns-3 c = simp (c .enum-told3 .given .1)
+returns-3 c = rw (c .enum-told3 .given .1) (omega arith)
 
 pub room-of-spec : {M : Type 1} → statement M
 room-of-spec =

@@ -1,5 +1,5 @@
 -- `plans::solve` meets its contract. Assumes nothing.
-use mathlib.Core.Path.{_≡_, ap, _∙_}
+use mathlib.Core.Path.{_≡_, refl, ap, _∙_}
 use mathlib.Core.Bool.{_&&_}
 use Prim.Native.Nat.{_+_, _^_, _≤_}
 use native.Mathlib.Omega.{arith}
@@ -9,7 +9,8 @@ use Rattle.leaves.specs.Heights.{c}
 use Rattle.plans.specs.SolveLaws.{room-enough, splits-is, room-splits, solved}
 use Rattle.plans.specs.FillLaws.{fits, after-none}
 use Rattle.plans.specs.LeafLaws.{extra-le}
-use Rattle.plans.specs.Tests.{stored, extraOf, roomOf}
+use Rattle.questions.specs.Stored.{stored}
+use Rattle.plans.specs.Tests.{extraOf, roomOf}
 use Rattle.plans.proofs.solve.Statement.{statement}
 use Rattle.plans.proofs.solve.Tie as tie
 
@@ -83,21 +84,36 @@ all-assigned-requires-2 c κs = omega (arith, few (c .before .before .before .be
 both-hold-requires-2 : tie.Need-both-hold-requires-2
 both-hold-requires-2 c κs = search needs
 
-add-t19 : tie.Need-add-t19
-add-t19 c = omega (arith, splits (c .before .before .before .before .before .before .before .before .before .before .before .before .before) .1, c .before .before .before .before .before .before .before .before .before .before .before .before .before .before .before .before .before .pre .1)
-
 add-t30 : tie.Need-add-t30
-add-t30 c = omega (arith, few (c .before .before .before .before .before .before .before .before .before .before .before .before .before))
+add-t30 c = omega (arith, splits (c .before .before .before .before .before .before .before .before .before .before .before .before .before .before) .1, c .before .before .before .before .before .before .before .before .before .before .before .before .before .before .before .before .before .before .pre .1)
+
+add-t32 : tie.Need-add-t32
+add-t32 c = omega (arith, few (c .before .before .before .before .before .before .before .before .before .before .before .before .before .before))
 
 returns : tie.Need-returns
 returns c =
-    let s = c .before .before .before .before .before .before .before .before .before .before .before .before .before .before .before .before .before in
+    let s = c .before .before .before .before .before .before .before .before .before .before .before .before .before .before .before .before .before .before in
     let a = s .args in
     let S = stored (a .clauses .now) (a .counts .now) (a .constants .now) (a .defined) (a .free) (a .own) in
-    let k = splits (c .before .before .before .before .before .before .before .before .before .before .before .before .before) in
-    let filled = c .before .before .before .before .before .before .before .before .before .fill-plan .result in
-    solved S (a .h) (a .search) _ _ _ (fits S (a .h) (a .search) (s .pre .1 .2) (k .1) (k .2)) (k .0) (c .before .before .before .before .before .before .before .before .before .before .before .before .before .before .before .extra-of .ensures) (c .before .before .before .before .before .before .before .before .before .before .before .before .before .before .before .before .count-of .ensures) _ _ _ filled _ _
-    (c .before .before .before .before .before .before .before .before .before .fill-plan .ensures) (c .before .before .before .both-hold .ensures ∙ ap (_&&_ filled) (c .before .before .before .before .all-assigned .ensures)) (c .both-hold2 .ensures ∙ ap (_&&_ filled) (c .before .all-assigned2 .ensures))
+    let k = splits (c .before .before .before .before .before .before .before .before .before .before .before .before .before .before) in
+    let filled = c .before .before .before .before .before .before .before .before .before .before .fill-plan .result in
+    solved S (a .h) (a .search) _ _ _ (fits S (a .h) (a .search) (s .pre .1 .2) (k .1) (k .2)) (k .0) (c .before .before .before .before .before .before .before .before .before .before .before .before .before .before .before .before .extra-of .ensures) (c .before .before .before .before .before .before .before .before .before .before .before .before .before .before .before .before .before .count-of .ensures) _ _ _ filled _ _ _
+    (λ t. refl) (λ t. absurd (rw (c .if1 .taken) at t))
+    (c .before .before .before .before .before .before .before .before .before .before .fill-plan .ensures) (c .before .before .before .before .both-hold .ensures ∙ ap (_&&_ filled) (c .before .before .before .before .before .all-assigned .ensures)) (c .before .both-hold2 .ensures ∙ ap (_&&_ filled) (c .before .before .all-assigned2 .ensures))
+
+no-plan-requires : tie.Need-no-plan-requires
+no-plan-requires c κs = search needs
+
+returns-2 : tie.Need-returns-2
+returns-2 c =
+    let s = c .before .before .before .before .before .before .before .before .before .before .before .before .before .before .before .before .before .before .before in
+    let a = s .args in
+    let S = stored (a .clauses .now) (a .counts .now) (a .constants .now) (a .defined) (a .free) (a .own) in
+    let k = splits (c .before .before .before .before .before .before .before .before .before .before .before .before .before .before .before) in
+    let filled = c .before .before .before .before .before .before .before .before .before .before .before .fill-plan .result in
+    solved S (a .h) (a .search) _ _ _ (fits S (a .h) (a .search) (s .pre .1 .2) (k .1) (k .2)) (k .0) (c .before .before .before .before .before .before .before .before .before .before .before .before .before .before .before .before .before .extra-of .ensures) (c .before .before .before .before .before .before .before .before .before .before .before .before .before .before .before .before .before .before .count-of .ensures) _ _ _ filled _ _ _
+    (λ t. absurd (rw (c .before .if1 .left) at t)) (λ t. c .no-plan .ensures)
+    (c .before .before .before .before .before .before .before .before .before .before .before .fill-plan .ensures) (c .before .before .before .before .before .both-hold .ensures ∙ ap (_&&_ filled) (c .before .before .before .before .before .before .all-assigned .ensures)) (c .before .before .both-hold2 .ensures ∙ ap (_&&_ filled) (c .before .before .before .all-assigned2 .ensures))
 
 pub solve-spec : {M : Type 1} → statement M
 solve-spec =
@@ -116,6 +132,8 @@ solve-spec =
     both-hold-requires
     all-assigned-requires-2
     both-hold-requires-2
-    add-t19
     add-t30
-    returns)
+    add-t32
+    returns
+    no-plan-requires
+    returns-2)

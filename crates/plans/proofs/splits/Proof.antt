@@ -2,7 +2,7 @@
 use Prim.Native.Nat.{_-_, _≤_}
 use native.Mathlib.Omega.{arith}
 use native.Mathlib.Nat.{le-antisymm}
-use Rattle.plans.specs.FillLaws.{c-most, c-more}
+use Rattle.leaves.specs.HeightLaws.{c-most, c-more}
 use Rattle.leaves.specs.Heights.{c}
 use Rattle.plans.proofs.splits.Statement.{statement}
 use Rattle.plans.proofs.splits.Tie as tie

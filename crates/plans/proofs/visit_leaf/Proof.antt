@@ -3,10 +3,10 @@ use mathlib.Core.Path.{ap₂}
 use Prim.Native.Nat.{_+_}
 use native.Mathlib.Omega.{arith}
 use borrow.Author.Needs.{needs}
-use Rattle.plans.specs.EntryLaws.{clauses-fewer}
+use Rattle.words.specs.ClauseLaws.{clauses-fewer}
 use Rattle.plans.specs.LeafLaws.{extra-le, visited}
-use Rattle.plans.specs.Tests.{stored}
-use Rattle.words.specs.GatherLaws.{words-le}
+use Rattle.questions.specs.Stored.{stored}
+use Rattle.sets.specs.GatherLaws.{words-le}
 use Rattle.plans.proofs.visit_leaf.Statement.{statement}
 use Rattle.plans.proofs.visit_leaf.Tie as tie
 

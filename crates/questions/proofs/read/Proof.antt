@@ -21,16 +21,16 @@ refused-requires c κs = search needs
 
 returns : tie.Need-returns
 returns c =
-    refused-head _ _ (c .before .before .before .before .read-head .ensures) _ _ _ _ _ _ (c .before .before .enum-told .given .1) (c .before .wrong-of .ensures) (c .refused .ensures)
+    refused-head _ _ (c .before .before .before .before .read-head .ensures) _ _ _ _ (c .before .before .enum-told .given .1) (c .before .wrong-of .ensures) (c .refused .ensures)
 
 read-commands-requires : tie.Need-read-commands-requires
 read-commands-requires c κs =
-    let H = head-taken _ _ (c .before .before .before .before .before .before .read-head .ensures) _ _ _ (c .before .before .before .before .h .given .1) in
-    (H .0, (H .1, (c .before .before .read-commands-arg .given .0 .1, c .before .read-commands-arg2 .given .0 .1)))
+    let H = head-taken _ _ (c .before .before .before .before .read-head .ensures) _ _ _ (c .before .before .h .given .1) in
+    (H .0, (H .1, c .read-commands-arg .given .0 .1))
 
 returns-2 : tie.Need-returns-2
 returns-2 c =
-    read-on _ _ (c .before .before .before .before .before .before .before .read-head .ensures) _ _ _ (c .before .before .before .before .before .h .given .1) _ _ _ _ (c .read-commands .ensures)
+    read-on _ _ (c .before .before .before .before .before .read-head .ensures) _ _ _ (c .before .before .before .h .given .1) _ _ _ (c .read-commands .ensures)
 
 pub read-spec : {M : Type 1} → statement M
 read-spec =

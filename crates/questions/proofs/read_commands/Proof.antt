@@ -1,29 +1,35 @@
--- `questions::read_commands` meets its contract. The loop's invariant: what is held stands for a question from which the commands left give the whole reading. Assumes nothing.
-use mathlib.Core.Path.{sym, _∙_}
+-- `questions::read_commands` meets its contract. The loop's invariant: what is stored stands for a question from which the commands left give the whole reading. Assumes nothing.
+use mathlib.Core.Path.{_≡_, sym, _∙_}
 use Prim.Native.Nat.{_-_}
 use native.Mathlib.Omega.{arith}
 use lib.ListN.{length}
 use borrow.Author.Needs.{needs}
-use Rattle.questions.specs.Format.{opened}
-use Rattle.questions.specs.Held.{heldOf}
+use Rattle.questions.specs.Format.{fault, opened}
+use Rattle.questions.specs.Stored.{stored}
 use Rattle.questions.specs.FormatLaws.{size-some}
-use Rattle.questions.specs.HeldLaws.{room-constant, room-clause}
+use Rattle.questions.specs.KeepingLaws.{room-constant, room-clause}
 use Rattle.questions.proofs.Turns.{Going, begins, refused-turn, whole, no-fault, accepted-turn, after-end, goes, going-kept}
 use Rattle.questions.proofs.read_commands.Statement.{statement}
 use Rattle.questions.proofs.read_commands.Tie as tie
 
 abbrev Inv-loop : tie.InvT-loop
-Inv-loop bytes kind free own constants₀ clauses₀ counts₀ defined₀ at₀ constants clauses counts defined at =
-    Going bytes (heldOf kind clauses counts constants defined free own) (opened kind free own) at
+Inv-loop bytes kind free own clauses₀ constants₀ counts₀ defined₀ at₀ clauses constants counts defined at =
+    Going bytes kind (stored clauses counts constants defined free own) (opened kind free own) clauses₀ at
 
 abbrev μ-loop : tie.MeasureT-loop
-μ-loop bytes kind free own constants₀ clauses₀ counts₀ defined₀ at₀ constants clauses counts defined at =
+μ-loop bytes kind free own clauses₀ constants₀ counts₀ defined₀ at₀ clauses constants counts defined at =
     length bytes - at
+
+-- a command that was taken has no fault
+fault-free : (t : tie.After-known-told Inv-loop μ-loop) → fault (t .before .before .before .before .before .loop .inv .q) (t .before .r .given .0 .0) ≡ 0
+fault-free t =
+    let turn = t .before .before .before in
+    no-fault _ _ _ _ _ _ (turn .before .before .loop .inv) _ (turn .read-command .ensures) _ _ (t .before .r .given .1)
 
 loop-holds : tie.Need-loop-holds Inv-loop μ-loop
 loop-holds c =
-    let start = c .before .before .before .before in
-    begins (start .args .bytes .now) _ _ _ _ _ (start .pre .1 .1 .0) (start .pre .1 .1 .1) (start .pre .0) (start .pre .1 .0)
+    let start = c .before .before in
+    begins (start .args .bytes .now) _ _ _ _ (start .pre .1 .1) (start .pre .0) (start .pre .1 .0)
 
 read-command-requires : tie.Need-read-command-requires Inv-loop μ-loop
 read-command-requires c κs = (c .before .loop .inv .stands .variables, c .before .loop .inv .stands .counted)
@@ -43,72 +49,70 @@ refused-requires c κs = search needs
 same-length : tie.Need-same-length Inv-loop μ-loop
 same-length c = search needs
 
-same-length-2 : tie.Need-same-length-2 Inv-loop μ-loop
-same-length-2 c = search needs
-
 returns : tie.Need-returns Inv-loop μ-loop
 returns c =
     let turn = c .before .before .before .before in
-    refused-turn _ _ _ _ (turn .before .before .loop .inv) _ (turn .read-command .ensures) _ _ _ (c .before .before .enum-told .given .1) (c .before .refusal-of .ensures) (c .refused .ensures)
+    refused-turn _ _ _ _ _ _ (turn .before .before .loop .inv) _ (turn .read-command .ensures) _ _ _ (c .before .before .enum-told .given .1) (c .before .refusal-of .ensures) (c .refused .ensures)
 
 is-end-requires : tie.Need-is-end-requires Inv-loop μ-loop
 is-end-requires c κs = search needs
 
-same-length-3 : tie.Need-same-length-3 Inv-loop μ-loop
-same-length-3 c = search needs
-
-same-length-4 : tie.Need-same-length-4 Inv-loop μ-loop
-same-length-4 c = search needs
+same-length-2 : tie.Need-same-length-2 Inv-loop μ-loop
+same-length-2 c = search needs
 
 returns-2 : tie.Need-returns-2 Inv-loop μ-loop
 returns-2 c =
-    let turn = c .before .before .before .before .before .before in
-    accepted-turn _ _ _ _ (turn .before .before .loop .inv) _ (turn .read-command .ensures) _ _ (c .before .before .before .before .r .given .1) (sym (c .before .before .is-end .ensures) ∙ c .before .if1 .taken) (c .if2 .taken)
+    let t = c .before .before .before in
+    let turn = t .before .before .before in
+    accepted-turn _ _ _ _ _ _ (turn .before .before .loop .inv) _ (turn .read-command .ensures) _ _ (t .before .r .given .1) (sym (c .before .before .is-end .ensures) ∙ c .before .if1 .taken) (c .if2 .taken)
 
 refused-requires-2 : tie.Need-refused-requires-2 Inv-loop μ-loop
 refused-requires-2 c κs = search needs
 
-same-length-5 : tie.Need-same-length-5 Inv-loop μ-loop
-same-length-5 c = search needs
-
-same-length-6 : tie.Need-same-length-6 Inv-loop μ-loop
-same-length-6 c = search needs
+same-length-3 : tie.Need-same-length-3 Inv-loop μ-loop
+same-length-3 c = search needs
 
 returns-3 : tie.Need-returns-3 Inv-loop μ-loop
 returns-3 c =
-    let turn = c .before .before .before .before .before .before .before in
-    after-end _ _ _ _ (turn .before .before .loop .inv) _ (turn .read-command .ensures) _ _ (c .before .before .before .before .before .r .given .1) _ (sym (c .before .before .before .is-end .ensures) ∙ c .before .before .if1 .taken) (c .before .if2 .left) (c .refused2 .ensures)
+    let t = c .before .before .before .before in
+    let turn = t .before .before .before in
+    after-end _ _ _ _ _ _ (turn .before .before .loop .inv) _ (turn .read-command .ensures) _ _ (t .before .r .given .1) (sym (c .before .before .before .is-end .ensures) ∙ c .before .before .if1 .taken) _ (c .before .if2 .left) (c .refused2 .ensures)
+
+slice-aggregate-keep-constant : tie.Need-slice-aggregate-keep-constant Inv-loop μ-loop
+slice-aggregate-keep-constant c = search needs
 
 keep-constant-requires : tie.Need-keep-constant-requires Inv-loop μ-loop
-keep-constant-requires c κs =
-    let turn = c .before .before .before .before .before .before in
-    room-constant _ _ (turn .before .before .loop .inv .stands) _ (no-fault _ _ _ _ (turn .before .before .loop .inv) _ (turn .read-command .ensures) _ _ (c .before .before .before .before .r .given .1))
+keep-constant-requires c κs = let t = c .before .before .before in room-constant _ _ (t .before .before .before .before .before .loop .inv .stands) _ (fault-free t)
 
 keep-clause-requires : tie.Need-keep-clause-requires Inv-loop μ-loop
 keep-clause-requires c κs =
-    let turn = c .before .before .before .before .before .before .before .before .before .before .before in
-    let held = turn .before .before .loop .inv .stands in
-    (held .sizes .1, room-clause _ _ held _ (no-fault _ _ _ _ (turn .before .before .loop .inv) _ (turn .read-command .ensures) _ _ (c .before .before .before .before .before .before .before .before .before .r .given .1)))
+    let t = c .before .before .before .before .before .before .before in
+    let d = t .before .before .before .before .before .loop .inv .stands in
+    (d .sizes .1, room-clause _ _ d _ (fault-free t))
 
 count-clause-requires : tie.Need-count-clause-requires Inv-loop μ-loop
 count-clause-requires c κs =
-    let turn = c .before .before .before .before .before .before .before .before .before .before .before .before .before .before .before in
-    room-clause _ _ (turn .before .before .loop .inv .stands) _ (no-fault _ _ _ _ (turn .before .before .loop .inv) _ (turn .read-command .ensures) _ _ (c .before .before .before .before .before .before .before .before .before .before .before .before .before .r .given .1))
+    let t = c .before .before .before .before .before .before .before .before .before .before .before in
+    room-clause _ _ (t .before .before .before .before .before .loop .inv .stands) _ (fault-free t)
 
 loop-less : tie.Need-loop-less Inv-loop μ-loop
 loop-less c =
-    let turn = c .before .before .before .before .before .before .before .before .before .before .before .before .before .before .before .before in
-    let W = whole _ _ _ _ (turn .before .before .loop .inv) _ (turn .read-command .ensures) _ _ (c .before .before .before .before .before .before .before .before .before .before .before .before .before .before .r .given .1) in
-    omega (arith, W .0, W .1, size-some (c .before .before .before .before .before .before .before .before .before .before .before .before .before .before .r .given .0 .0))
+    let t = c .before .before .before .before .before .before .before .before .before .before .before .before in
+    let turn = t .before .before .before in
+    let W = whole _ _ _ _ _ _ (turn .before .before .loop .inv) _ (turn .read-command .ensures) _ _ (t .before .r .given .1) in
+    omega (arith, W .0, W .1, size-some (t .before .r .given .0 .0))
 
 loop-again : tie.Need-loop-again Inv-loop μ-loop
 loop-again c =
-    let turn = c .before .before .before .before .before .before .before .before .before .before .before .before .before .before .before .before in
+    let t = c .before .before .before .before .before .before .before .before .before .before .before .before in
+    let turn = t .before .before .before in
     let head = turn .before .before .loop in
-    let start = turn .before .before .before .before .before .before .before in
-    let x = heldOf (start .args .kind) (head .clauses) (head .counts) (head .constants) (head .defined) (start .args .free) (start .args .own) in
-    going-kept _ x _ _ (c .before .before .before .before .before .before .before .before .before .before .before .before .before .before .r .given .0 .0) _ _ _ _ (c .before .before .before .before .before .before .before .before .before .keep-constant .ensures .0) (c .before .before .before .before .before .before .before .before .before .keep-constant .ensures .1) (c .before .before .before .before .keep-clause .ensures)
-    (c .count-clause .ensures) (goes _ _ _ _ (head .inv) _ (turn .read-command .ensures) _ _ (c .before .before .before .before .before .before .before .before .before .before .before .before .before .before .r .given .1) (λ i. omega (arith, c .before .before .before .before .before .before .before .before .before .before .before .before .before .before .before .before .before .before .before .before .before .before .shared-slice-known .given i)) (sym (c .before .before .before .before .before .before .before .before .before .before .before .before .is-end .ensures) ∙ c .before .before .before .before .before .before .before .before .before .before .before .if1 .left))
+    let start = turn .before .before .before .before .before in
+    let x = stored (head .clauses) (head .counts) (head .constants) (head .defined) (start .args .free) (start .args .own) in
+    going-kept _ _ x _ _ _ (t .before .r .given .0 .0) _ _ _ _ (c .before .before .before .before .before .before .before .before .keep-constant .ensures .0) (c .before .before .before .before .before .before .before .before .keep-constant .ensures .1)
+    (c .before .before .before .before .keep-clause .ensures) (c .count-clause .ensures)
+    (goes _ _ _ _ _ _ (head .inv) _ (turn .read-command .ensures) _ _ (t .before .r .given .1) (λ i. omega (arith, turn .before .before .before .before .shared-slice-known .given i))
+    (sym (c .before .before .before .before .before .before .before .before .before .before .before .is-end .ensures) ∙ c .before .before .before .before .before .before .before .before .before .before .if1 .left))
 
 pub read-commands-spec : {M : Type 1} → statement M
 read-commands-spec =
@@ -123,16 +127,14 @@ read-commands-spec =
     refusal-of-requires
     refused-requires
     same-length
-    same-length-2
     returns
     is-end-requires
-    same-length-3
-    same-length-4
+    same-length-2
     returns-2
     refused-requires-2
-    same-length-5
-    same-length-6
+    same-length-3
     returns-3
+    slice-aggregate-keep-constant
     keep-constant-requires
     keep-clause-requires
     count-clause-requires

@@ -6,7 +6,7 @@ use lib.Dec.{lit≤}
 use lib.ListN.{length, getD}
 use lib.Pow.{pow-mono}
 use Rattle.shares.specs.Constant.{bit}
-use Rattle.shares.specs.Blocks.{block-lt}
+use Rattle.shares.specs.BlockLaws.{block-lt}
 use Rattle.rows.specs.Rows.{rowLevels, rowLeaf}
 use Rattle.rows.specs.Blocks.{Inside}
 use Rattle.rows.specs.BlockLaws.{leaf-inside, blocks-more}

@@ -5,7 +5,7 @@ use native.Mathlib.Omega.{arith}
 use borrow.Author.Needs.{needs}
 use Rattle.shares.specs.BitParts.{bit-not}
 use Rattle.words.specs.Clause.{clauseTest}
-use Rattle.words.specs.Sets.{clauseFails}
+use Rattle.words.specs.Choices.{clauseFails}
 use Rattle.words.proofs.fails_word.Statement.{statement}
 use Rattle.words.proofs.fails_word.Tie as tie
 

@@ -1,4 +1,4 @@
--- `words::leaf_values` meets its contract. The loop's invariant: the first i constants are in place. Assumes nothing.
+-- `words::leaf_values` meets its contract. The loop's invariant: the first i constants have their bits. Assumes nothing.
 use mathlib.Core.Path.{_≡_, sym, ap, ap₂, _∙_}
 use mathlib.Core.Bool.{Bool, _&&_, _||_, or-false}
 use Prim.Native.Nat.{ℕ, _+_, _*_, _/_, _%_, _^_, _≤_, _<_, _-_}
@@ -43,7 +43,7 @@ add-i c = omega arith
 loop-less : tie.Need-loop-less Inv-loop μ-loop
 loop-less c = omega arith
 
--- what is in place below i, and at i
+-- the bits below i, and bit i
 below-or : (i j : ℕ) (g : ℕ → Bool) → ((ltb j i && g j) || (eqb j i && g i)) ≡ (ltb j (i + 1) && g j)
 below-or i j g = go (decLt j i) (ℕ-discrete j i)
   where

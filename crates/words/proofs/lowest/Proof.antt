@@ -1,7 +1,7 @@
 -- `words::lowest` meets its contract. Assumes nothing.
 use native.Mathlib.Omega.{arith}
 use lib.Count.{trailing-le}
-use Rattle.words.specs.SearchLaws.{zeros-first}
+use Rattle.words.specs.LowestLaws.{zeros-first}
 use Rattle.words.proofs.lowest.Statement.{statement}
 use Rattle.words.proofs.lowest.Tie as tie
 

@@ -1,4 +1,4 @@
--- `words::set_constants` meets its contract. The loop's invariant: the words from 32 to t are in place, and those from t are 0. Assumes nothing.
+-- `words::set_constants` meets its contract. The loop's invariant: the words from 32 to t are those of the constants, and those from t are 0. Assumes nothing.
 use mathlib.Core.Path.{_≡_, refl, sym, ap, _∙_}
 use mathlib.Core.Bool.{false}
 use Prim.Native.Nat.{ℕ, _+_, _-_, _/_, _^_, _≤_, _<_}
@@ -22,7 +22,7 @@ Inv-loop values terms₀ t₀ terms t = (32 ≤ t) × (t ≤ 64) × (length term
 abbrev μ-loop : tie.MeasureT-loop
 μ-loop values terms₀ t₀ terms t = 64 - t
 
--- a number has no bit from k on, if nothing is left of it after k places
+-- a number has no bit from k on, if nothing is left of it above bit k
 none-left : (x k j : ℕ) → x / 2 ^ k ≡ 0 → k ≤ j → bit x j ≡ false
 none-left x k j e l =
     let f : k + (j - k) ≡ j = omega arith in

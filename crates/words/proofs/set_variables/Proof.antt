@@ -1,4 +1,4 @@
--- `words::set_variables` meets its contract. The loop's invariant: the digits from `from` to p are in place. Assumes nothing.
+-- `words::set_variables` meets its contract. The loop's invariant: the variables with digits from `from` to p have their words. Assumes nothing.
 use mathlib.Core.Path.{_≡_, refl, sym, ap, _∙_}
 use Prim.Native.Nat.{ℕ, _+_, _-_, _*_, _≤_, _<_}
 use native.Mathlib.Omega.{arith}
@@ -7,7 +7,7 @@ use borrow.Author.Needs.{needs}
 use Rattle.shares.specs.Constant.{bit}
 use Rattle.words.specs.Clause.{position}
 use Rattle.words.specs.Table.{Digits}
-use Rattle.words.specs.TermLaws.{position-lt, position-back}
+use Rattle.words.specs.TermLaws.{position-lt, position-twice}
 use Rattle.words.specs.Stores.{store-law}
 use Rattle.words.proofs.set_variables.Statement.{statement}
 use Rattle.words.proofs.set_variables.Tie as tie
@@ -26,27 +26,17 @@ loop-holds c = (c .before .pre .1, omega arith, λ t a b d. absurd (omega arith)
 add-loop : tie.Need-add-loop Inv-loop μ-loop
 add-loop c = omega arith
 
-position-of-requires : tie.Need-position-of-requires Inv-loop μ-loop
-position-of-requires c κs = search needs
+variable-at-requires : tie.Need-variable-at-requires Inv-loop μ-loop
+variable-at-requires c κs = search needs
 
 digit-word-requires : tie.Need-digit-word-requires Inv-loop μ-loop
 digit-word-requires c κs = search needs
 
--- the variable that has digit p: it is below n + m, and digit p is its digit
-variable : (c : tie.After-position-of Inv-loop μ-loop)
-    → (let a = c .before .before .before .before .args in
-    (c .position-of .result < a .n + a .m) × (position (a .n) (a .m) (c .position-of .result) ≡ c .before .before .loop .p))
-variable c =
-    let a = c .before .before .before .before .args in
-    let p = c .before .before .loop .p in
-    let h : p < a .n + a .m = c .before .loop-test .taken in
-    (rw (c .position-of .ensures) (position-lt (a .n) (a .m) p h), rw (c .position-of .ensures) (position-back (a .n) (a .m) p h))
-
 mul-terms : tie.Need-mul-terms Inv-loop μ-loop
-mul-terms c = omega (arith, variable (c .before))
+mul-terms c = omega (arith, c .before .variable-at .ensures)
 
 slice-write-terms : tie.Need-slice-write-terms Inv-loop μ-loop
-slice-write-terms c = omega (arith, variable (c .before))
+slice-write-terms c = omega (arith, c .before .variable-at .ensures)
 
 add-p : tie.Need-add-p Inv-loop μ-loop
 add-p c = omega arith
@@ -58,12 +48,12 @@ loop-again : tie.Need-loop-again Inv-loop μ-loop
 loop-again c =
     let l = c .before .before .before .loop in
     let a = c .before .before .before .before .before .args in
-    let s = c .before .position-of .result in
-    let v = variable (c .before) in
+    let s = c .before .variable-at .result in
+    let v = c .before .variable-at .ensures in
     let pos = position (a .n) (a .m) in
     let in-list : s < length (l .terms) = omega (arith, v) in
     let apart : (t : ℕ) → t < a .n + a .m → (t ≡ s → ⊥) → pos t ≡ l .p → ⊥ =
-    λ t h n e. n (sym (position-back (a .n) (a .m) t h) ∙ ap pos e ∙ sym (c .before .position-of .ensures)) in (
+    λ t h n e. n (sym (position-twice (a .n) (a .m) t h) ∙ ap pos (e ∙ sym (v .1)) ∙ position-twice (a .n) (a .m) s (v .0)) in (
       simp length-set (l .inv .0),
       omega arith,
       store-law (λ t x. t < a .n + a .m → a .from ≤ pos t → pos t < l .p + 1 → Digits (a .n) (a .m) (a .w) t x) (l .terms) s (c .digit-word .result)
@@ -90,7 +80,7 @@ set-variables-spec =
     μ-loop
     loop-holds
     add-loop
-    position-of-requires
+    variable-at-requires
     digit-word-requires
     mul-terms
     slice-write-terms

@@ -18,10 +18,10 @@ refused-requires c κs = search needs
 returns : tie.Need-returns
 returns c =
     let reading = c .before .before .before in
-    let start = reading .before .before .before .before .before .before .before .args in
-    let T = answer-refused (start .question .now) _ _ _ _ (reading .read .ensures) (c .before .if1 .taken) in
+    let start = reading .before .before .before .before .before .args in
+    let E = answer-refused (start .question .now) _ (reading .read .ensures .0) (c .before .if1 .taken) in
     given-refused (start .question .now) (start .answer .now) (start .work .now) _ _
-    (asked-refused (start .question .now) (length (start .answer .now)) (length (start .work .now)) _ _ (T .read)) _ (c .refused .ensures)
+    (asked-refused (start .question .now) (length (start .answer .now)) (length (start .work .now)) _ _ E) _ (c .refused .ensures)
 
 refused-requires-2 : tie.Need-refused-requires-2
 refused-requires-2 c κs = search needs
@@ -29,8 +29,8 @@ refused-requires-2 c κs = search needs
 returns-2 : tie.Need-returns-2
 returns-2 c =
     let reading = c .before .before .before .before in
-    let start = reading .before .before .before .before .before .before .before .args in
-    let T = answer-taken (start .question .now) _ _ _ _ (reading .read .ensures) (c .before .before .if1 .left) in
+    let start = reading .before .before .before .before .before .args in
+    let T = answer-taken (start .question .now) _ (reading .read .ensures .0) _ (reading .read .ensures .1 .1) (c .before .before .if1 .left) in
     given-refused (start .question .now) (start .answer .now) (start .work .now) 11 0
     (asked-11 (start .question .now) (length (start .answer .now)) (length (start .work .now)) (T .question) (T .read)
     (c .before .if2 .taken)) _ (c .refused2 .ensures)
@@ -41,23 +41,26 @@ refused-requires-3 c κs = search needs
 returns-3 : tie.Need-returns-3
 returns-3 c =
     let reading = c .before .before .before .before .before in
-    let start = reading .before .before .before .before .before .before .before .args in
-    let T = answer-taken (start .question .now) _ _ _ _ (reading .read .ensures) (c .before .before .before .if1 .left) in
+    let start = reading .before .before .before .before .before .args in
+    let T = answer-taken (start .question .now) _ (reading .read .ensures .0) _ (reading .read .ensures .1 .1) (c .before .before .before .if1 .left) in
     given-refused (start .question .now) (start .answer .now) (start .work .now) 12 0
     (asked-12 (start .question .now) (length (start .answer .now)) (length (start .work .now)) (T .question) (T .read)
     (c .before .before .if2 .left) (c .before .if3 .taken)) _ (c .refused3 .ensures)
 
 decide-requires : tie.Need-decide-requires
 decide-requires c κs =
-    let reading = c .before .before .before .before .before .before .before in
-    let T = answer-taken (reading .before .before .before .before .before .before .before .args .question .now) _ _ _ _ (reading .read .ensures) (c .before .before .before .before .before .if1 .left) in
+    let test = c .before .before .before .before in
+    let reading = test .before .before in
+    let start = reading .before .before .before .before .before .args in
+    let T = answer-taken (start .question .now) _ (reading .read .ensures .0) _ (reading .read .ensures .1 .1) (test .if1 .left) in
     (T .question, T .stands, T .formed)
 
 show-solution-requires : tie.Need-show-solution-requires
 show-solution-requires c κs =
-    let test = c .before .before .before .before .before .before in
+    let test = c .before .before .before .before .before in
     let reading = test .before .before .before in
-    let T = answer-taken (reading .before .before .before .before .before .before .before .args .question .now) _ _ _ _ (reading .read .ensures) (test .before .if1 .left) in
+    let start = reading .before .before .before .before .before .args in
+    let T = answer-taken (start .question .now) _ (reading .read .ensures .0) _ (reading .read .ensures .1 .1) (test .before .if1 .left) in
     let D = c .before .decide .ensures (T .question) (T .stands) (T .formed) in
     ((test .if2 .left, omega (arith, T .stands .variables)), plan-formed (T .question) _ D)
 
@@ -76,11 +79,11 @@ same-length-2 c = search needs
 returns-4 : tie.Need-returns-4
 returns-4 c =
     let shown = c .before .before .before .before .before .before .before in
-    let tests = shown .before .before .before .before .before .before in
+    let tests = shown .before .before .before .before .before in
     let reading = tests .before .before .before .before in
-    let start = reading .before .before .before .before .before .before .before .args in
-    let T = answer-taken (start .question .now) _ _ _ _ (reading .read .ensures) (tests .before .before .if1 .left) in
-    given-answer (start .question .now) (start .answer .now) (start .work .now) _ T (tests .before .if2 .left) (tests .if3 .left)
+    let start = reading .before .before .before .before .before .args in
+    let T = answer-taken (start .question .now) _ (reading .read .ensures .0) _ (reading .read .ensures .1 .1) (tests .before .before .if1 .left) in
+    given-answer (start .question .now) (start .answer .now) (start .work .now) _ _ T (tests .before .if2 .left) (tests .if3 .left)
     _ (shown .before .before .decide .ensures) _ (c .found .ensures) _ (shown .show-solution .ensures) _ (c .before .before .before .clear-work .ensures)
 
 pub ask-spec : {M : Type 1} → statement M

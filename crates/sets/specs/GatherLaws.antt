@@ -1,0 +1,241 @@
+-- Laws of free choices: the choices of all words that fall on one word, gathered, say which free choices some own choice goes with.
+-- Assumes nothing.
+use mathlib.Core.Path.{_≡_, sym, ap, ap₂, _∙_, subst}
+use mathlib.Core.Logic.{_↔_}
+use mathlib.Core.Bool.{Bool, _&&_, _||_, or-false}
+use Prim.Native.Nat.{ℕ, _+_, _-_, _*_, _/_, _%_, _^_, _≤_, _<_}
+use native.Mathlib.Nat.{zero-add, add-zero, zero-mul, mod-lt, mod-one, mod-eq-of-lt, add-comm, lt-of-lt-of-le}
+use native.Mathlib.Decide.{decLt, decLe, ℕ-discrete}
+use native.Mathlib.Numerals.{add-one}
+use native.Mathlib.Omega.{arith}
+use lib.Arith.{digits-lt, lt-one}
+use lib.Bits.{bitAnd, and-mask}
+use lib.Dec.{T, T-not, eqb, eqb→eq, eqb-refl}
+use lib.Pow.{pow-pos, pow-mono, pow-add, shr-lt, low, mod-pow-add, mod-mod-pow}
+use borrow.Author.Tests.{eq-eqb, ne-eqb}
+use Rattle.shares.specs.Test.{same-test, of-true, and-intro, and-left, and-right}
+use Rattle.shares.specs.Below.{someBelow, firstBelow}
+use Rattle.shares.specs.BelowLaws.{some-found, some-intro, some-more, first-longer, first-passes, first-some, first-not-some}
+use Rattle.shares.specs.Constant.{bit}
+use Rattle.shares.specs.BitLaws.{bit-zero}
+use Rattle.words.specs.Choices.{wordCount, someOwn, Periodic}
+use Rattle.sets.specs.Sets.{Words, Gathered, Merged}
+
+-- ---- a free choice in a word
+
+-- with six digits or more, the word and the bit in it are apart
+mod-high : (n w i : ℕ) → 6 ≤ n → i < 64 → (64 * w + i) % 2 ^ n ≡ w % 2 ^ (n - 6) * 64 + i
+mod-high n w i h l =
+    let e : n ≡ (n - 6) + 6 = omega arith in
+    let q : (64 * w + i) / 2 ^ 6 ≡ w = omega arith in
+    let r : (64 * w + i) % 2 ^ 6 ≡ i = omega arith in
+    ap (λ k. (64 * w + i) % 2 ^ k) e ∙ mod-pow-add (64 * w + i) (n - 6) 6 ∙ ap₂ (λ x y. x % 2 ^ (n - 6) * 2 ^ 6 + y) q r
+
+-- with at most six, the word does not count
+mod-low : (n w i : ℕ) → n ≤ 6 → i < 64 → (64 * w + i) % 2 ^ n ≡ i % 2 ^ n
+mod-low n w i h l =
+    let e : (6 - n) + n ≡ 6 = omega arith in
+    let r : (64 * w + i) % 2 ^ 6 ≡ i = omega arith in
+    sym (mod-mod-pow (64 * w + i) (6 - n) n) ∙ ap (λ k. (64 * w + i) % 2 ^ k % 2 ^ n) e ∙ ap (λ x. x % 2 ^ n) r
+
+mod-small : (n i : ℕ) → 6 ≤ n → i < 64 → i % 2 ^ n ≡ i
+mod-small n i h l = mod-eq-of-lt (lt-of-lt-of-le l (pow-mono h))
+
+-- 2 ^ d choices lie in their words
+pub in-words : (d z : ℕ) → z < 2 ^ d → z / 64 < wordCount d
+unfolding wordCount
+in-words d z h = shr-lt (d - 6) 6 (lt-of-lt-of-le h (pow-mono (omega arith)))
+
+pub words-pos : (n : ℕ) → 0 < wordCount n
+unfolding wordCount
+words-pos n = pow-pos (n - 6)
+
+pub words-le : (n : ℕ) → n ≤ 12 → wordCount n ≤ 64
+unfolding wordCount
+words-le n h = pow-mono {j = 6} (omega arith)
+
+-- the remainder by a count of words is a mask
+pub word-free : (v n : ℕ) → bitAnd v (wordCount n - 1) ≡ v % wordCount n
+unfolding wordCount
+word-free v n = and-mask v (n - 6)
+
+-- bits i of word w and j of word u are the same free choice
+pub same-free : (n u w i j : ℕ) → w < wordCount n → i < 64 → j < 64
+    → ((64 * u + j) % 2 ^ n ≡ (64 * w + i) % 2 ^ n) ↔ ((u % wordCount n ≡ w) × (j % 2 ^ n ≡ i % 2 ^ n))
+unfolding wordCount
+same-free n u w i j hw hi hj = go (decLe 6 n)
+  where
+    go : Dec (6 ≤ n) → ((64 * u + j) % 2 ^ n ≡ (64 * w + i) % 2 ^ n) ↔ ((u % 2 ^ (n - 6) ≡ w) × (j % 2 ^ n ≡ i % 2 ^ n))
+    go (yes h) =
+        let eu = mod-high n u j h hj in
+        let ew = mod-high n w i h hi in
+        let small : w % 2 ^ (n - 6) ≡ w = mod-eq-of-lt hw in
+        let small-i : i % 2 ^ n ≡ i = mod-small n i h hi in
+        let small-j : j % 2 ^ n ≡ j = mod-small n j h hj in (
+          λ e. (omega arith, let q : j ≡ i = omega arith in ap (λ k. k % 2 ^ n) q),
+          λ (a, b). omega arith,
+        )
+    go (no h) =
+        let one : n - 6 ≡ 0 = omega arith in
+        let eu = mod-low n u j (omega arith) hj in
+        let ew = mod-low n w i (omega arith) hi in (
+          λ e. (ap (λ k. u % 2 ^ k) one ∙ mod-one u ∙ sym (lt-one (subst (λ k. w < 2 ^ k) one hw)), sym eu ∙ e ∙ ew),
+          λ (a, b). eu ∙ b ∙ sym ew,
+        )
+
+-- ---- the own choices beside a free choice
+
+module _ (n m : ℕ) (p : ℕ → Bool) (periodic : Periodic (n + m) p) where
+  -- a choice that passes has an own part that passes beside its free part
+  pub own-intro : (z : ℕ) → T (p z) → T (someOwn n m p (z % 2 ^ n))
+  unfolding someOwn
+  own-intro z t =
+      let e : p z ≡ p (z / 2 ^ n % 2 ^ m * 2 ^ n + z % 2 ^ n) =
+      periodic z ∙ ap (λ k. p (z % 2 ^ k)) (add-comm n m) ∙ ap p (mod-pow-add z m n) in
+      some-intro (2 ^ m) (λ y. p (y * 2 ^ n + z % 2 ^ n)) (z / 2 ^ n % 2 ^ m) (mod-lt (z / 2 ^ n) (pow-pos m)) (subst T e t)
+
+  -- beside a free choice x some choice below 2 ^ (n + m) passes
+  pub own-found : (x : ℕ) → x < 2 ^ n → T (someOwn n m p x) → (z : ℕ) × (z < 2 ^ (n + m)) × (z % 2 ^ n ≡ x) × T (p z)
+  unfolding someOwn
+  own-found x h t =
+      let (y, l, u) = some-found (2 ^ m) (λ y. p (y * 2 ^ n + x)) t in
+      let e : 2 ^ m * 2 ^ n ≡ 2 ^ (n + m) = sym (pow-add 2 m n) ∙ ap (λ k. 2 ^ k) (add-comm m n) in
+      (y * 2 ^ n + x, subst (λ k. y * 2 ^ n + x < k) e (digits-lt l h), low y n h, u)
+
+  -- the two together, by words
+  pub own-words : (w i : ℕ) → w < wordCount n → i < 64
+      → T (someOwn n m p ((64 * w + i) % 2 ^ n))
+      ↔ ((u : ℕ) × (j : ℕ) × (u < wordCount (n + m)) × (j < 64) × (u % wordCount n ≡ w) × (j % 2 ^ n ≡ i % 2 ^ n) × T (p (64 * u + j)))
+  own-words w i hw hi = (
+    λ t.
+        let (z, l, e, v) = own-found ((64 * w + i) % 2 ^ n) (mod-lt (64 * w + i) (pow-pos n)) t in
+        let cut : 64 * (z / 64) + z % 64 ≡ z = omega arith in
+        let same = same-free n (z / 64) w i (z % 64) hw hi (mod-lt z (omega arith)) .0 (ap (λ k. k % 2 ^ n) cut ∙ e) in
+        (z / 64, z % 64, in-words (n + m) z l, mod-lt z (omega arith), same .0, same .1, subst (λ k. T (p k)) (sym cut) v),
+    λ (u, j, hu, hj, e, f, v).
+        subst (λ x. T (someOwn n m p x)) (same-free n u w i j hw hi hj .1 (e, f)) (own-intro (64 * u + j) v),
+  )
+
+-- without own variables a free choice is the whole choice
+pub own-none : (n : ℕ) (p : ℕ → Bool) → Periodic (n + 0) p → (z : ℕ) → someOwn n 0 p (z % 2 ^ n) ≡ p z
+unfolding someOwn someBelow
+own-none n p periodic z =
+    let e : 0 * 2 ^ n + z % 2 ^ n ≡ z % 2 ^ (n + 0) =
+    ap (λ k. k + z % 2 ^ n) (zero-mul (2 ^ n)) ∙ zero-add (z % 2 ^ n) ∙ ap (λ k. z % 2 ^ k) (sym (add-zero n)) in
+    or-false (p (0 * 2 ^ n + z % 2 ^ n)) ∙ ap p e ∙ sym (periodic z)
+
+-- ---- words gathered
+
+pub gathered-none : (n : ℕ) (p : ℕ → Bool) (word : ℕ → ℕ) → ((w : ℕ) → w < wordCount n → word w ≡ 0) → Gathered n p 0 word
+unfolding someBelow
+gathered-none n p word h w l i k = ap (λ x. bit x i) (h w l) ∙ bit-zero i
+
+-- word v falls on word `at`
+pub gathered-more : (n : ℕ) (p : ℕ → Bool) (v at : ℕ) (old new : ℕ → ℕ) → at ≡ v % wordCount n → Gathered n p v old
+    → ((i : ℕ) → i < 64 → bit (new at) i ≡ (bit (old at) i || p (64 * v + i)))
+    → ((w : ℕ) → w < wordCount n → (w ≡ at → ⊥) → new w ≡ old w) → Gathered n p (v + 1) new
+gathered-more n p v at old new word-is g here others w l i k =
+    go (ℕ-discrete w at) ∙ sym (ap (λ c. someBelow c falls) (add-one v) ∙ some-more v falls)
+  where
+    falls : ℕ → Bool
+    falls u = eqb (u % wordCount n) w && p (64 * u + i)
+
+    go : Dec (w ≡ at) → bit (new w) i ≡ (someBelow v falls || falls v)
+    go (yes e) =
+        ap (λ y. bit (new y) i) e ∙ here i k ∙ ap (λ y. bit (old y) i || p (64 * v + i)) (sym e)
+        ∙ ap₂ _||_ (g w l i k) (sym (ap (λ b. b && p (64 * v + i)) (eq-eqb (v % wordCount n) w (sym (e ∙ word-is)))))
+    go (no apart) =
+        ap (λ y. bit y i) (others w l apart) ∙ g w l i k
+        ∙ sym (ap (λ b. someBelow v falls || (b && p (64 * v + i))) (ne-eqb (v % wordCount n) w (λ q. apart (sym (word-is ∙ q)))) ∙ or-false (someBelow v falls))
+
+-- the choice of a word that a gathered bit stands for, and back
+gathered-found : (n : ℕ) (p : ℕ → Bool) (v w i : ℕ) → T (someBelow v (λ u. eqb (u % wordCount n) w && p (64 * u + i)))
+    ↔ ((u : ℕ) × (u < v) × (u % wordCount n ≡ w) × T (p (64 * u + i)))
+gathered-found n p v w i = (
+  λ t.
+      let (u, l, s) = some-found v (λ u. eqb (u % wordCount n) w && p (64 * u + i)) t in
+      (u, l, eqb→eq (u % wordCount n) w (and-left (eqb (u % wordCount n) w) (p (64 * u + i)) s), and-right (eqb (u % wordCount n) w) (p (64 * u + i)) s),
+  λ (u, l, e, s).
+      some-intro v (λ u. eqb (u % wordCount n) w && p (64 * u + i)) u l
+      (and-intro (eqb (u % wordCount n) w) (p (64 * u + i)) (of-true (eq-eqb (u % wordCount n) w e)) s),
+)
+
+-- merging changes nothing in a word whose six digits are all free
+pub merged-same : (n x : ℕ) → 6 ≤ n → Merged n x x
+merged-same n x h i l =
+    same-test (bit x i) (someBelow 64 same) (λ t. some-intro 64 same i l (and-intro (eqb (i % 2 ^ n) (i % 2 ^ n)) (bit x i) (eqb-refl (i % 2 ^ n)) t))
+    (λ t.
+    let (j, b, s) = some-found 64 same t in
+    let f = eqb→eq (j % 2 ^ n) (i % 2 ^ n) (and-left (eqb (j % 2 ^ n) (i % 2 ^ n)) (bit x j) s) in
+    let q : j ≡ i = sym (mod-small n j h b) ∙ f ∙ mod-small n i h l in
+    subst (λ k. T (bit x k)) q (and-right (eqb (j % 2 ^ n) (i % 2 ^ n)) (bit x j) s))
+  where
+    same : ℕ → Bool
+    same j = eqb (j % 2 ^ n) (i % 2 ^ n) && bit x j
+
+-- where every word is gathered, and word 0 merged, the words are the set of the free choices beside which some own choice passes
+module _ (n m : ℕ) (p : ℕ → Bool) (old new : ℕ → ℕ) (periodic : Periodic (n + m) p) (all : Gathered n p (wordCount (n + m)) old)
+    (first : Merged n (old 0) (new 0)) (others : (w : ℕ) → w < wordCount n → (w ≡ 0 → ⊥) → new w ≡ old w) where
+  merged : (w : ℕ) → w < wordCount n → Merged n (old w) (new w)
+  unfolding wordCount
+  merged w l = go (ℕ-discrete w 0)
+    where
+      go : Dec (w ≡ 0) → Merged n (old w) (new w)
+      go (yes e) = subst (λ k. Merged n (old k) (new k)) (sym e) first
+      go (no g) = subst (λ x. Merged n (old w) x) (sym (others w l g)) (merged-same n (old w) (six (decLe 6 n)))
+        where
+          six : Dec (6 ≤ n) → 6 ≤ n
+          six (yes h) = h
+          six (no h) = let e : n - 6 ≡ 0 = omega arith in absurd (g (lt-one (subst (λ k. w < 2 ^ k) e l)))
+
+  pub gathered-set : Words (wordCount n) new (λ z. someOwn n m p (z % 2 ^ n))
+  gathered-set w l i k =
+      merged w l i k
+      ∙ same-test (someBelow 64 same) (someOwn n m p ((64 * w + i) % 2 ^ n))
+      (λ t.
+      let (j, b, s) = some-found 64 same t in
+      let f = eqb→eq (j % 2 ^ n) (i % 2 ^ n) (and-left (eqb (j % 2 ^ n) (i % 2 ^ n)) (bit (old w) j) s) in
+      let g = subst T (all w l j b) (and-right (eqb (j % 2 ^ n) (i % 2 ^ n)) (bit (old w) j) s) in
+      let (u, a, e, v) = gathered-found n p (wordCount (n + m)) w j .0 g in
+      own-words n m p periodic w i l k .1 (u, j, a, b, e, f, v))
+      (λ t.
+      let (u, j, a, b, e, f, s) = own-words n m p periodic w i l k .0 t in
+      let g = gathered-found n p (wordCount (n + m)) w j .1 (u, a, e, s) in
+      some-intro 64 same j b
+      (and-intro (eqb (j % 2 ^ n) (i % 2 ^ n)) (bit (old w) j) (of-true (eq-eqb (j % 2 ^ n) (i % 2 ^ n) f)) (subst T (sym (all w l j b)) g)))
+    where
+      same : ℕ → Bool
+      same j = eqb (j % 2 ^ n) (i % 2 ^ n) && bit (old w) j
+
+-- ---- a test that counts n digits alone
+
+-- all choices of its words pass where the first 2 ^ n do, and the first that passes is the same
+pub choices-le : (n : ℕ) → 2 ^ n ≤ 64 * wordCount n
+unfolding wordCount
+choices-le n = subst (λ c. 2 ^ n ≤ c) (pow-add 2 6 (n - 6)) (pow-mono (omega arith))
+
+pub periodic-some : (n : ℕ) (p : ℕ → Bool) → Periodic n p → someBelow (64 * wordCount n) p ≡ someBelow (2 ^ n) p
+periodic-some n p h =
+    same-test (someBelow (64 * wordCount n) p) (someBelow (2 ^ n) p)
+    (λ t. let (z, l, u) = some-found (64 * wordCount n) p t in some-intro (2 ^ n) p (z % 2 ^ n) (mod-lt z (pow-pos n)) (subst T (h z) u))
+    (λ t. let (z, l, u) = some-found (2 ^ n) p t in some-intro (64 * wordCount n) p z (lt-of-lt-of-le l (choices-le n)) u)
+
+pub periodic-first : (n : ℕ) (p : ℕ → Bool) → T (someBelow (2 ^ n) p) → firstBelow (64 * wordCount n) p ≡ firstBelow (2 ^ n) p
+periodic-first n p = first-longer (2 ^ n) (64 * wordCount n) p (choices-le n)
+
+-- a search by words finds what a search of the numbers below 2 ^ n finds
+module _ (n : ℕ) (p : ℕ → Bool) (periodic : Periodic n p) where
+  pub words-found : firstBelow (64 * wordCount n) p < 64 * wordCount n → (firstBelow (2 ^ n) p < 2 ^ n) × (firstBelow (64 * wordCount n) p ≡ firstBelow (2 ^ n) p)
+  words-found l =
+      let t : T (someBelow (2 ^ n) p) = rw (periodic-some n p periodic) at (first-some (64 * wordCount n) p l) in
+      let (i, u, v) = some-found (2 ^ n) p t in
+      (first-passes (2 ^ n) p i u v .0, periodic-first n p t)
+
+  pub words-none : 64 * wordCount n ≤ firstBelow (64 * wordCount n) p → 2 ^ n ≤ firstBelow (2 ^ n) p
+  words-none l = go (decLt (firstBelow (2 ^ n) p) (2 ^ n))
+    where
+      go : Dec (firstBelow (2 ^ n) p < 2 ^ n) → 2 ^ n ≤ firstBelow (2 ^ n) p
+      go (no m) = omega arith
+      go (yes m) =
+          absurd (T-not (someBelow (64 * wordCount n) p) (first-not-some (64 * wordCount n) p l)
+          (rw (periodic-some n p periodic) (first-some (2 ^ n) p m)))
