@@ -6,8 +6,12 @@ use text::Written;
 use zimorgal::Outcome;
 ghost use mathlib.Core.Path.{_≡_};
 ghost use mathlib.Core.Bool.{cond};
+ghost use mathlib.Core.List.{[], _∷_};
+ghost use Prim.Native.Nat.{_+_, _/_, _%_};
 ghost use lib.Dec.{eqb};
 ghost use lib.ListN.{getD};
+ghost use Rattle.rows.specs.Rows.{rowLevels};
+ghost use Rattle.text.specs.Texts.{textAfter};
 
 // The byte at a place, 0 past the end.
 fn byte_at(bytes: &[u8], i: usize) -> u8
@@ -55,23 +59,25 @@ fn say_height(height: usize) {
     io::write_all(STDOUT_FILENO, b"\n");
 }
 
-// The name of a variable has two digits.
-fn say_name(variable: usize) {
-    io::write_all(STDOUT_FILENO, b"v");
-    if variable < 10 {
-        io::write_all(STDOUT_FILENO, b"0");
-    }
-    say_number(variable);
-    io::write_all(STDOUT_FILENO, b" ");
+// The name of a variable, with a space after it: `v` and two decimal digits.
+fn name_of(variable: usize) -> [u8; 4]
+    ensures { λ r. ⌜ r ≡ (0x76 ∷ (0x30 + variable / 10 % 10) ∷ (0x30 + variable % 10) ∷ 0x20 ∷ []) ⌝ }
+{
+    let tens = (48 + variable / 10 % 10) as u8;
+    let ones = (48 + variable % 10) as u8;
+    [b'v', tens, ones, b' ']
 }
 
 // The line of one variable. Every row of an answer has a text, and it fits.
-fn say_row(variable: usize, row: &[u8], text: &mut [u8]) {
+fn say_row(variable: usize, row: &[u8], text: &mut [u8])
+    ensures { λ _. ⌜ now (text .exit) ≡ textAfter rowLevels (now (row .entry)) (now (text .entry)) ⌝ }
+{
     let written = text::tree_text(row, text);
     let Written::Length(n) = written else {
         return;
     };
-    say_name(variable);
+    let name = name_of(variable);
+    io::write_all(STDOUT_FILENO, &name);
     if n <= text.len() {
         io::write_all(STDOUT_FILENO, &text[..n]);
     }

@@ -1,5 +1,6 @@
 -- `zimorgal::clear_work` sets the first bytes of the work area to zero. Assumes nothing.
 use mathlib.Core.Path.{sym}
+use native.Mathlib.Omega.{arith}
 use Rattle.zimorgal.specs.AskingLaws.{cleared}
 use borrow.Author.Needs.{needs}
 use Rattle.zimorgal.proofs.clear_work.Statement.{statement}
@@ -12,7 +13,7 @@ part-fill-start : tie.Need-part-fill-start
 part-fill-start c = search needs
 
 part-fill-end : tie.Need-part-fill-end
-part-fill-end c = search needs
+part-fill-end c = omega arith
 
 fill-requires : tie.Need-fill-requires
 fill-requires c κs = search needs

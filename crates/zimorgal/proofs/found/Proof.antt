@@ -1,7 +1,4 @@
 -- `zimorgal::found` gives the numbers of what was found, with the plan's height. Assumes nothing.
-use mathlib.Core.Path.{ap, _∙_}
-use Rattle.decide.specs.Decision.{answerOf}
-use Rattle.zimorgal.specs.Asking.{answerOutcome}
 use borrow.Author.Needs.{needs}
 use Rattle.zimorgal.proofs.found.Statement.{statement}
 use Rattle.zimorgal.proofs.found.Tie as tie
@@ -13,7 +10,7 @@ outcome-of-requires : tie.Need-outcome-of-requires
 outcome-of-requires c κs = search needs
 
 returns : tie.Need-returns
-returns c = c .outcome-of .ensures ∙ ap (answerOutcome (answerOf (c .before .before .args .decision .finding))) (c .before .height-given .ensures)
+returns c = rw (← (c .before .height-given .ensures)) (c .outcome-of .ensures)
 
 pub found-spec : {M : Type 1} → statement M
 found-spec = tie.close (tie.spec height-given-requires outcome-of-requires returns)
