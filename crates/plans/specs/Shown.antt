@@ -1,5 +1,4 @@
 -- What a plan shows: the choice of values at each sub-leaf, and the tree of each variable. Assumes nothing.
-use mathlib.Core.Path.{_≡_}
 use mathlib.Core.Bool.{cond}
 use Prim.Native.Nat.{ℕ, zero, suc, _-_, _^_, _≤_, _<_}
 use lib.Dec.{eqb}

@@ -124,6 +124,9 @@ own-none n p periodic z =
     ap (λ k. k + z % 2 ^ n) (zero-mul (2 ^ n)) ∙ zero-add (z % 2 ^ n) ∙ ap (λ k. z % 2 ^ k) (sym (add-zero n)) in
     or-false (p (0 * 2 ^ n + z % 2 ^ n)) ∙ ap p e ∙ sym (periodic z)
 
+pub own-none-words : (n : ℕ) (p : ℕ → Bool) (word : ℕ → ℕ) → Periodic (n + 0) p → Words (wordCount n) word (λ z. someOwn n 0 p (z % 2 ^ n)) → Words (wordCount n) word p
+own-none-words n p word periodic h w l i k = h w l i k ∙ own-none n p periodic (64 * w + i)
+
 -- ---- words gathered
 
 pub gathered-none : (n : ℕ) (p : ℕ → Bool) (word : ℕ → ℕ) → ((w : ℕ) → w < wordCount n → word w ≡ 0) → Gathered n p 0 word

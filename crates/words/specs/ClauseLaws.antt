@@ -1,17 +1,21 @@
 -- Laws of clauses: the tests by Boolean operations, and the terms that a section reads. Assumes nothing.
-use mathlib.Core.Path.{_≡_, refl}
+use mathlib.Core.Path.{_≡_, refl, ap, ap₂, _∙_}
 use mathlib.Core.Bool.{Bool, true, false, not, xor, _&&_, _||_, Bool·beq}
 use mathlib.Core.List.{List}
-use Prim.Native.Nat.{ℕ, _+_, _*_, _≤_, _<_}
+use Prim.Native.Nat.{ℕ, _+_, _-_, _*_, _^_, _≤_, _<_}
 use native.Mathlib.Nat.{add-assoc}
 use native.Mathlib.Omega.{arith}
+use lib.Bits.{bitAnd, bitOr, bitXor, or-lt, and-lt, xor-lt}
 use lib.ListN.{getD}
 use Rattle.shares.specs.BelowLaws.{every-ext}
+use Rattle.shares.specs.Constant.{bit}
+use Rattle.shares.specs.BitLaws.{bit-and, bit-or, bit-xor}
+use Rattle.shares.specs.BitParts.{bit-not}
 use Rattle.shares.specs.Tree.{joins, joinLeaf}
 use Rattle.words.specs.Clause.{clauseTest, allClauses, Clauses}
 
 -- the test of a join, and of an equality, by operations on bits
-pub joins-bits : (a b c : Bool) → not ((a && b) || xor (a || b) c) ≡ joins a b c
+joins-bits : (a b c : Bool) → not ((a && b) || xor (a || b) c) ≡ joins a b c
 unfolding joins joinLeaf xor
 joins-bits false false false = refl
 joins-bits false false true = refl
@@ -20,6 +24,17 @@ joins-bits false true true = refl
 joins-bits true false false = refl
 joins-bits true false true = refl
 joins-bits true true c = refl
+
+-- and of words, bit by bit
+pub join-bits : (a b c i : ℕ) → a < 2 ^ 64 → b < 2 ^ 64 → c < 2 ^ 64 → i < 64
+    → bit ((2 ^ 64 - 1) - bitOr (bitAnd a b) (bitXor (bitOr a b) c)) i ≡ joins (bit a i) (bit b i) (bit c i)
+join-bits a b c i x y z h =
+    bit-not 64 (bitOr (bitAnd a b) (bitXor (bitOr a b) c)) i (or-lt 64 _ _ (and-lt 64 _ _ x y) (xor-lt 64 _ _ (or-lt 64 _ _ x y) z)) h
+    ∙ ap not (bit-or (bitAnd a b) (bitXor (bitOr a b) c) i ∙ ap₂ _||_ (bit-and a b i) (bit-xor (bitOr a b) c i ∙ ap (λ x. xor x (bit c i)) (bit-or a b i)))
+    ∙ joins-bits (bit a i) (bit b i) (bit c i)
+
+pub not-bits : (x i : ℕ) (p : Bool) → x < 2 ^ 64 → i < 64 → bit x i ≡ p → bit ((2 ^ 64 - 1) - x) i ≡ not p
+not-bits x i p l h e = bit-not 64 x i l h ∙ ap not e
 
 pub equal-bits : (a b : Bool) → not (xor a b) ≡ Bool·beq a b
 unfolding xor

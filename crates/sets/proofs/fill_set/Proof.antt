@@ -1,10 +1,8 @@
 -- `sets::fill_set` meets its contract: without own variables a free choice is the whole choice. Assumes nothing.
-use mathlib.Core.Path.{_∙_}
-use Prim.Native.Nat.{_+_, _*_}
 use borrow.Author.Needs.{needs}
 use Rattle.words.specs.Choices.{allPass}
 use Rattle.words.specs.TermLaws.{pass-mod}
-use Rattle.sets.specs.GatherLaws.{own-none}
+use Rattle.sets.specs.GatherLaws.{own-none-words}
 use Rattle.sets.proofs.fill_set.Statement.{statement}
 use Rattle.sets.proofs.fill_set.Tie as tie
 
@@ -14,10 +12,8 @@ fill-meets-requires c κs = search needs
 returns : tie.Need-returns
 returns c =
     let a = c .before .before .args in (
-      λ w l i h.
-          c .fill-meets .ensures .0 w l i h
-          ∙ own-none (a .n) (allPass (a .clauses .now) (a .start) (a .count) (a .n) 0 (a .values))
-          (λ z. pass-mod (a .n) 0 (a .values) z (a .clauses .now) (a .start) (a .count)) (64 * w + i),
+      own-none-words (a .n) (allPass (a .clauses .now) (a .start) (a .count) (a .n) 0 (a .values)) _
+          (λ z. pass-mod (a .n) 0 (a .values) z (a .clauses .now) (a .start) (a .count)) (c .fill-meets .ensures .0),
       c .fill-meets .ensures .1,
     )
 

@@ -4,8 +4,8 @@ use Prim.Native.Nat.{_+_, _-_, _*_}
 use native.Mathlib.Omega.{arith}
 use borrow.Author.Needs.{needs}
 use Rattle.shares.specs.Constant.{bit}
-use Rattle.shares.specs.BitParts.{bit-low, bit-high}
-use Rattle.words.proofs.DigitMasks.{mask-bit}
+use Rattle.shares.specs.BitParts.{bit-high}
+use Rattle.words.proofs.DigitMasks.{mask-digit}
 use Rattle.words.proofs.digit_word.Statement.{statement}
 use Rattle.words.proofs.digit_word.Tie as tie
 
@@ -16,10 +16,7 @@ array-read-result : tie.Need-array-read-result
 array-read-result c = search needs
 
 returns : tie.Need-returns
-returns c i h =
-    let a = c .before .args in
-    mask-bit (a .p) i (c .if1 .taken) h
-    ∙ sym (bit-low 6 (a .w) i h (a .p) (c .if1 .taken)) ∙ ap (λ z. bit z (a .p)) (omega arith)
+returns c i h = mask-digit (c .before .args .p) (c .before .args .w) i (c .if1 .taken) h
 
 digit-requires : tie.Need-digit-requires
 digit-requires c κs = search needs

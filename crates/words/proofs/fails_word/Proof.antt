@@ -1,10 +1,8 @@
 -- `words::fails_word` meets its contract, bit by bit. Assumes nothing.
-use mathlib.Core.Path.{ap, _∙_}
-use mathlib.Core.Bool.{not}
 use native.Mathlib.Omega.{arith}
 use borrow.Author.Needs.{needs}
-use Rattle.shares.specs.BitParts.{bit-not}
 use Rattle.words.specs.Clause.{clauseTest}
+use Rattle.words.specs.ClauseLaws.{not-bits}
 use Rattle.words.specs.Choices.{clauseFails}
 use Rattle.words.proofs.fails_word.Statement.{statement}
 use Rattle.words.proofs.fails_word.Tie as tie
@@ -36,8 +34,7 @@ test-word-requires c κs = search needs
 returns : tie.Need-returns
 unfolding clauseFails clauseTest
 returns c i h =
-    bit-not 64 (c .test-word .result) i (c .test-word .ok) h
-    ∙ ap not
+    not-bits (c .test-word .result) i _ (c .test-word .ok) h
     (rw (c .before .before .before .before .value-word .ensures i h, c .before .before .before .value-word2 .ensures i h, c .before .before .value-word3 .ensures i h) at (c .test-word .ensures i h))
 
 pub fails-word-spec : {M : Type 1} → statement M
