@@ -24,3 +24,7 @@ undefinedJoin = 2 ^ 32
 -- the tree that a join's number stands for
 abbrev pub numberJoin : ℕ → Option Tree
 numberJoin n = cond (eqb n undefinedJoin) none (some (constant n))
+
+-- a version's three numbers, a byte each, the last lowest
+abbrev pub versionNumber : ℕ → ℕ → ℕ → ℕ
+versionNumber major minor patch = 2 ^ 16 * major + 2 ^ 8 * minor + patch

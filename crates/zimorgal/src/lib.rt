@@ -22,7 +22,7 @@ ghost use Rattle.decide.specs.Decision.{answerOf};
 ghost use Rattle.zimorgal.specs.Asking.{workBytes, answered, askedWith, refusalOutcome, answerOutcome, outcomeOf, answerAfter, workAfter};
 ghost use Rattle.zimorgal.specs.Packing.{packed, unpacked};
 ghost use Rattle.zimorgal.specs.PackingLaws.{InBytes};
-ghost use Rattle.zimorgal.specs.Calls.{rangeNumber, textNumber, undefinedJoin, numberJoin};
+ghost use Rattle.zimorgal.specs.Calls.{rangeNumber, textNumber, undefinedJoin, numberJoin, versionNumber};
 ghost use Rattle.zimorgal.specs.Exact.{Exact};
 ghost use Rattle.zimorgal.specs.Demand3.{Demand3};
 
@@ -252,4 +252,12 @@ pub extern "C" fn zimorgal_height(a: u32) -> u32
     ensures { λ r. ⌜ r ≡ height (constant a) ⌝ }
 {
     shares::constant_height(a)
+}
+
+// The version of the library.
+#[no_mangle]
+pub extern "C" fn zimorgal_version() -> u32
+    ensures { λ r. ⌜ r ≡ versionNumber 0 2 0 ⌝ }
+{
+    0x00_02_00
 }
