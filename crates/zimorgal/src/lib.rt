@@ -169,7 +169,7 @@ pub fn ask(question: &[u8], answer: &mut [u8], work: &mut [u8]) -> Outcome
     found(decision)
 }
 
-// The result as one number: each field is multiplied to its place.
+// The result as one number: each field is multiplied to its bytes.
 fn pack(outcome: Outcome) -> u64
     requires { ⌜ InBytes outcome ⌝ }
     ensures { λ r. ⌜ r ≡ packed outcome ⌝ }

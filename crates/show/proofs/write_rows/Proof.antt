@@ -4,20 +4,20 @@ use mathlib.Core.Path.{_≡_, refl, sym, ap, _∙_}
 use mathlib.Core.List.{_++_}
 use Prim.Native.Nat.{ℕ, _+_, _*_, _-_, _≤_}
 use lib.ListN.{length, drop}
-use Rattle.rows.specs.Rows.{rowLevels, rowBytes, variableRow, rowsOf, filledWith}
+use Rattle.rows.specs.Rows.{rowLevels, rowBytes, rowCount, variableRow, rowsOf, filledWith}
 use Rattle.rows.specs.RowLaws.{rows-more, rows-whole, variable-length}
 use Rattle.plans.specs.Shown.{planTrees}
 use Rattle.show.proofs.write_rows.Statement.{statement}
 use Rattle.show.proofs.write_rows.Tie as tie
 
-part-size : (k : ℕ) → k + 128 - k ≡ 128
+part-size : (k : ℕ) → k + rowBytes - k ≡ rowBytes
 part-size k = omega arith
 
 abbrev Inv-loop : tie.InvT-loop
-Inv-loop answer₀ n plan v₀ answer v = (v ≤ 12) × (length answer ≡ length answer₀) × (answer ≡ rowsOf (variableRow rowLevels n (planTrees n plan)) v ++ drop (v * rowBytes) answer₀)
+Inv-loop answer₀ n plan v₀ answer v = (v ≤ rowCount) × (length answer ≡ length answer₀) × (answer ≡ rowsOf (variableRow rowLevels n (planTrees n plan)) v ++ drop (v * rowBytes) answer₀)
 
 abbrev μ-loop : tie.MeasureT-loop
-μ-loop answer₀ n plan v₀ answer v = 12 - v
+μ-loop answer₀ n plan v₀ answer v = rowCount - v
 
 loop-holds : tie.Need-loop-holds Inv-loop μ-loop
 unfolding rowsOf
@@ -45,7 +45,7 @@ show-row-requires : tie.Need-show-row-requires Inv-loop μ-loop
 show-row-requires c κs =
     let start = c .before .before .before .before in
     let v = c .before .before .loop .v in
-    (start .pre .0, (sym (c .show-row-arg .given .1) ∙ part-size (v * 128), start .pre .1 .1))
+    (start .pre .0, (sym (c .show-row-arg .given .1) ∙ part-size (v * rowBytes), start .pre .1 .1))
 
 add-v : tie.Need-add-v Inv-loop μ-loop
 add-v c = omega arith
@@ -59,7 +59,7 @@ loop-again c =
     let l = c .before .before .before .before .before .loop in
     let fits : (l .v + 1) * rowBytes ≤ length (start .args .answer .now) = omega arith in
     let size = variable-length rowLevels (start .args .n) (planTrees (start .args .n) (start .args .plan)) in
-    let e = rows-more (variableRow rowLevels (start .args .n) (planTrees (start .args .n) (start .args .plan))) rowBytes size (start .args .answer .now) (l .answer) _ (l .v) _ (l .inv .2) (c .before .before .show-row .ensures) (part-size (l .v * 128)) in
+    let e = rows-more (variableRow rowLevels (start .args .n) (planTrees (start .args .n) (start .args .plan))) rowBytes size (start .args .answer .now) (l .answer) _ (l .v) _ (l .inv .2) (c .before .before .show-row .ensures) (part-size (l .v * rowBytes)) in
     (omega arith, ap length e ∙ rows-whole (variableRow rowLevels (start .args .n) (planTrees (start .args .n) (start .args .plan))) rowBytes size _ _ fits, e)
 
 same-length : tie.Need-same-length Inv-loop μ-loop
@@ -67,7 +67,7 @@ same-length c = c .before .loop .inv .1
 
 returns : tie.Need-returns Inv-loop μ-loop
 unfolding filledWith
-returns c = let past : c .before .loop .v ≡ 12 = omega arith in rw past at (c .before .loop .inv .2)
+returns c = let past : c .before .loop .v ≡ rowCount = omega arith in rw past at (c .before .loop .inv .2)
 
 pub write-rows-spec : {M : Type 1} → statement M
 write-rows-spec =
