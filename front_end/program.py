@@ -5,6 +5,8 @@ import re
 import subprocess
 from pathlib import Path
 
+from front_end.files import reason, shown
+
 BUILT = Path(__file__).resolve().parent.parent / "target" / "bin" / "zimorgal_cli"
 
 
@@ -18,9 +20,9 @@ def run(string):
     try:
         done = subprocess.run([os.path.abspath(program)], input=string, stdout=subprocess.PIPE)
     except OSError as error:
-        raise ProgramFault(f"{program} could not be run: {error.strerror} ($ZIMORGAL_CLI names the program)") from None
+        raise ProgramFault(f"{shown(program)} could not be run: {reason(error)} ($ZIMORGAL_CLI names the program)") from None
     if done.returncode != 0:
-        raise ProgramFault(f"{program} ended with status {done.returncode}")
+        raise ProgramFault(f"{shown(program)} ended with status {done.returncode}")
     return done.stdout.decode("ascii", "replace").splitlines()
 
 
@@ -28,7 +30,7 @@ def ask(question_bytes):
     """The lines of the answer to a question."""
     lines = run(question_bytes)
     if not lines or not lines[0].startswith("answer "):
-        raise ProgramFault(f"the program did not answer but said: {' / '.join(lines)}")
+        raise ProgramFault(f"the program did not answer but said: {shown(' / '.join(lines))}")
     return lines
 
 

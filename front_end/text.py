@@ -1,4 +1,13 @@
-"""Questions as readable text, both ways. One thing a line; '#' starts a comment.
+"""Questions as readable text, both ways."""
+
+import re
+from contextlib import contextmanager
+
+from front_end.files import quote
+from front_end.question import CONSTANTS, EQUALITY, FIRST, NEGATED, SECOND, Fault, Question, is_second
+from front_end.trees import TreeFault, read_tree, write_tree
+
+FORM = """The text: one thing a line; '#' starts a comment.
 
     satisfiable                    or: entails; the first line
     free writer reader rest        free variables, by name
@@ -15,14 +24,9 @@ A share in a clause is a name or tree text. Tree text in a clause is the first c
 one, after those of 'let'.
 """
 
-import re
-from contextlib import contextmanager
-
-from front_end.question import CONSTANTS, EQUALITY, FIRST, NEGATED, SECOND, Fault, Question, is_second
-from front_end.trees import TreeFault, read_tree, write_tree
-
 WORD = re.compile(r"=|[^\s=]+")
 NAME = re.compile(r"[A-Za-z_][A-Za-z_0-9]*")
+LONGEST = 255  # characters of a name
 KINDS = ["satisfiable", "entails"]
 KEPT = KINDS + ["free", "own", "let", "if", "then", "not", "join", "is", "o"]
 
@@ -58,7 +62,7 @@ class Line:
         return TextFault(self.number, self.column(), what)
 
     def due(self, what):
-        found = f"not '{self.peek()}'" if self.peek() else "and the line ends"
+        found = f"not {quote(self.peek())}" if self.peek() else "and the line ends"
         return self.fault(f"{what} is due here, {found}")
 
     def skip(self, word):
@@ -134,10 +138,12 @@ class TextReader:
         name = line.peek()
         if not NAME.fullmatch(name):
             raise line.due("a name (letters, digits, '_')")
+        if len(name) > LONGEST:
+            raise line.fault(f"the name {quote(name)} has {len(name):,} characters: it may have {LONGEST}")
         if name in KEPT:
-            raise line.fault(f"'{name}' has a meaning of its own and cannot be a name")
+            raise line.fault(f"{quote(name)} has a meaning of its own and cannot be a name")
         if name in self.lines:
-            raise line.fault(f"'{name}' is defined already, in line {self.lines[name]}")
+            raise line.fault(f"{quote(name)} is defined already, in line {self.lines[name]}")
         self.lines[name] = line.number
         return line.take("a name")
 
@@ -199,7 +205,7 @@ class TextReader:
             elif word in variables:
                 term = variables.index(word)
             elif NAME.fullmatch(word) and word not in KEPT:
-                raise line.fault(f"nothing is named '{word}'")
+                raise line.fault(f"nothing is named {quote(word)}")
             else:
                 raise line.due("a name or a tree")
             self.question.check_term(term, self.system == SECOND)
@@ -212,6 +218,11 @@ class TextReader:
         if leaves in constants:
             return CONSTANTS + constants.index(leaves)
         return self.question.define(leaves)
+
+
+def decode(string):
+    """The text of a file's bytes. Bytes that are no UTF-8 are kept: they may stand in a comment, and a message shows them."""
+    return string.decode("utf-8", "surrogateescape")
 
 
 def read_text(text):

@@ -3,6 +3,8 @@
 Tree text is 'o' (empty), '*' (full) or '(' left right ')', always folded. The 32 leaves are a number, leaf i at bit i.
 """
 
+from front_end.files import quote
+
 TALLEST = 5
 LEAVES = 1 << TALLEST
 
@@ -27,7 +29,7 @@ def read_tree(text):
         wants_half = not pairs or len(pairs[-1][1]) < 2
         if sign not in ("(o*" if wants_half else ")"):
             due = "'(', 'o' or '*'" if wants_half else "')'"
-            raise TreeFault(at, f"no tree text: {due} is due here, not '{sign}'")
+            raise TreeFault(at, f"no tree text: {due} is due here, not {quote(sign)}")
         if sign == "(":
             pairs.append((at, []))
             if len(pairs) > TALLEST and tall is None:

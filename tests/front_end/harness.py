@@ -55,7 +55,8 @@ def command(name, *arguments, given=b""):
     """The same inside this process, which is sooner done."""
     out, errors = io.TextIOWrapper(io.BytesIO()), io.StringIO()
     status = 0
-    with mock.patch.multiple(sys, argv=[name, *arguments], stdin=io.TextIOWrapper(io.BytesIO(given)), stdout=out, stderr=errors):
+    with mock.patch.multiple(sys, argv=[name, *arguments], stdin=io.TextIOWrapper(io.BytesIO(given)), stdout=out, stderr=errors,
+                             path=list(sys.path)):
         try:
             runpy.run_path(str(TOP / name), run_name="__main__")
         except SystemExit as end:
