@@ -12,7 +12,22 @@ MOST_BYTES = 1 << 20  # of a file that is read
 LONG_WORD, LONG_NAME = 40, 300  # how many characters of a word, and of a file's name, a message has
 
 
-class FileFault(Exception):
+class Trouble(Exception):
+    """Why there is no answer, in words; if it is something in a text, where: lines and columns count from 1."""
+
+    def __init__(self, what, line=None, column=None):
+        super().__init__(what)
+        self.what = what
+        self.line = line
+        self.column = column
+
+    def told(self, name):
+        """The message, for a file of that name."""
+        place = "" if self.line is None else f":{self.line}:{self.column}"
+        return f"{shown(name)}{place}: {self.what}"
+
+
+class FileFault(Trouble):
     """Why a file cannot be read."""
 
 

@@ -3,7 +3,7 @@
 import re
 from contextlib import contextmanager
 
-from front_end.files import quote
+from front_end.files import Trouble, quote
 from front_end.question import CONSTANTS, EQUALITY, FIRST, NEGATED, SECOND, Fault, Question, is_second
 from front_end.trees import TreeFault, read_tree, write_tree
 
@@ -31,14 +31,8 @@ KINDS = ["satisfiable", "entails"]
 KEPT = KINDS + ["free", "own", "let", "if", "then", "not", "join", "is", "o"]
 
 
-class TextFault(Exception):
-    """What is wrong with a text, and where; lines and columns count from 1."""
-
-    def __init__(self, line, column, what):
-        super().__init__(what)
-        self.line = line
-        self.column = column
-        self.what = what
+class TextFault(Trouble):
+    """What is wrong with a text."""
 
 
 class Line:
@@ -59,7 +53,7 @@ class Line:
 
     def fault(self, what):
         """A fault at the next word."""
-        return TextFault(self.number, self.column(), what)
+        return TextFault(what, self.number, self.column())
 
     def due(self, what):
         found = f"not {quote(self.peek())}" if self.peek() else "and the line ends"
@@ -93,9 +87,9 @@ class Line:
         try:
             yield
         except Fault as fault:
-            raise TextFault(self.number, column, fault.what) from None
+            raise TextFault(fault.what, self.number, column) from None
         except TreeFault as fault:
-            raise TextFault(self.number, column + fault.at, fault.what) from None
+            raise TextFault(fault.what, self.number, column + fault.at) from None
 
 
 class TextReader:
@@ -233,7 +227,7 @@ def read_text(text):
         if line.peek():
             reader.read(line)
     if reader.question is None:
-        raise TextFault(1, 1, "the text asks nothing: 'satisfiable' or 'entails' is due in its first line")
+        raise TextFault("the text asks nothing: 'satisfiable' or 'entails' is due in its first line", 1, 1)
     return reader.question, reader.free + reader.own
 
 

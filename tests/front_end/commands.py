@@ -1,7 +1,7 @@
 """Tests of ways to call ask and explain."""
 
 import cases
-from harness import check, command, file, process, wrong_program
+from harness import check, command, file, process
 
 
 def test_ask():
@@ -16,13 +16,10 @@ def test_ask():
     file("question.shares", "entails\nfree a a\n")
     check("an error names the file", process("ask", path.name), (1, b"", f"{path.name}:2:8: 'a' is defined already, in line 2\n"))
     check("no such file", process("ask", "no.shares"), (2, b"", "no.shares: it could not be read: No such file or directory\n"))
-    no_program = "no/program could not be run: No such file or directory ($ZIMORGAL_CLI names the program)\n"
+    no_program = "-: the printing program no/program could not be run: No such file or directory ($ZIMORGAL_CLI names it)\n"
     check("no such program", process("ask", "-", given=text, ZIMORGAL_CLI="no/program"), (2, b"", no_program))
     check("an error comes first", process("ask", "-", given=b"no", ZIMORGAL_CLI="no/program")[0], 1)
     check("--bytes runs no program", process("ask", "--bytes", "-", given=b"entails", ZIMORGAL_CLI="no/program")[0], 0)
-    for says, due in (("exit 3", "ended with status 3"), ("echo refused 3 at 4", "the program did not answer but said: refused 3 at 4")):
-        status, out, errors = process("ask", "-", given=text, ZIMORGAL_CLI=wrong_program("wrong", says))
-        check(f"a program that does '{says}'", (status, out, due in errors), (2, b"", True))
 
 
 def test_explain():
