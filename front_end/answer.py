@@ -1,8 +1,10 @@
 """Answers: what the printing program says, read so that nothing lost or cut is taken for an answer."""
 
+import os
 import re
 
 from front_end.question import NEGATED, is_second
+from front_end.text import KINDS
 from front_end.trees import TreeFault, read_tree
 
 SAID = re.compile(r"answer (yes|no)\n(?:height (\d{1,2})\n((?:v\d\d [(o*)]+\n)*))?(?:reason (\d)(?: (\d{1,2}))?\n)?", re.ASCII)
@@ -68,3 +70,20 @@ def read_answer(said, question):
     answer = Answer(verdict, height, [row[4:] for row in rows.splitlines()], reason, disequation)
     whole = answer.has_its_solution(question) and answer.has_its_reason(question) and answer.lines() == said.splitlines()
     return answer if whole else None
+
+
+def to_object(name, asked=None, answer=None, trouble=None):
+    """What --json says of a question: always the same keys, None where there is nothing to say."""
+    said = dict.fromkeys(["file", "answer", "question", "reason", "meaning", "disequation", "height", "solution", "error"])
+    said["file"] = os.fsencode(name).decode("utf-8", "backslashreplace")
+    if trouble:
+        said["error"] = {"line": trouble.line, "column": trouble.column, "message": trouble.what}
+        return said
+    said.update(answer=answer.verdict, question=KINDS[asked.question.kind], reason=answer.reason, height=answer.height,
+                meaning=MEANINGS[asked.question.kind, answer.verdict, answer.reason])
+    if answer.disequation is not None:
+        line = asked.disequation(answer.disequation)
+        said["disequation"] = {"number": answer.disequation, "line": line.number, "text": str(line)}
+    if answer.height is not None:
+        said["solution"] = dict(zip(asked.names, answer.trees))
+    return said

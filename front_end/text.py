@@ -43,13 +43,17 @@ class Line:
         code = text.split("#")[0].rstrip()
         self.words = [(found.group(), found.start() + 1) for found in WORD.finditer(code)]
         self.words.append(("", len(code) + 1))
+        self.at = 0  # the next word
+
+    def __str__(self):
+        return " ".join(word for word, _ in self.words[:-1])
 
     def peek(self):
         """The next word, empty at the end of the line."""
-        return self.words[0][0]
+        return self.words[self.at][0]
 
     def column(self):
-        return self.words[0][1]
+        return self.words[self.at][1]
 
     def fault(self, what):
         """A fault at the next word."""
@@ -63,7 +67,7 @@ class Line:
         """Takes that word if it is next, and says whether it was."""
         if self.peek() != word:
             return False
-        self.words.pop(0)
+        self.at += 1
         return True
 
     def expect(self, word):
@@ -74,7 +78,8 @@ class Line:
         """Takes a word, whatever it is."""
         if not self.peek():
             raise self.due(what)
-        return self.words.pop(0)[0]
+        self.at += 1
+        return self.words[self.at - 1][0]
 
     def finish(self):
         if self.peek():
@@ -99,6 +104,7 @@ class TextReader:
         self.question = None
         self.free = []
         self.own = []
+        self.clauses = []  # of each clause its line
         self.lets = {}  # the constants that have names
         self.lines = {}  # where each name was defined
         self.system = FIRST
@@ -186,6 +192,7 @@ class TextReader:
             terms.append(self.read_share(line))
             line.finish()
             self.question.add(self.system + shape + (NEGATED if negated else 0), terms)
+            self.clauses.append(line)
 
     def read_share(self, line):
         """Takes a name or a tree text, and gives its term."""
@@ -219,8 +226,21 @@ def decode(string):
     return string.decode("utf-8", "surrogateescape")
 
 
+class Asked:
+    """What a text asks: the question, the names of its variables in order, and of each clause its line."""
+
+    def __init__(self, question, names, clauses):
+        self.question = question
+        self.names = names
+        self.clauses = clauses
+
+    def disequation(self, number):
+        """The line of a disequation of the second system."""
+        return [line for line, clause in zip(self.clauses, self.question.clauses) if is_second(clause[0]) and clause[0] & NEGATED][number]
+
+
 def read_text(text):
-    """The question that a text asks, and the names of its variables in order."""
+    """What a text asks."""
     reader = TextReader()
     for number, line in enumerate(text.split("\n"), 1):
         line = Line(number, line)
@@ -228,7 +248,7 @@ def read_text(text):
             reader.read(line)
     if reader.question is None:
         raise TextFault("the text asks nothing: 'satisfiable' or 'entails' is due in its first line", 1, 1)
-    return reader.question, reader.free + reader.own
+    return Asked(reader.question, reader.free + reader.own, reader.clauses)
 
 
 def in_clauses(question):

@@ -17,14 +17,14 @@ def test_bytes():
 
 def test_faults():
     for text, due in cases.FAULTS:
-        check(f"fault of {text[:60]!r}", command("ask", "-", given=text.encode()), (1, b"", f"-:{due}\n"))
+        check(f"fault of {text[:60]!r}", command("ask", "-", given=text.encode()), (2, b"", f"-:{due}\n"))
 
 
 def test_limits():
     for name, text, more, due in cases.EDGES:
         status, out, errors = command("ask", "-", given=text.encode())
-        check(name, (status, out[:7], errors), (0, b"answer ", ""))
-        check(f"{name}, and one", command("ask", "-", given=(text + more).encode()), (1, b"", f"-:{due}\n"))
+        check(name, (out[:7], status, errors), (b"answer ", int(out.startswith(b"answer no\n")), ""))
+        check(f"{name}, and one", command("ask", "-", given=(text + more).encode()), (2, b"", f"-:{due}\n"))
     status, string, errors = command("ask", "--bytes", "-", given=cases.LONGEST.encode())
     check("the longest question", (status, len(string), errors), (0, 925, ""))
     check("the longest question is answered", program_says(string), "answer")
@@ -37,7 +37,7 @@ def test_round_trips():
     for number in range(400):
         string = make.random_question(random)
         text = write_text(read_question(string))
-        check(f"round trip of {string.hex(' ')}", write_question(read_text(text)[0]), string)
+        check(f"round trip of {string.hex(' ')}", write_question(read_text(text).question), string)
         check(f"the program takes {string.hex(' ')}", program_says(string), "answer")
         if number % 100 == 0:
             status, explained, _ = process("explain", "-", given=string)
