@@ -1,13 +1,16 @@
 """Questions as readable text, both ways."""
 
-import re
-from contextlib import contextmanager
+from front_end.files import LONG_NAME, quote, shown
+from front_end.lines import NAME, NAME_DUE, Line, TextFault
+from front_end.question import CONSTANTS, EQUALITY, FIRST, NEGATED, SECOND, Question, is_second
+from front_end.trees import write_tree
 
-from front_end.files import Trouble, quote
-from front_end.question import CONSTANTS, EQUALITY, FIRST, NEGATED, SECOND, Fault, Question, is_second
-from front_end.trees import TreeFault, read_tree, write_tree
+LONGEST = 255  # characters of a name
+KINDS = ["satisfiable", "entails"]
+KEPT = KINDS + ["free", "own", "let", "if", "then", "not", "join", "is", "o"]
+RESERVED = f"{', '.join(KEPT[:-1])} and {KEPT[-1]}"
 
-FORM = """The text: one thing a line; '#' starts a comment.
+FORM = f"""The text: one thing a line; '#' starts a comment.
 
     satisfiable                    or: entails; the first line
     free writer reader rest        free variables, by name
@@ -20,81 +23,21 @@ FORM = """The text: one thing a line; '#' starts a comment.
     then                           from here on: the second system
     if                             from here on: the first system again
 
-A share in a clause is a name or tree text. Tree text in a clause is the first constant with that tree; if there is none, it becomes
-one, after those of 'let'.
+A name is letters a to z, small or capital, digits and '_', with no digit first; {RESERVED}
+cannot be names. A share in a clause is a name or tree text. Tree text has no spaces; in a clause it is the first constant with that
+tree, and if there is none, it becomes one, after those of 'let'.
 """
 
-WORD = re.compile(r"=|[^\s=]+")
-NAME = re.compile(r"[A-Za-z_][A-Za-z_0-9]*")
-LONGEST = 255  # characters of a name
-KINDS = ["satisfiable", "entails"]
-KEPT = KINDS + ["free", "own", "let", "if", "then", "not", "join", "is", "o"]
 
-
-class TextFault(Trouble):
-    """What is wrong with a text."""
-
-
-class Line:
-    """The words of one line, taken from the left."""
-
-    def __init__(self, number, text):
-        self.number = number
-        code = text.split("#")[0].rstrip()
-        self.words = [(found.group(), found.start() + 1) for found in WORD.finditer(code)]
-        self.words.append(("", len(code) + 1))
-        self.at = 0  # the next word
-
-    def __str__(self):
-        return " ".join(word for word, _ in self.words[:-1])
-
-    def peek(self):
-        """The next word, empty at the end of the line."""
-        return self.words[self.at][0]
-
-    def column(self):
-        return self.words[self.at][1]
-
-    def fault(self, what):
-        """A fault at the next word."""
-        return TextFault(what, self.number, self.column())
-
-    def due(self, what):
-        found = f"not {quote(self.peek())}" if self.peek() else "and the line ends"
-        return self.fault(f"{what} is due here, {found}")
-
-    def skip(self, word):
-        """Takes that word if it is next, and says whether it was."""
-        if self.peek() != word:
-            return False
-        self.at += 1
-        return True
-
-    def expect(self, word):
-        if not self.skip(word):
-            raise self.due(f"'{word}'")
-
-    def take(self, what):
-        """Takes a word, whatever it is."""
-        if not self.peek():
-            raise self.due(what)
-        self.at += 1
-        return self.words[self.at - 1][0]
-
-    def finish(self):
-        if self.peek():
-            raise self.due("the end of the line")
-
-    @contextmanager
-    def here(self):
-        """Faults inside are faults at the word that is next now."""
-        column = self.column()
-        try:
-            yield
-        except Fault as fault:
-            raise TextFault(fault.what, self.number, column) from None
-        except TreeFault as fault:
-            raise TextFault(fault.what, self.number, column + fault.at) from None
+def turned(line):
+    """The clause 'c is a join b' with the join before 'is', as far as it is one."""
+    words = str(line).split(" ")
+    middle = words.index("is")
+    negated = words[middle + 1] == "not"
+    whole, parts = words[:middle], words[middle + 1 + negated:]
+    if len(parts) % 2 == 0 or parts[1::2] != ["join"] * (len(parts) // 2):
+        whole, parts = ["c"], ["a", "join", "b"]
+    return shown(" ".join(["not"] * negated + parts + ["is"] + whole))
 
 
 class TextReader:
@@ -114,7 +57,7 @@ class TextReader:
         if self.question is None:
             self.read_kind(line)
         elif word in KINDS:
-            raise line.fault("the kind of question stands in the first line, and only there")
+            raise line.fault("the kind of question stands in the first line alone: a file asks one question")
         elif word in ("free", "own", "let"):
             if self.question.clauses:
                 raise line.fault(f"'{word}' must stand before the first clause")
@@ -137,17 +80,23 @@ class TextReader:
         """Takes a new name."""
         name = line.peek()
         if not NAME.fullmatch(name):
-            raise line.due("a name (letters, digits, '_')")
+            raise line.no_name(NAME_DUE)
         if len(name) > LONGEST:
             raise line.fault(f"the name {quote(name)} has {len(name):,} characters: it may have {LONGEST}")
         if name in KEPT:
-            raise line.fault(f"{quote(name)} has a meaning of its own and cannot be a name")
+            raise line.fault(f"'{name}' cannot be a name: {RESERVED} have a meaning of their own")
         if name in self.lines:
             raise line.fault(f"{quote(name)} is defined already, in line {self.lines[name]}")
         self.lines[name] = line.number
         return line.take("a name")
 
+    def need_entails(self, line, what):
+        if self.question.kind == 0:
+            raise line.fault(f"{what} a question that asks 'entails': write that in the first line")
+
     def read_variables(self, line):
+        if line.peek() == "own":
+            self.need_entails(line, "own variables need")
         names = self.free if line.take("free or own") == "free" else self.own
         while True:
             with line.here():
@@ -160,14 +109,15 @@ class TextReader:
         line.expect("let")
         name = self.read_name(line)
         line.expect("=")
+        if not line.peek():
+            raise line.due("a tree")
         with line.here():
-            self.lets[name] = self.question.define(read_tree(line.take("a tree")))
+            self.lets[name] = self.question.define(line.take_tree())
 
     def read_system(self, line):
-        with line.here():
-            second = line.take("the system") == "then"
-            self.question.check_system(second)
-        self.system = SECOND if second else FIRST
+        if line.peek() == "then":
+            self.need_entails(line, "a second system needs")
+        self.system = SECOND if line.take("the system") == "then" else FIRST
 
     def read_clause(self, line):
         """A clause. Where 'not' stands in the place of the other kind's, the message says how to write what was meant."""
@@ -187,9 +137,11 @@ class TextReader:
             else:
                 shape = EQUALITY
                 if not line.skip("is"):
-                    raise line.due("'join' or 'is'")
+                    raise line.due("'join' or 'is'", ": write 'is' for it" if line.peek() == "=" else "")
                 negated = line.skip("not")
             terms.append(self.read_share(line))
+            if shape == EQUALITY and line.peek() == "join":
+                raise line.fault(f"a join stands before 'is': write '{turned(line)}'")
             line.finish()
             self.question.add(self.system + shape + (NEGATED if negated else 0), terms)
             self.clauses.append(line)
@@ -197,21 +149,29 @@ class TextReader:
     def read_share(self, line):
         """Takes a name or a tree text, and gives its term."""
         word = line.peek()
+        if word == "o" or word[:1] in ("(", "*", ")"):
+            with line.here():
+                return self.constant(line.take_tree())
+        if word in self.own and self.system == FIRST:
+            raise line.fault(f"{quote(word)} is an own variable, and they stand in the second system alone: "
+                             f"write 'then' before this clause, or make {quote(word)} free")
+        if word not in self.lines:
+            raise self.unknown(line, word)
         variables = self.free + self.own
-        with line.here():
-            if word == "o" or word[:1] in ("(", "*", ")"):
-                term = self.constant(read_tree(word))
-            elif word in self.lets:
-                term = self.lets[word]
-            elif word in variables:
-                term = variables.index(word)
-            elif NAME.fullmatch(word) and word not in KEPT:
-                raise line.fault(f"nothing is named {quote(word)}")
-            else:
-                raise line.due("a name or a tree")
-            self.question.check_term(term, self.system == SECOND)
         line.take("a share")
-        return term
+        return self.lets[word] if word in self.lets else variables.index(word)
+
+    def unknown(self, line, word):
+        """The fault of a word that is no share, where one is due."""
+        if word in ("0", "1"):
+            return line.fault(f"'{word}' is no share: write 'o' for the empty one, '*' for the full one")
+        if not NAME.fullmatch(word) or word in KEPT:
+            return line.no_name("a name or a tree")
+        if line.peek(1) == "=":
+            tree = line.peek(2) or "(*o)"
+            return line.fault(f"nothing is named {quote(word)}: a constant is defined by 'let', before the first clause: "
+                              f"write 'let {shown(word, LONG_NAME)} = {shown(tree, LONG_NAME)}'")
+        return line.fault(f"nothing is named {quote(word)}: a line 'free {shown(word, 40)}' before the first clause makes it a variable")
 
     def constant(self, leaves):
         """The term of the first constant with these leaves, which is a new one if there is none."""
@@ -222,8 +182,11 @@ class TextReader:
 
 
 def decode(string):
-    """The text of a file's bytes. Bytes that are no UTF-8 are kept: they may stand in a comment, and a message shows them."""
-    return string.decode("utf-8", "surrogateescape")
+    """The text of a file's bytes. A byte order mark before it is left out. Bytes that are no UTF-8 are kept: they may stand in a
+    comment, and a message shows them."""
+    if string[:2] in (b"\xff\xfe", b"\xfe\xff"):
+        raise TextFault("the text is in UTF-16: save it as UTF-8", 1, 1)
+    return string.decode("utf-8", "surrogateescape").removeprefix("\ufeff")
 
 
 class Asked:
@@ -241,6 +204,8 @@ class Asked:
 
 def read_text(text):
     """What a text asks."""
+    if text[:1] == "\x01":
+        raise TextFault("this is a question in bytes, and no text: './explain' makes a text of it", 1, 1)
     reader = TextReader()
     for number, line in enumerate(text.split("\n"), 1):
         line = Line(number, line)

@@ -38,6 +38,7 @@ def test_arguments():
                            (("--jso", "-"), "unrecognized arguments: --jso")]:
         check(f"ask {arguments}", process("ask", *arguments), (2, b"", f"{due} ('ask --help' says what may be written)\n"))
     status, out, errors = process("ask", "--help")
+    check("the help lists the reserved words", cases.KEPT.split(" have")[0] in out.decode(), True)
     check("the help tells the statuses", (status, errors, [line.split() for line in cases.STATUSES if line not in out.decode()]), (0, "", []))
 
 
@@ -59,7 +60,7 @@ def test_several():
 # Texts with what --json says of each, but for the file.
 OBJECTS = [
     (YES, 0, {"answer": "yes", "question": "satisfiable", "meaning": "satisfiable", "height": 1, "solution": {"a": "(*o)"}}),
-    (b"satisfiable\na is o", 2, {"error": {"line": 2, "column": 1, "message": "nothing is named 'a'"}}),
+    (b"satisfiable\na is o", 2, {"error": {"line": 2, "column": 1, "message": "nothing is named 'a': " + cases.UNKNOWN.format("a")}}),
     (b"satisfiable\nfree a\na join a is *", 1, {"answer": "no", "question": "satisfiable", "meaning": "not satisfiable"}),
     (b"satisfiable", 0, {"answer": "yes", "question": "satisfiable", "meaning": "satisfiable", "height": 0, "solution": {}}),
     (b"entails\nfree a\na is *\nthen\na is not o", 0,

@@ -10,14 +10,26 @@ from front_end.trees import read_tree, write_tree
 from harness import check, command, process, program, program_says
 
 
+def as_bytes(text):
+    return text if isinstance(text, bytes) else text.encode()
+
+
 def test_bytes():
     for text, due in cases.BYTES:
-        check(f"bytes of {text!r}", command("ask", "--bytes", "-", given=text.encode()), (0, bytes.fromhex(due), ""))
+        check(f"bytes of {text!r}", command("ask", "--bytes", "-", given=as_bytes(text)), (0, bytes.fromhex(due), ""))
 
 
 def test_faults():
     for text, due in cases.FAULTS:
-        check(f"fault of {text[:60]!r}", command("ask", "-", given=text.encode()), (2, b"", f"-:{due}\n"))
+        check(f"fault of {text[:60]!r}", command("ask", "-", given=as_bytes(text)), (2, b"", f"-:{due}\n"))
+
+
+def test_hints():
+    """What a message says to write is accepted: in place of the clause, or of the tree at its end."""
+    for clause, kept in [("c is a join b", ""), ("c is not a join b", ""), ("a is (o *)", "a is "), ("a is ( (* o ) (o *))", "a is ")]:
+        status, _, errors = command("ask", "--bytes", "-", given=(cases.CLAUSE + clause).encode())
+        hint = errors.split("write '")[1].split("'")[0]
+        check(f"the hint for {clause!r}", (status, command("ask", "--bytes", "-", given=(cases.CLAUSE + kept + hint).encode())[::2]), (2, (0, "")))
 
 
 def test_limits():
