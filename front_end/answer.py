@@ -31,12 +31,17 @@ class Answer:
         self.reason = reason
         self.disequation = disequation
 
+    def named(self, names):
+        """The shown trees by name; variables without a name are left out."""
+        return {name: tree for name, tree in zip(names, self.trees) if name}
+
     def lines(self, names=None):
         """The lines of docs/SPEC.md, 9.2; with names, these in place of v00 and so on."""
         lines = [f"answer {self.verdict}"]
         if self.height is not None:
+            names = names or [f"v{number:02}" for number in range(len(self.trees))]
             lines.append(f"height {self.height}")
-            lines += [f"{names[number] if names else f'v{number:02}'} {tree}" for number, tree in enumerate(self.trees)]
+            lines += [f"{name} {tree}" for name, tree in self.named(names).items()]
         if self.reason is not None:
             lines.append(f"reason {self.reason}" + ("" if self.disequation is None else f" {self.disequation}"))
         return lines
@@ -85,5 +90,5 @@ def to_object(name, asked=None, answer=None, trouble=None):
         line = asked.disequation(answer.disequation)
         said["disequation"] = {"number": answer.disequation, "line": line.number, "text": str(line)}
     if answer.height is not None:
-        said["solution"] = dict(zip(asked.names, answer.trees))
+        said["solution"] = answer.named(asked.names)
     return said

@@ -2,13 +2,16 @@
 
 from front_end.files import LONG_NAME, quote, shown
 from front_end.lines import NAME, NAME_DUE, Line, TextFault
-from front_end.question import CONSTANTS, EQUALITY, FIRST, NEGATED, SECOND, Question, is_second
+from front_end.question import CONSTANTS, EQUALITY, FIRST, MOST_VARIABLES, NEGATED, SECOND, Fault, Question, is_second
 from front_end.trees import write_tree
 
 LONGEST = 255  # characters of a name
 KINDS = ["satisfiable", "entails"]
 KEPT = KINDS + ["free", "own", "let", "if", "then", "not", "join", "is", "o"]
 RESERVED = f"{', '.join(KEPT[:-1])} and {KEPT[-1]}"
+
+NOT_INSIDE = ("a negated clause has one join, 'not a join b is c': give the join inside it a variable of its own, as in 'a join b is t' and "
+              "'not t join c is d', which also asks that a join b is defined")
 
 FORM = f"""The text: one thing a line; '#' starts a comment.
 
@@ -18,6 +21,8 @@ FORM = f"""The text: one thing a line; '#' starts a comment.
     let L = (*o)                   a constant, as tree text; these three kinds of line stand before the first clause
     writer join reader is rest     a join
     not writer join reader is *    its negation: another share, or undefined
+    a join b join c is d join e    joins inside: all are defined and both sides are one share; each counts as a variable more, one less than
+                                   the sides have joins; not with 'not'
     writer is L                    an equality
     reader is not o                its negation
     then                           from here on: the second system
@@ -120,31 +125,63 @@ class TextReader:
         self.system = SECOND if line.take("the system") == "then" else FIRST
 
     def read_clause(self, line):
-        """A clause. Where 'not' stands in the place of the other kind's, the message says how to write what was meant."""
+        """A clause: an equality, a join, or a join with joins inside. Where it is none of these, the message says how to write it."""
         with line.here():
             negated = line.skip("not")
-            terms = [self.read_share(line)]
-            if line.skip("join"):
-                shape = 0
-                terms.append(self.read_share(line))
-                line.expect("is")
-                if line.peek() == "not":
-                    raise line.fault("the negation of a join is written 'not a join b is c'")
-            elif negated:
-                if line.peek() == "is":
-                    raise line.fault("the negation of an equality is written 'a is not b'")
-                raise line.due("'join'")
-            else:
-                shape = EQUALITY
-                if not line.skip("is"):
-                    raise line.due("'join' or 'is'", ": write 'is' for it" if line.peek() == "=" else "")
-                negated = line.skip("not")
-            terms.append(self.read_share(line))
-            if shape == EQUALITY and line.peek() == "join":
+            left = self.read_join(line, negated)
+            equality = len(left) == 1
+            if negated and equality:
+                raise line.fault("the negation of an equality is written 'a is not b'") if line.peek() == "is" else line.due("'join'")
+            if not line.skip("is"):
+                raise line.due("'is'" if negated else "'join' or 'is'", ": write 'is' for it" if line.peek() == "=" else "")
+            if not equality and line.peek() == "not":
+                raise line.fault("the negation of a join is written 'not a join b is c'" if len(left) == 2 else NOT_INSIDE)
+            negated = negated or line.skip("not")
+            right = [self.read_share(line)] if equality else self.read_join(line, negated, 1)
+            if equality and line.peek() == "join":
                 raise line.fault(f"a join stands before 'is': write '{turned(line)}'")
             line.finish()
-            self.question.add(self.system + shape + (NEGATED if negated else 0), terms)
-            self.clauses.append(line)
+            if equality or negated:
+                self.add(line, (EQUALITY if equality else 0) + (NEGATED if negated else 0), left + right)
+            else:
+                self.add_joins(line, left, right)
+
+    def read_join(self, line, negated, most=2):
+        """Takes shares with 'join' between them; of a negated clause not more than so many."""
+        terms = [self.read_share(line)]
+        while line.peek() == "join":
+            if negated and len(terms) == most:
+                raise line.fault(NOT_INSIDE)
+            line.take("'join'")
+            terms.append(self.read_share(line))
+        return terms
+
+    def add(self, line, shape, terms):
+        self.question.add(self.system + shape, terms)
+        self.clauses.append(line)
+
+    def add_joins(self, line, left, right):
+        """Adds 'left is right', two lists of shares that are to be joined. Each join inside gets a fresh variable."""
+        fresh = len(left) + len(right) - 3
+        variables = self.question.free + self.question.own + fresh
+        if fresh > 0 and variables > MOST_VARIABLES:
+            raise Fault(5, f"the joins inside this clause need {fresh} variable{'s' if fresh > 1 else ''} more, which makes {variables}: "
+                           f"there may be {MOST_VARIABLES}, free and own together")
+        whole = self.join(line, left, right[0] if len(right) == 1 else None)
+        self.join(line, right, whole)
+
+    def join(self, line, terms, whole):
+        """Adds clauses that join terms one after the other to a whole, which is a fresh variable if none is given, and gives it."""
+        so_far, *others = terms
+        for number, term in enumerate(others, 1):
+            result = whole if number == len(others) and whole is not None else self.fresh()
+            self.add(line, 0, [so_far, term, result])
+            so_far = result
+        return so_far
+
+    def fresh(self):
+        """A variable without a name, that stands for a join: free for the first system, own for the second (docs/FORMAT.md)."""
+        return self.question.add_own() if self.system == SECOND else self.question.add_free()
 
     def read_share(self, line):
         """Takes a name or a tree text, and gives its term."""
@@ -157,9 +194,13 @@ class TextReader:
                              f"write 'then' before this clause, or make {quote(word)} free")
         if word not in self.lines:
             raise self.unknown(line, word)
-        variables = self.free + self.own
         line.take("a share")
-        return self.lets[word] if word in self.lets else variables.index(word)
+        return self.lets[word] if word in self.lets else self.names().index(word)
+
+    def names(self):
+        """The names of the variables in order, None for those without one."""
+        fresh_free, fresh_own = self.question.free - len(self.free), self.question.own - len(self.own)
+        return self.free + [None] * fresh_free + self.own + [None] * fresh_own
 
     def unknown(self, line, word):
         """The fault of a word that is no share, where one is due."""
@@ -190,7 +231,7 @@ def decode(string):
 
 
 class Asked:
-    """What a text asks: the question, the names of its variables in order, and of each clause its line."""
+    """What a text asks: the question; the names of its variables in order, None for one that stands for a join; of each clause its line."""
 
     def __init__(self, question, names, clauses):
         self.question = question
@@ -213,7 +254,7 @@ def read_text(text):
             reader.read(line)
     if reader.question is None:
         raise TextFault("the text asks nothing: 'satisfiable' or 'entails' is due in its first line", 1, 1)
-    return Asked(reader.question, reader.free + reader.own, reader.clauses)
+    return Asked(reader.question, reader.names(), reader.clauses)
 
 
 def in_clauses(question):

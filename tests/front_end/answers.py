@@ -8,7 +8,7 @@ from random import Random
 import make
 from front_end.answer import read_answer
 from front_end.question import read_question
-from harness import FOLDER, TOP, check, file, process, program, surroundings, wrong_program
+from harness import FOLDER, TOP, check, command, file, process, program, surroundings, wrong_program
 
 # A question as text for each shape of answer, and the answer.
 SHAPES = [
@@ -36,8 +36,8 @@ WRONG = ["", "answer no", "answer no\n", "answer no\nheight 0\nv00 *\nv01 o\nrea
          "answer no\nheight " + "0" * 9999 + "\nv00 *\nv01 o\nreason 3 1\n", "answer no\nheight 0\nv00 *\nv01 o\nreason 3 " + "1" * 9999 + "\n"]
 
 
-def question_of(text):
-    return read_question(process("ask", "--bytes", "-", given=text.encode())[1])
+def question_bytes(text):
+    return command("ask", "--bytes", "-", given=text.encode())[1]
 
 
 def writes(said):
@@ -49,9 +49,9 @@ def test_whole_answers():
     """Every shape of answer is taken. With any piece lost, and cut at any place, it is not."""
     random = Random(12)
     for text, said in SHAPES:
-        question, pieces = question_of(text), writes(said)
+        question, pieces = read_question(question_bytes(text)), writes(said)
         check(f"the pieces of {said!r}", "".join(pieces), said)
-        check(f"the answer to {text!r}", "\n".join(program(process("ask", "--bytes", "-", given=text.encode())[1])) + "\n", said)
+        check(f"the answer to {text!r}", "".join(line + "\n" for line in program(question_bytes(text))), said)
         check(f"{said!r} is taken", read_answer(said, question).lines(), said.splitlines())
         for length in range(len(said)):
             check(f"{said[:length]!r} is cut", read_answer(said[:length], question), None)
@@ -59,8 +59,9 @@ def test_whole_answers():
             kept = [piece for piece in pieces if random.randrange(4)]
             if len(kept) < len(pieces):
                 check(f"{kept} lacks a piece", read_answer("".join(kept), question), None)
+    question = read_question(question_bytes(SHAPES[-2][0]))
     for said in WRONG:
-        check(f"{said!r} is no answer", read_answer(said, question_of(SHAPES[-2][0])), None)
+        check(f"{said!r} is no answer", read_answer(said, question), None)
 
 
 def test_random_answers():

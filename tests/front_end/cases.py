@@ -30,6 +30,15 @@ BYTES = [
     # The systems alternate.
     ("entails\nfree a\nthen\na is a\nif\na is not a\nthen\na is not a", "01 01 01 00 22 00 00 13 00 00 23 00 00 00"),
     ("satisfiable\nif\n* is *", f"01 00 00 00 {FULL} 12 20 20 00"),
+    # Joins inside a clause have fresh variables: free ones after the named ones, own ones at the end.
+    ("satisfiable\nfree a b c d\na join b join c is d", "01 00 05 00 10 00 01 04 10 04 02 03 00"),
+    ("satisfiable\nfree a b c d\na join b is c join d", "01 00 05 00 10 00 01 04 10 02 03 04 00"),
+    ("satisfiable\nfree a b\na join b join b join a is b join b join a",
+     "01 00 06 00 10 00 01 02 10 02 01 03 10 03 00 04 10 01 01 05 10 05 00 04 00"),
+    ("satisfiable\nfree a\na join a join a is a\na join a join a is a", "01 00 03 00 10 00 00 01 10 01 00 00 10 00 00 02 10 02 00 00 00"),
+    ("entails\nfree a b\nown c\nthen\na join b join c is *", f"01 01 02 02 {FULL} 20 00 01 03 20 03 02 20 00"),
+    ("entails\nfree a b c\nown d\nthen\nd is a\nif\na join b join c is a\nthen\nd join d is a join b\nif\na join b is c join c\nthen\nd is b",
+     "01 01 05 02 22 05 00 10 00 01 03 10 03 02 00 20 05 05 06 20 00 01 06 10 00 01 04 10 02 02 04 22 05 01 00"),
     # Constants: those of 'let' in order, equal ones too, then each new tree of the clauses once.
     ("satisfiable\nlet A=(*o)\nlet B = (*o)\nB is A", f"01 00 00 00 {LEFT} {LEFT} 12 21 20 00"),
     ("satisfiable\nlet B = (*o)\n(*o) is (o*)\n(o*) is not *", f"01 00 00 00 {LEFT} {RIGHT} {FULL} 12 20 21 13 21 22 00"),
@@ -42,6 +51,8 @@ BYTES = [
 NAME = "a name (letters a to z, digits and '_', no digit first)"
 KEPT = "satisfiable, entails, free, own, let, if, then, not, join, is and o have a meaning of their own"
 UNKNOWN = "a line 'free {0}' before the first clause makes it a variable"
+NOT_INSIDE = "a negated clause has one join, 'not a join b is c': give the join inside it a variable of its own, as in 'a join b is t' and " \
+    "'not t join c is d', which also asks that a join b is defined"
 CLAUSE = "satisfiable\nfree a b c\n"
 
 # A text, and where and why it is refused.
@@ -112,8 +123,23 @@ FAULTS = [
     (CLAUSE + "a is b!", "3:6: a name or a tree is due here, not 'b!'"),
     (CLAUSE + "a = b", "3:3: 'join' or 'is' is due here, not '=': write 'is' for it"),
     (CLAUSE + "a join", "3:7: a name or a tree is due here, and the line ends"),
-    (CLAUSE + "a join b", "3:9: 'is' is due here, and the line ends"),
-    (CLAUSE + "a join b c", "3:10: 'is' is due here, not 'c'"),
+    (CLAUSE + "a join b", "3:9: 'join' or 'is' is due here, and the line ends"),
+    (CLAUSE + "a join b c", "3:10: 'join' or 'is' is due here, not 'c'"),
+    (CLAUSE + "not a join b c", "3:14: 'is' is due here, not 'c'"),
+    (CLAUSE + "a join b = c", "3:10: 'join' or 'is' is due here, not '=': write 'is' for it"),
+    # Joins inside a clause.
+    (CLAUSE + "a join b join", "3:14: a name or a tree is due here, and the line ends"),
+    (CLAUSE + "a join b join is c", "3:15: a name or a tree is due here, not 'is'"),
+    (CLAUSE + "a join b join c", "3:16: 'join' or 'is' is due here, and the line ends"),
+    (CLAUSE + "a join b is c join", "3:19: a name or a tree is due here, and the line ends"),
+    (CLAUSE + "a join b is c join d", "3:20: nothing is named 'd': " + UNKNOWN.format("d")),
+    (CLAUSE + "a join b is c join a b", "3:22: the end of the line is due here, not 'b'"),
+    (CLAUSE + "c is a join b join a", "3:8: a join stands before 'is': write 'a join b join a is c'"),
+    (CLAUSE + "a join b join c is not a", "3:20: " + NOT_INSIDE),
+    (CLAUSE + "a join b is not c join a", "3:13: the negation of a join is written 'not a join b is c'"),
+    (CLAUSE + "not a join b join c is a", "3:14: " + NOT_INSIDE),
+    (CLAUSE + "not a join b is c join a", "3:19: " + NOT_INSIDE),
+    (CLAUSE + "not c is a join b", "3:7: the negation of an equality is written 'a is not b'"),
     (CLAUSE + "not", "3:4: a name or a tree is due here, and the line ends"),
     (CLAUSE + "not a b", "3:7: 'join' is due here, not 'b'"),
     (CLAUSE + "not a is b", "3:7: the negation of an equality is written 'a is not b'"),
@@ -179,6 +205,12 @@ EDGES = [
     ("12 own variables", lines("entails", f"own {names(12)}"), "own more", "3:5: 13 variables: there may be 12, free and own together"),
     ("7 and 5 variables", lines("entails", f"free {names(7)}", f"own {names(4, 'w')}"), "own last more",
      "4:10: 13 variables: there may be 12, free and own together"),
+    ("12 variables with those of joins", lines("satisfiable", f"free {names(10)}", "v0 join v1 join v2 join v3 is v4"), "v1 join v2 is v3 join v4",
+     "4:1: the joins inside this clause need 1 variable more, which makes 13: there may be 12, free and own together"),
+    ("12 variables with those of the second", lines("entails", f"own {names(11)}", "then", "v0 join v1 join v2 is v3"), " v1 join v2 join o is v3 join v4",
+     "5:2: the joins inside this clause need 2 variables more, which makes 14: there may be 12, free and own together"),
+    ("64 joins, the last inside a clause", "satisfiable\nfree a\n" + clauses(62, "a join a is a") + "a join a is a join a\n", "a join a join a is a",
+     "66:1: a 65th positive clause in the first system: there may be 64"),
     ("32 constants", "satisfiable\n" + lets(32), "let more = o", "34:12: a 33rd constant: there may be 32"),
     ("32 constants, one in a clause", "satisfiable\n" + lets(31) + "o is o\n", "o is *", "34:6: a 33rd constant: there may be 32"),
     ("32 constants in clauses", "satisfiable\n" + lines(*(f"{tree} is {tree}" for tree in trees(32))), "not o join o is o",
