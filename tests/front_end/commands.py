@@ -32,7 +32,7 @@ def test_ask():
 
 def test_arguments():
     for arguments, due in [(("--plain", "--bytes", "-"), "argument --bytes: not allowed with argument --plain"),
-                           ((), "the following arguments are required: file"),
+                           ((), "the following arguments are required: FILE"),
                            (("--bytes", "a", "b"), "--bytes takes one file"),
                            (("-", "a", "-"), "'-' may stand once: standard input is read to its end"),
                            (("--jso", "-"), "unrecognized arguments: --jso")]:
@@ -122,3 +122,22 @@ def test_explain():
         due = f"-:{place}: two hexadecimal digits are due here, not '{found}'\n"
         check(f"explain --hex of {text!r}", command("explain", "--hex", "-", given=text.encode()), (1, b"", due))
     check("explain, no such file", process("explain", "no"), (2, b"", "no: it could not be read: No such file or directory\n"))
+
+
+def test_explain_hints():
+    """Text given for bytes, hexadecimal digits for bytes, bytes for hexadecimal digits: the hint says which command reads it."""
+    ask = "this is text: './ask FILE' asks a question that is written as text"
+    digits = "these are hexadecimal digits: './explain --hex FILE' reads them"
+    for text, hint in [("satisfiable\nfree a\n", ask), ("# a comment with \u00fc\r\n\tentails", ask), ("\ufeffentails", ask), ("anything else", ask),
+                       ("01 00 00 00 00", digits), ("0100 # head\n\n00 00\n00", digits), ("01000000zz", ask), ("satisfiable\0", None),
+                       ("entails\x1b", None), (b"entails \xff", None), ("", None), ("\n", ask)]:
+        status, out, errors = command("explain", "-", given=text if isinstance(text, bytes) else text.encode())
+        lines = out.decode().splitlines()
+        check(f"explain {text!r}", (status, len(lines), lines[4:], errors), (1, 5 if hint else 4, [f"hint:    {hint}"] if hint else [], ""))
+    for text, place, found, hint in [("# text\n entails", "2:2", "en", "; './ask FILE' asks a question that is written as text"),
+                                     ("satisfiable", "1:1", "sa", "; './ask FILE' asks a question that is written as text"),
+                                     ("\x01\0\0\0\0", "1:1", "\\x01\\x00", "; the file starts with byte 01: leave out --hex"),
+                                     ("01 entails", "1:4", "en", "")]:
+        due = f"-:{place}: two hexadecimal digits are due here, not '{found}'{hint}\n"
+        check(f"explain --hex {text!r}", command("explain", "--hex", "-", given=text.encode()), (1, b"", due))
+    check("explain of an example", process("explain", str(TOP / "examples" / "printed.shares"))[1].decode().splitlines()[4:], [f"hint:    {ask}"])
