@@ -33,7 +33,7 @@ def test_ask():
 def test_arguments():
     for arguments, due in [(("--plain", "--bytes", "-"), "argument --bytes: not allowed with argument --plain"),
                            ((), "the following arguments are required: FILE"),
-                           (("--bytes", "a", "b"), "--bytes takes one file"),
+                           (("--bytes", "a", "b"), "--bytes takes one file"), (("--svg", "a", "b"), "--svg takes one file"),
                            (("-", "a", "-"), "'-' may stand once: standard input is read to its end"),
                            (("--jso", "-"), "unrecognized arguments: --jso")]:
         check(f"ask {arguments}", process("ask", *arguments), (2, b"", f"{due} ('ask --help' says what may be written)\n"))

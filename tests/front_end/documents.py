@@ -1,10 +1,10 @@
-"""Tests of what is written down: the examples, docs/FORMAT.md, the picture."""
+"""Tests of what is written down: the examples and docs/FORMAT.md."""
 
 import re
 
 import cases
 from front_end.text import read_text
-from harness import TOP, check, command, process, program
+from harness import TOP, check, command, program
 from texts import constant_question
 
 
@@ -85,15 +85,3 @@ def test_format():
             seen += ["height"]
     due = {"answer no", "v00 (o*)", "reason 0", "reason 1", "reason 2", "reason 3 1", "tree", "join", "height"}
     check("FORMAT.md has an example of everything", due | {f"refused {number}" for number in range(1, 11)}, set(seen))
-
-
-def test_picture():
-    """The stored picture is what is drawn now, and shows the answer."""
-    stored = (TOP / "docs" / "counterexample.svg").read_bytes()
-    check("the picture is drawn again", process("docs/draw"), (0, stored, ""))
-    answer = process("ask", str(TOP / "examples" / "third_part.shares"))[1].decode().splitlines()
-    shown = ", ".join(line for line in answer if line.split()[0] not in ("answer", "height", "reason"))
-    check("the picture shows the answer", f"<title>{shown}</title>" in stored.decode(), True)
-    trees = "".join(line.split()[1] for line in shown.split(", "))
-    leaves = [stored.count(f'rx="3" fill="{fill}"'.encode()) for fill in ("#1f3a5f", "#ffffff")]
-    check("the picture has each leaf", leaves, [trees.count("*"), trees.count("o")])

@@ -14,7 +14,7 @@ ANSWERED = TOP / "examples" / "third_part.shares"
 # Commands that print, with what they are given.
 PRINTING = [("ask", str(ANSWERED)), ("ask", "--plain", str(ANSWERED)), ("ask", "--bytes", str(ANSWERED)), ("ask", "--json", str(ANSWERED)),
             ("ask", "--help"),
-            ("explain", "question.bytes"), ("explain", str(ANSWERED)), ("explain", "--help"), ("docs/draw",)]
+            ("ask", "--svg", str(ANSWERED)), ("explain", "question.bytes"), ("explain", str(ANSWERED)), ("explain", "--help"), ("docs/draw",)]
 
 
 def end(arguments, before=None, given=subprocess.DEVNULL, out=subprocess.PIPE, errors=subprocess.PIPE, **environment):
@@ -47,8 +47,8 @@ def lost(why):
 def test_lost_output():
     """Output that cannot be written has a status of its own and one line, with Python's buffers and without."""
     file("question.bytes", bytes.fromhex("01 00 00 00 00"))
-    for buffers in ({}, {"PYTHONUNBUFFERED": "1"}):
-        for arguments in PRINTING:
+    for buffers, commands in (({}, PRINTING), ({"PYTHONUNBUFFERED": "1"}, PRINTING[:3])):
+        for arguments in commands:
             name = f"{' '.join(arguments)} with {buffers}"
             with open("/dev/full", "wb") as full:
                 check(f"{name}, a full disk", end(arguments, out=full, **buffers), lost("No space left on device"))
