@@ -1,9 +1,12 @@
-"""Tests of what is written down: the examples and docs/FORMAT.md."""
+"""Tests of what is written down: the examples, docs/FORMAT.md, README.md."""
 
+import json
 import re
 
 import cases
-from front_end.text import read_text
+from commands import KEYS
+from front_end.answer import MEANINGS
+from front_end.text import RESERVED, read_text
 from harness import TOP, check, command, program
 from texts import constant_question
 
@@ -85,3 +88,32 @@ def test_format():
             seen += ["height"]
     due = {"answer no", "v00 (o*)", "reason 0", "reason 1", "reason 2", "reason 3 1", "tree", "join", "height"}
     check("FORMAT.md has an example of everything", due | {f"refused {number}" for number in range(1, 11)}, set(seen))
+
+
+def test_format_text():
+    """What docs/FORMAT.md says of questions as text: joins inside, statuses, reserved words, meanings, the object of --json."""
+    markdown = (TOP / "docs" / "FORMAT.md").read_text()
+    check("FORMAT.md lists the reserved words", " ".join(f"reserved words: {RESERVED}.".split()) in " ".join(markdown.split()), True)
+    rows = list(tables(markdown))
+    joins = [(row["text"], row["in the format"]) for row in rows if "in the format" in row]
+    check("FORMAT.md has joins inside", len(joins), 2)
+    for text, clauses in joins:
+        lines = [re.findall(r"`(.*?)`", cell) for cell in (text, clauses)]
+        texts = ["\n".join(["satisfiable", f"free {names}", *part]) for names, part in zip(("a b c d", "a b c d t"), lines)]
+        check(f"FORMAT.md, {text}", *(command("ask", "--bytes", "-", given=one.encode()) for one in texts))
+    statuses = [row["status"] for row in rows if "status" in row]
+    check("FORMAT.md has the statuses of the help", statuses, [line.split()[0] for line in cases.STATUSES])
+    words = {(int(row["kind"]), row["verdict"], int(row["reason"]) if row["kind"] == "1" else None): row["meaning"] for row in rows if "height given" in row}
+    check("FORMAT.md has the meanings that --json gives", words, MEANINGS)
+    check("FORMAT.md has the keys of --json", [row["key"].strip("`") for row in rows if "key" in row], KEYS)
+    example = json.loads(re.search(r"```json\n(.*?)```", markdown, re.S)[1])
+    said = json.loads(command("ask", "--json", str(TOP / example["file"]))[1])
+    check("FORMAT.md has the object of its example", example, {**said, "file": example["file"]})
+    check("with the keys in this order", list(example), KEYS)
+
+
+def test_readme():
+    """The question and the pictures that README.md shows are those of the example."""
+    readme = (TOP / "README.md").read_text()
+    example = [line for line in (TOP / "examples" / "third_part.shares").read_text().splitlines() if not line.startswith("#")]
+    check("README.md has the example", "\n".join(f"    {line}" for line in example) in readme, True)
