@@ -5,7 +5,6 @@ import contextlib
 import os
 import signal
 import sys
-import traceback
 
 FAULT, LOST = 2, 3  # how a command ends: an error, and output that could not be written
 MOST_BYTES = 1 << 20  # of a file that is read
@@ -24,7 +23,7 @@ class Trouble(Exception):
     def told(self, name):
         """The message, for a file of that name."""
         place = "" if self.line is None else f":{self.line}:{self.column}"
-        return f"{shown(name)}{place}: {self.what}"
+        return f"{shown(name) or quote(name)}{place}: {self.what}"
 
 
 class FileFault(Trouble):
@@ -145,6 +144,8 @@ def run(main):
     try:
         sys.exit(main())
     except Exception as error:
-        place = traceback.extract_tb(error.__traceback__)[-1]
-        what = shown(f"{type(error).__name__}: {error}")
-        stop(FAULT, f"this is an error in the command itself, please report it: {what} ({os.path.basename(place.filename)}, line {place.lineno})")
+        place = error.__traceback__
+        while place.tb_next:
+            place = place.tb_next
+        what, name = shown(f"{type(error).__name__}: {error}"), os.path.basename(place.tb_frame.f_code.co_filename)
+        stop(FAULT, f"this is an error in the command itself, please report it: {what} ({name}, line {place.tb_lineno})")

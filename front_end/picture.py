@@ -4,14 +4,18 @@ All trees of a picture are laid out alike, so that the same place in two trees i
 had all leaves of their height, and a half is half as wide; in tall ones each part that some tree splits no further is as wide as any other.
 """
 
+from html import escape as escape_all
 from textwrap import wrap
-from xml.sax.saxutils import escape
 
 MARGIN, GAP, LEVEL, LEAF, SLOT = 32, 36, 46, 18, 20
 LOW = 4  # the height of a low tree
 ROW, NARROWEST, THINNEST = 1280, 480, 128  # how wide a row of several trees may be, and a picture and a tree at least
 LETTER, SIGN, LINE = 8, 8.5, 24  # how wide a letter and a sign of tree text are about, and how high a line is
 PAPER, INK, FULL, EMPTY = "#f4f1ea", "#2b2b2b", "#1f3a5f", "#ffffff"
+
+
+def escape(text):
+    return escape_all(text, quote=False)
 
 
 def caption(asked, answer):

@@ -12,9 +12,9 @@ from harness import FOLDER, TOP, check, command, file, process, surroundings
 
 ANSWERED = TOP / "examples" / "third_part.shares"
 # Commands that print, with what they are given.
-PRINTING = [("ask", str(ANSWERED)), ("ask", "--plain", str(ANSWERED)), ("ask", "--bytes", str(ANSWERED)), ("ask", "--json", str(ANSWERED)),
-            ("ask", "--help"),
-            ("ask", "--svg", str(ANSWERED)), ("explain", "question.bytes"), ("explain", str(ANSWERED)), ("explain", "--help"), ("docs/draw",)]
+PRINTING = [("ask", str(ANSWERED)), ("ask", "--bytes", str(ANSWERED)), ("ask", "--plain", str(ANSWERED)), ("ask", "--json", str(ANSWERED)),
+            ("ask", "--svg", str(ANSWERED)), ("ask", "--help"), ("explain", "question.bytes"), ("explain", str(ANSWERED)),
+            ("explain", "--help"), ("docs/draw",)]
 
 
 def end(arguments, before=None, given=subprocess.DEVNULL, out=subprocess.PIPE, errors=subprocess.PIPE, **environment):
@@ -47,19 +47,33 @@ def lost(why):
 def test_lost_output():
     """Output that cannot be written has a status of its own and one line, with Python's buffers and without."""
     file("question.bytes", bytes.fromhex("01 00 00 00 00"))
-    for buffers, commands in (({}, PRINTING), ({"PYTHONUNBUFFERED": "1"}, PRINTING[:3])):
+    for buffers, commands in (({}, PRINTING), ({"PYTHONUNBUFFERED": "1"}, PRINTING[:2])):
         for arguments in commands:
-            name = f"{' '.join(arguments)} with {buffers}"
             with open("/dev/full", "wb") as full:
-                check(f"{name}, a full disk", end(arguments, out=full, **buffers), lost("No space left on device"))
-                check(f"{name}, two full disks", end(arguments, out=full, errors=full, **buffers), (3, ""))
+                check(f"{arguments} with {buffers}, a full disk", end(arguments, out=full, **buffers), lost("No space left on device"))
+            check(f"{arguments} with {buffers}, closed", end(arguments, before=lambda: os.close(1), **buffers), lost("it is closed"))
+        for arguments in commands[:2]:
+            with open("/dev/full", "wb") as full:
+                check(f"{arguments} with {buffers}, two full disks", end(arguments, out=full, errors=full, **buffers), (3, ""))
             writer = unread()
-            check(f"{name}, a pipe that nobody reads", end(arguments, out=writer, **buffers), lost("Broken pipe"))
+            check(f"{arguments} with {buffers}, a pipe that nobody reads", end(arguments, out=writer, **buffers), lost("Broken pipe"))
             os.close(writer)
-            check(f"{name}, closed", end(arguments, before=lambda: os.close(1), **buffers), lost("it is closed"))
-            if arguments[0] != "explain" or arguments[1] == str(ANSWERED):
-                with open(file("cut", b""), "wb") as small:
-                    check(f"{name}, a disk for a part of it", end(arguments, before=small_files, out=small, **buffers), lost("File too large"))
+            with open(file("cut", b""), "wb") as small:
+                check(f"{arguments} with {buffers}, a disk for a part of it", end(arguments, before=small_files, out=small, **buffers), lost("File too large"))
+
+
+def test_no_room():
+    """A pipe that is full, and that does not wait."""
+    for buffers, why in (({}, "write could not complete without blocking"), ({"PYTHONUNBUFFERED": "1"}, "it takes no more")):
+        reader, writer = os.pipe()
+        os.set_blocking(writer, False)
+        try:
+            while True:
+                os.write(writer, bytes(4096))
+        except BlockingIOError:
+            check(f"a full pipe with {buffers}", end(PRINTING[0], out=writer, **buffers), lost(why))
+        os.close(reader)
+        os.close(writer)
 
 
 def test_lost_errors():
@@ -132,14 +146,15 @@ def test_echo():
     texts = [hostile, b"satisfiable\nfree " + hostile, b"satisfiable\nfree a\na is " + hostile, b"satisfiable\nlet a = (" + hostile,
              b"satisfiable\nfree " + b"a" * (1 << 19), b"satisfiable\n" + b"a" * (1 << 19) + b" is o", b"entails\n\xff\xfe\x80",
              b"satisfiable\nfree a\na is o\rentails", b"satisfiable\na\x85 is o"]
-    runs = [(f"text {text[:40]!r}", process("ask", "-", given=text)) for text in texts]
-    runs.append(("hexadecimal", process("explain", "--hex", "-", given=hostile)))
+    runs = [(f"text {text[:40]!r}", command("ask", "-", given=text)) for text in texts]
+    runs.append(("hexadecimal", command("explain", "--hex", "-", given=hostile)))
     for name in ("ask", "explain", "docs/draw"):
-        runs.append((f"{name}, a file's name", process(name, argument)))
-        runs.append((f"{name}, a name with line ends", process(name, "a\nb\n")))
-        runs.append((f"{name}, an option", process(name, "--" + argument)))
+        runs.append((f"{name}, a file's name", command(name, argument)))
+        runs.append((f"{name}, a name with line ends", command(name, "a\nb\n")))
+        runs.append((f"{name}, an option", command(name, "--" + argument)))
         runs.append((f"{name}, a name that is no text", process(name, b"\xff\xfe")))
     runs.append(("a program's name", process("ask", str(ANSWERED), ZIMORGAL_CLI=argument)))
+    runs.append(("an empty name", process("ask", "")))
     for name, (status, out, errors) in runs:
         ends = status == (1 if name == "hexadecimal" else 2) and out == b""
-        check(f"echo of {name}: {errors[:80]!r}", (ends, bool(re.fullmatch(r"[ -~]{10,700}\n", errors))), (True, True))
+        check(f"echo of {name}: {errors[:80]!r}", (ends, bool(re.fullmatch(r"[!-~][ -~]{10,700}\n", errors))), (True, True))
