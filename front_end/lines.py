@@ -11,7 +11,12 @@ WORD = re.compile(r"=|[^\s=]+")
 NAME = re.compile(r"[A-Za-z_][A-Za-z_0-9]*")
 NAME_DUE = "a name (letters a to z, digits and '_', no digit first)"
 
-# Characters that no text has outside its comments, and what is said of them.
+# Characters that no text has, because an editor may show it otherwise than it is read: a clause on a line of its own that is in a comment.
+# And characters that it has in comments alone. With what is said of them; {} is the character's number.
+HIDING = {
+    "\r\v\f\x1c\x1d\x1e\x85\u2028\u2029": "a line break ({}) stands here that is no line feed: end each line with a line feed",
+    "\u202a\u202b\u202c\u202d\u202e\u2066\u2067\u2068\u2069": "a character ({}) stands here that turns the order of what is shown: remove it",
+}
 STRANGE = {
     "\0": "a byte 00 stands here, so this is no UTF-8: save the text as UTF-8",
     "\ufeff": "a byte order mark stands here: it may only be the start of the file, so remove it",
@@ -22,15 +27,28 @@ class TextFault(Trouble):
     """What is wrong with a text."""
 
 
+def refuse(signs, text, number):
+    """Raises a fault if a line has one of some characters."""
+    for group, what in signs.items():
+        found = re.search(f"[{group}]", text)
+        if found:
+            raise TextFault(what.format(f"U+{ord(found.group()):04X}"), number, found.start() + 1)
+
+
+def code_lines(text):
+    """The lines of a text, numbered, without comments. A line feed ends a line, and a carriage return may stand before it."""
+    for number, line in enumerate(text.split("\n"), 1):
+        line = line.removesuffix("\r")
+        refuse(HIDING, line, number)
+        yield number, line.split("#")[0].rstrip()
+
+
 class Line:
     """The words of one line, taken from the left."""
 
-    def __init__(self, number, text):
+    def __init__(self, number, code):
         self.number = number
-        code = text.split("#")[0].rstrip()
-        for sign, what in STRANGE.items():
-            if sign in code:
-                raise TextFault(what, number, code.index(sign) + 1)
+        refuse(STRANGE, code, number)
         self.words = [(found.group(), found.start() + 1) for found in WORD.finditer(code)]
         self.words.append(("", len(code) + 1))
         self.at = 0  # the next word

@@ -1,7 +1,7 @@
 """Questions as readable text, both ways."""
 
 from front_end.files import LONG_NAME, quote, shown
-from front_end.lines import NAME, NAME_DUE, Line, TextFault
+from front_end.lines import NAME, NAME_DUE, Line, TextFault, code_lines
 from front_end.question import CONSTANTS, EQUALITY, FIRST, MOST_VARIABLES, NEGATED, SECOND, Fault, Question, is_second
 from front_end.trees import write_tree
 
@@ -125,26 +125,38 @@ class TextReader:
         self.system = SECOND if line.take("the system") == "then" else FIRST
 
     def read_clause(self, line):
-        """A clause: an equality, a join, or a join with joins inside. Where it is none of these, the message says how to write it."""
+        """A clause: an equality, a join, or a join with joins inside."""
         with line.here():
             negated = line.skip("not")
             left = self.read_join(line, negated)
-            equality = len(left) == 1
-            if negated and equality:
-                raise line.fault("the negation of an equality is written 'a is not b'") if line.peek() == "is" else line.due("'join'")
-            if not line.skip("is"):
-                raise line.due("'is'" if negated else "'join' or 'is'", ": write 'is' for it" if line.peek() == "=" else "")
-            if not equality and line.peek() == "not":
+            if len(left) == 1:
+                self.read_equality(line, negated, left)
+                return
+            self.expect_is(line, negated)
+            if line.peek() == "not":
                 raise line.fault("the negation of a join is written 'not a join b is c'" if len(left) == 2 else NOT_INSIDE)
-            negated = negated or line.skip("not")
-            right = [self.read_share(line)] if equality else self.read_join(line, negated, 1)
-            if equality and line.peek() == "join":
-                raise line.fault(f"a join stands before 'is': write '{turned(line)}'")
+            right = self.read_join(line, negated, 1)
             line.finish()
-            if equality or negated:
-                self.add(line, (EQUALITY if equality else 0) + (NEGATED if negated else 0), left + right)
+            if negated:
+                self.add(line, NEGATED, left + right)
             else:
                 self.add_joins(line, left, right)
+
+    def read_equality(self, line, negated, left):
+        """The rest of an equality. Where a join was meant, the message says how to write it."""
+        if negated:
+            raise line.fault("the negation of an equality is written 'a is not b'") if line.peek() == "is" else line.due("'join'")
+        self.expect_is(line, negated)
+        negated = line.skip("not")
+        right = self.read_share(line)
+        if line.peek() == "join":
+            raise line.fault(f"a join stands before 'is': write '{turned(line)}'")
+        line.finish()
+        self.add(line, EQUALITY + (NEGATED if negated else 0), [*left, right])
+
+    def expect_is(self, line, negated):
+        if not line.skip("is"):
+            raise line.due("'is'" if negated else "'join' or 'is'", ": write 'is' for it" if line.peek() == "=" else "")
 
     def read_join(self, line, negated, most=2):
         """Takes shares with 'join' between them; of a negated clause not more than so many."""
@@ -248,8 +260,8 @@ def read_text(text):
     if text[:1] == "\x01":
         raise TextFault("this is a question in bytes, and no text: './explain' makes a text of it", 1, 1)
     reader = TextReader()
-    for number, line in enumerate(text.split("\n"), 1):
-        line = Line(number, line)
+    for number, code in code_lines(text):
+        line = Line(number, code)
         if line.peek():
             reader.read(line)
     if reader.question is None:

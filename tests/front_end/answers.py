@@ -78,10 +78,13 @@ def test_lost_answers():
     """A program whose output is lost or cut, or that does not do its work."""
     path = file("shape.shares", SHAPES[0][0])
     real = f'"{surroundings({})["ZIMORGAL_CLI"]}"'
+    for script, due in [(f"{real} > /dev/full", "gave no answer: it printed nothing"),
+                        (f"{real} <&-", "refused the question: refused 1 at 0|gave no answer: it printed nothing")]:
+        status, out, errors = process("ask", path.name, ZIMORGAL_CLI=wrong_program("wrong", script))
+        said = re.fullmatch(f"shape.shares: the printing program ({due})(; its error: [ -~]+)?\n", errors)
+        check(f"a program that does {script}: {errors}", (status, out, bool(said)), (2, b"", True))
     for script, due in [
-            (f"{real} > /dev/full", "the printing program gave no answer: it printed nothing"),
             (f"{real} | head -c 26", "the printing program gave no whole answer: it printed 'answer yes\\nheight 1\\nv00 (*'"),
-            (f"{real} <&-", "the printing program refused the question: refused 1 at 0"),
             (f"{real}; exit 3", "the printing program ended with status 3"),
             (f"{real}; kill -9 $$", "the printing program was ended by signal 9"),
             ("exit 0", "the printing program gave no answer: it printed nothing"),

@@ -13,6 +13,7 @@ no_first_solution left_half_not_inside can_be_split may_be_empty half_not_empty 
 BYTES = [
     ("satisfiable", "01 00 00 00 00"),
     ("entails", "01 01 00 00 00"),
+    ("satisfiable\r\nfree a # b\r\n\r\na is a\r", "01 00 01 00 12 00 00 00"),
     # A byte order mark at the start, and bytes that are no UTF-8 in a comment.
     ("\ufeffsatisfiable\nfree a", "01 00 01 00 00"),
     (b"satisfiable # \xff\xfe\nfree a", "01 00 01 00 00"),
@@ -157,6 +158,13 @@ FAULTS = [
     ("entails\nown d\nd is d", "3:1: 'd' is an own variable, and they stand in the second system alone: write 'then' before this clause, or make 'd' free"),
     ("entails\nfree a\nown d\nthen\nd is d\nif\na join d is a",
      "7:8: 'd' is an own variable, and they stand in the second system alone: write 'then' before this clause, or make 'd' free"),
+    # What an editor shows otherwise than it is read: a clause that seems to stand on a line of its own, and is in a comment.
+    ("satisfiable\nfree a\na is o # so\ra is not o", "3:12: a line break (U+000D) stands here that is no line feed: end each line with a line feed"),
+    ("satisfiable\nfree a\n# so\x85a is not o", "3:5: a line break (U+0085) stands here that is no line feed: end each line with a line feed"),
+    ("satisfiable\nfree a\u2028a is not o", "2:7: a line break (U+2028) stands here that is no line feed: end each line with a line feed"),
+    ("satisfiable\x0cfree a", "1:12: a line break (U+000C) stands here that is no line feed: end each line with a line feed"),
+    ("satisfiable\nfree a\na is o #\u202e", "3:9: a character (U+202E) stands here that turns the order of what is shown: remove it"),
+    ("satisfiable # \u2066\nfree 7", "1:15: a character (U+2066) stands here that turns the order of what is shown: remove it"),
     # No text.
     ("\ufeffsatisfiable\nfree 7", "2:6: '7' starts with a digit, and a name does not: write '_7', for example"),
     ("\ufeffsatisfiable 7", "1:13: the end of the line is due here, not '7'"),

@@ -118,6 +118,9 @@ def test_explain():
         check(f"explain {bytes_due}", command("explain", "-", given=string), (0, written, ""))
         check(f"explained, in bytes again: {bytes_due}", command("ask", "--bytes", "-", given=written), (0, string, ""))
     check("explain --hex", command("explain", "--hex", "-", given=b"01 000000 # head\n\n00"), (0, b"satisfiable\n", ""))
+    check("explain --hex, line ends", command("explain", "--hex", "-", given=b"01 00\r\n00 # 00\r\n00 00\r"), (0, b"satisfiable\n", ""))
+    hidden = "-:1:16: a line break (U+000D) stands here that is no line feed: end each line with a line feed\n"
+    check("explain --hex, bytes that seem to be no comment", command("explain", "--hex", "-", given=b"01 00 00 # head\r00 00"), (1, b"", hidden))
     for text, place, found in (("01 0g", "1:4", "0g"), ("01\n 0", "2:2", "0")):
         due = f"-:{place}: two hexadecimal digits are due here, not '{found}'\n"
         check(f"explain --hex of {text!r}", command("explain", "--hex", "-", given=text.encode()), (1, b"", due))

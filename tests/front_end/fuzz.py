@@ -113,6 +113,9 @@ def test_random_texts():
 def test_odd_texts():
     for text in odd_texts():
         try_text(text)
+        status, out, errors = command("explain", "-", given=text)
+        check(f"explain {text[:40]!r}", (status, out.count(b"\n") in (4, 5), errors), (1, True, ""))
+    check("line ends before a letter", command("explain", "-", given=b"\n" * 20000 + b"z")[0], 1)
 
 
 def test_random_strings():
