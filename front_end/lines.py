@@ -38,7 +38,7 @@ def refuse(signs, text, number):
 def code_lines(text):
     """The lines of a text, numbered, without comments. A line feed ends a line, and a carriage return may stand before it."""
     for number, line in enumerate(text.split("\n"), 1):
-        line = line.removesuffix("\r")
+        line = line[:-1] if line.endswith("\r") else line
         refuse(HIDING, line, number)
         yield number, line.split("#")[0].rstrip()
 

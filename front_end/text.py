@@ -239,7 +239,8 @@ def decode(string):
     comment, and a message shows them."""
     if string[:2] in (b"\xff\xfe", b"\xfe\xff"):
         raise TextFault("the text is in UTF-16: save it as UTF-8", 1, 1)
-    return string.decode("utf-8", "surrogateescape").removeprefix("\ufeff")
+    text = string.decode("utf-8", "surrogateescape")
+    return text[1:] if text.startswith("\ufeff") else text
 
 
 class Asked:
