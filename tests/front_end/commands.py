@@ -3,6 +3,7 @@
 import json
 import os
 import subprocess
+import time
 from pathlib import Path
 
 import cases
@@ -98,6 +99,17 @@ def test_json():
     check("a name that is no text", json.loads(out)["file"], os.path.join(FOLDER.name, "not\\xfftext\n"))
 
 
+def write_when_read(path, content, reader):
+    """Writes to a named pipe as soon as a process reads it, if it does not end before."""
+    while reader.poll() is None:
+        try:
+            with open(os.open(path, os.O_WRONLY | os.O_NONBLOCK), "wb") as pipe:
+                pipe.write(content)
+            return
+        except OSError:
+            time.sleep(0.01)
+
+
 def test_streamed():
     """An answer is written before the next question is read."""
     waits = Path(FOLDER.name, "waits")
@@ -105,7 +117,7 @@ def test_streamed():
     for option in ("--json", "--plain"):
         asking = subprocess.Popen([str(TOP / "ask"), option, str(file("yes.shares", YES)), str(waits)], stdout=subprocess.PIPE, env=surroundings({}))
         first = asking.stdout.readline()  # the first answer's line comes though the second question is not there yet
-        waits.write_bytes(NO)
+        write_when_read(waits, NO, asking)
         rest = asking.stdout.read()
         asking.stdout.close()
         check(f"streamed {option}", (b"yes.shares" in first, b"no" in rest, asking.wait()), (True, True, 1))

@@ -1,10 +1,13 @@
 """Tests of output that is lost or cut, of streams that are closed, and of what messages echo."""
 
+import fcntl
 import os
 import re
 import resource
 import signal
+import struct
 import subprocess
+import termios
 import time
 from unittest import mock
 
@@ -102,16 +105,18 @@ def test_input():
         check("explain, input without an end", end(("explain", "-"), before=small_memory, given=zeros), (1, ""))
 
 
+def unread_bytes(descriptor):
+    """How many bytes of a pipe nobody has read yet."""
+    return struct.unpack("i", fcntl.ioctl(descriptor, termios.FIONREAD, bytes(4)))[0]
+
+
 def test_interrupt():
     """An interrupt ends a command as it ends any other: by the signal, with nothing said."""
     waiting = subprocess.Popen([str(TOP / "ask"), "-"], stdin=subprocess.PIPE, stdout=subprocess.PIPE, stderr=subprocess.PIPE, env=surroundings({}))
-    descriptor = f"/proc/{waiting.pid}/wchan"
-    for _ in range(200):
-        time.sleep(0.05)
-        if os.path.exists(descriptor) and "pipe" in open(descriptor).read():
-            break
-    else:
-        time.sleep(1)
+    waiting.stdin.write(b"satisfiable")
+    waiting.stdin.flush()
+    while unread_bytes(waiting.stdin.fileno()) and waiting.poll() is None:  # until it reads
+        time.sleep(0.01)
     waiting.send_signal(signal.SIGINT)
     out, errors = waiting.communicate()
     check("an interrupt", (waiting.returncode, out, errors), (-signal.SIGINT, b"", b""))
