@@ -78,6 +78,18 @@ class Question:
             raise Fault(5, "own variables need a question that asks 'entails'")
         self.kind, self.free, self.own = kind, free, own
 
+    def add_free(self):
+        """Adds a free variable and gives its term. Own variables are numbered after the free ones, so their terms grow by one."""
+        new = self.free
+        self.set_head(self.kind, self.free + 1, self.own)
+        self.clauses = [(command, *(term + (new <= term < CONSTANTS) for term in terms)) for command, *terms in self.clauses]
+        return new
+
+    def add_own(self):
+        """Adds an own variable and gives its term."""
+        self.set_head(self.kind, self.free, self.own + 1)
+        return self.free + self.own - 1
+
     def define(self, leaves):
         """Adds a constant and gives its term."""
         if len(self.constants) == MOST_CONSTANTS:

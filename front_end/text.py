@@ -1,4 +1,19 @@
-"""Questions as readable text, both ways. One thing a line; '#' starts a comment.
+"""Questions as readable text, both ways."""
+
+from front_end.files import LONG_NAME, quote, shown
+from front_end.lines import NAME, NAME_DUE, Line, TextFault, code_lines
+from front_end.question import CONSTANTS, EQUALITY, FIRST, MOST_VARIABLES, NEGATED, SECOND, Fault, Question, is_second
+from front_end.trees import write_tree
+
+LONGEST = 255  # characters of a name
+KINDS = ["satisfiable", "entails"]
+KEPT = KINDS + ["free", "own", "let", "if", "then", "not", "join", "is", "o"]
+RESERVED = f"{', '.join(KEPT[:-1])} and {KEPT[-1]}"
+
+NOT_INSIDE = ("a negated clause has one join, 'not a join b is c': give the join inside it a variable of its own, as in 'a join b is t' and "
+              "'not t join c is d', which also asks that a join b is defined")
+
+FORM = f"""The text: one thing a line; '#' starts a comment.
 
     satisfiable                    or: entails; the first line
     free writer reader rest        free variables, by name
@@ -6,92 +21,28 @@
     let L = (*o)                   a constant, as tree text; these three kinds of line stand before the first clause
     writer join reader is rest     a join
     not writer join reader is *    its negation: another share, or undefined
+    a join b join c is d join e    joins inside: all are defined and both sides are one share; each counts as a variable more, one less than
+                                   the sides have joins; not with 'not'
     writer is L                    an equality
     reader is not o                its negation
     then                           from here on: the second system
     if                             from here on: the first system again
 
-A share in a clause is a name or tree text. Tree text in a clause is the first constant with that tree; if there is none, it becomes
-one, after those of 'let'.
+A name is letters a to z, small or capital, digits and '_', with no digit first; {RESERVED}
+cannot be names. A share in a clause is a name or tree text. Tree text has no spaces; in a clause it is the first constant with that
+tree, and if there is none, it becomes one, after those of 'let'.
 """
 
-import re
-from contextlib import contextmanager
 
-from front_end.question import CONSTANTS, EQUALITY, FIRST, NEGATED, SECOND, Fault, Question, is_second
-from front_end.trees import TreeFault, read_tree, write_tree
-
-WORD = re.compile(r"=|[^\s=]+")
-NAME = re.compile(r"[A-Za-z_][A-Za-z_0-9]*")
-KINDS = ["satisfiable", "entails"]
-KEPT = KINDS + ["free", "own", "let", "if", "then", "not", "join", "is", "o"]
-
-
-class TextFault(Exception):
-    """What is wrong with a text, and where; lines and columns count from 1."""
-
-    def __init__(self, line, column, what):
-        super().__init__(what)
-        self.line = line
-        self.column = column
-        self.what = what
-
-
-class Line:
-    """The words of one line, taken from the left."""
-
-    def __init__(self, number, text):
-        self.number = number
-        code = text.split("#")[0].rstrip()
-        self.words = [(found.group(), found.start() + 1) for found in WORD.finditer(code)]
-        self.words.append(("", len(code) + 1))
-
-    def peek(self):
-        """The next word, empty at the end of the line."""
-        return self.words[0][0]
-
-    def column(self):
-        return self.words[0][1]
-
-    def fault(self, what):
-        """A fault at the next word."""
-        return TextFault(self.number, self.column(), what)
-
-    def due(self, what):
-        found = f"not '{self.peek()}'" if self.peek() else "and the line ends"
-        return self.fault(f"{what} is due here, {found}")
-
-    def skip(self, word):
-        """Takes that word if it is next, and says whether it was."""
-        if self.peek() != word:
-            return False
-        self.words.pop(0)
-        return True
-
-    def expect(self, word):
-        if not self.skip(word):
-            raise self.due(f"'{word}'")
-
-    def take(self, what):
-        """Takes a word, whatever it is."""
-        if not self.peek():
-            raise self.due(what)
-        return self.words.pop(0)[0]
-
-    def finish(self):
-        if self.peek():
-            raise self.due("the end of the line")
-
-    @contextmanager
-    def here(self):
-        """Faults inside are faults at the word that is next now."""
-        column = self.column()
-        try:
-            yield
-        except Fault as fault:
-            raise TextFault(self.number, column, fault.what) from None
-        except TreeFault as fault:
-            raise TextFault(self.number, column + fault.at, fault.what) from None
+def turned(line):
+    """The clause 'c is a join b' with the join before 'is', as far as it is one."""
+    words = str(line).split(" ")
+    middle = words.index("is")
+    negated = words[middle + 1] == "not"
+    whole, parts = words[:middle], words[middle + 1 + negated:]
+    if len(parts) % 2 == 0 or parts[1::2] != ["join"] * (len(parts) // 2):
+        whole, parts = ["c"], ["a", "join", "b"]
+    return shown(" ".join(["not"] * negated + parts + ["is"] + whole))
 
 
 class TextReader:
@@ -101,6 +52,7 @@ class TextReader:
         self.question = None
         self.free = []
         self.own = []
+        self.clauses = []  # of each clause its line
         self.lets = {}  # the constants that have names
         self.lines = {}  # where each name was defined
         self.system = FIRST
@@ -110,7 +62,7 @@ class TextReader:
         if self.question is None:
             self.read_kind(line)
         elif word in KINDS:
-            raise line.fault("the kind of question stands in the first line, and only there")
+            raise line.fault("the kind of question stands in the first line alone: a file asks one question")
         elif word in ("free", "own", "let"):
             if self.question.clauses:
                 raise line.fault(f"'{word}' must stand before the first clause")
@@ -133,15 +85,23 @@ class TextReader:
         """Takes a new name."""
         name = line.peek()
         if not NAME.fullmatch(name):
-            raise line.due("a name (letters, digits, '_')")
+            raise line.no_name(NAME_DUE)
+        if len(name) > LONGEST:
+            raise line.fault(f"the name {quote(name)} has {len(name):,} characters: it may have {LONGEST}")
         if name in KEPT:
-            raise line.fault(f"'{name}' has a meaning of its own and cannot be a name")
+            raise line.fault(f"'{name}' cannot be a name: {RESERVED} have a meaning of their own")
         if name in self.lines:
-            raise line.fault(f"'{name}' is defined already, in line {self.lines[name]}")
+            raise line.fault(f"{quote(name)} is defined already, in line {self.lines[name]}")
         self.lines[name] = line.number
         return line.take("a name")
 
+    def need_entails(self, line, what):
+        if self.question.kind == 0:
+            raise line.fault(f"{what} a question that asks 'entails': write that in the first line")
+
     def read_variables(self, line):
+        if line.peek() == "own":
+            self.need_entails(line, "own variables need")
         names = self.free if line.take("free or own") == "free" else self.own
         while True:
             with line.here():
@@ -154,57 +114,117 @@ class TextReader:
         line.expect("let")
         name = self.read_name(line)
         line.expect("=")
+        if not line.peek():
+            raise line.due("a tree")
         with line.here():
-            self.lets[name] = self.question.define(read_tree(line.take("a tree")))
+            self.lets[name] = self.question.define(line.take_tree())
 
     def read_system(self, line):
-        with line.here():
-            second = line.take("the system") == "then"
-            self.question.check_system(second)
-        self.system = SECOND if second else FIRST
+        if line.peek() == "then":
+            self.need_entails(line, "a second system needs")
+        self.system = SECOND if line.take("the system") == "then" else FIRST
 
     def read_clause(self, line):
-        """A clause. Where 'not' stands in the place of the other kind's, the message says how to write what was meant."""
+        """A clause: an equality, a join, or a join with joins inside."""
         with line.here():
             negated = line.skip("not")
-            terms = [self.read_share(line)]
-            if line.skip("join"):
-                shape = 0
-                terms.append(self.read_share(line))
-                line.expect("is")
-                if line.peek() == "not":
-                    raise line.fault("the negation of a join is written 'not a join b is c'")
-            elif negated:
-                if line.peek() == "is":
-                    raise line.fault("the negation of an equality is written 'a is not b'")
-                raise line.due("'join'")
-            else:
-                shape = EQUALITY
-                if not line.skip("is"):
-                    raise line.due("'join' or 'is'")
-                negated = line.skip("not")
-            terms.append(self.read_share(line))
+            left = self.read_join(line, negated)
+            if len(left) == 1:
+                self.read_equality(line, negated, left)
+                return
+            self.expect_is(line, negated)
+            if line.peek() == "not":
+                raise line.fault("the negation of a join is written 'not a join b is c'" if len(left) == 2 else NOT_INSIDE)
+            right = self.read_join(line, negated, 1)
             line.finish()
-            self.question.add(self.system + shape + (NEGATED if negated else 0), terms)
+            if negated:
+                self.add(line, NEGATED, left + right)
+            else:
+                self.add_joins(line, left, right)
+
+    def read_equality(self, line, negated, left):
+        """The rest of an equality. Where a join was meant, the message says how to write it."""
+        if negated:
+            raise line.fault("the negation of an equality is written 'a is not b'") if line.peek() == "is" else line.due("'join'")
+        self.expect_is(line, negated)
+        negated = line.skip("not")
+        right = self.read_share(line)
+        if line.peek() == "join":
+            raise line.fault(f"a join stands before 'is': write '{turned(line)}'")
+        line.finish()
+        self.add(line, EQUALITY + (NEGATED if negated else 0), [*left, right])
+
+    def expect_is(self, line, negated):
+        if not line.skip("is"):
+            raise line.due("'is'" if negated else "'join' or 'is'", ": write 'is' for it" if line.peek() == "=" else "")
+
+    def read_join(self, line, negated, most=2):
+        """Takes shares with 'join' between them; of a negated clause not more than so many."""
+        terms = [self.read_share(line)]
+        while line.peek() == "join":
+            if negated and len(terms) == most:
+                raise line.fault(NOT_INSIDE)
+            line.take("'join'")
+            terms.append(self.read_share(line))
+        return terms
+
+    def add(self, line, shape, terms):
+        self.question.add(self.system + shape, terms)
+        self.clauses.append(line)
+
+    def add_joins(self, line, left, right):
+        """Adds 'left is right', two lists of shares that are to be joined. Each join inside gets a fresh variable."""
+        fresh = len(left) + len(right) - 3
+        variables = self.question.free + self.question.own + fresh
+        if fresh > 0 and variables > MOST_VARIABLES:
+            raise Fault(5, f"the joins inside this clause need {fresh} variable{'s' if fresh > 1 else ''} more, which makes {variables}: "
+                           f"there may be {MOST_VARIABLES}, free and own together")
+        whole = self.join(line, left, right[0] if len(right) == 1 else None)
+        self.join(line, right, whole)
+
+    def join(self, line, terms, whole):
+        """Adds clauses that join terms one after the other to a whole, which is a fresh variable if none is given, and gives it."""
+        so_far, *others = terms
+        for number, term in enumerate(others, 1):
+            result = whole if number == len(others) and whole is not None else self.fresh()
+            self.add(line, 0, [so_far, term, result])
+            so_far = result
+        return so_far
+
+    def fresh(self):
+        """A variable without a name, that stands for a join: free for the first system, own for the second (docs/FORMAT.md)."""
+        return self.question.add_own() if self.system == SECOND else self.question.add_free()
 
     def read_share(self, line):
         """Takes a name or a tree text, and gives its term."""
         word = line.peek()
-        variables = self.free + self.own
-        with line.here():
-            if word == "o" or word[:1] in ("(", "*", ")"):
-                term = self.constant(read_tree(word))
-            elif word in self.lets:
-                term = self.lets[word]
-            elif word in variables:
-                term = variables.index(word)
-            elif NAME.fullmatch(word) and word not in KEPT:
-                raise line.fault(f"nothing is named '{word}'")
-            else:
-                raise line.due("a name or a tree")
-            self.question.check_term(term, self.system == SECOND)
+        if word == "o" or word[:1] in ("(", "*", ")"):
+            with line.here():
+                return self.constant(line.take_tree())
+        if word in self.own and self.system == FIRST:
+            raise line.fault(f"{quote(word)} is an own variable, and they stand in the second system alone: "
+                             f"write 'then' before this clause, or make {quote(word)} free")
+        if word not in self.lines:
+            raise self.unknown(line, word)
         line.take("a share")
-        return term
+        return self.lets[word] if word in self.lets else self.names().index(word)
+
+    def names(self):
+        """The names of the variables in order, None for those without one."""
+        fresh_free, fresh_own = self.question.free - len(self.free), self.question.own - len(self.own)
+        return self.free + [None] * fresh_free + self.own + [None] * fresh_own
+
+    def unknown(self, line, word):
+        """The fault of a word that is no share, where one is due."""
+        if word in ("0", "1"):
+            return line.fault(f"'{word}' is no share: write 'o' for the empty one, '*' for the full one")
+        if not NAME.fullmatch(word) or word in KEPT:
+            return line.no_name("a name or a tree")
+        if line.peek(1) == "=":
+            tree = line.peek(2) or "(*o)"
+            return line.fault(f"nothing is named {quote(word)}: a constant is defined by 'let', before the first clause: "
+                              f"write 'let {shown(word, LONG_NAME)} = {shown(tree, LONG_NAME)}'")
+        return line.fault(f"nothing is named {quote(word)}: a line 'free {shown(word, 40)}' before the first clause makes it a variable")
 
     def constant(self, leaves):
         """The term of the first constant with these leaves, which is a new one if there is none."""
@@ -214,16 +234,40 @@ class TextReader:
         return self.question.define(leaves)
 
 
+def decode(string):
+    """The text of a file's bytes. A byte order mark before it is left out. Bytes that are no UTF-8 are kept: they may stand in a
+    comment, and a message shows them."""
+    if string[:2] in (b"\xff\xfe", b"\xfe\xff"):
+        raise TextFault("the text is in UTF-16: save it as UTF-8", 1, 1)
+    text = string.decode("utf-8", "surrogateescape")
+    return text[1:] if text.startswith("\ufeff") else text
+
+
+class Asked:
+    """What a text asks: the question; the names of its variables in order, None for one that stands for a join; of each clause its line."""
+
+    def __init__(self, question, names, clauses):
+        self.question = question
+        self.names = names
+        self.clauses = clauses
+
+    def disequation(self, number):
+        """The line of a disequation of the second system."""
+        return [line for line, clause in zip(self.clauses, self.question.clauses) if is_second(clause[0]) and clause[0] & NEGATED][number]
+
+
 def read_text(text):
-    """The question that a text asks, and the names of its variables in order."""
+    """What a text asks."""
+    if text[:1] == "\x01":
+        raise TextFault("this is a question in bytes, and no text: './explain' makes a text of it", 1, 1)
     reader = TextReader()
-    for number, line in enumerate(text.split("\n"), 1):
-        line = Line(number, line)
+    for number, code in code_lines(text):
+        line = Line(number, code)
         if line.peek():
             reader.read(line)
     if reader.question is None:
-        raise TextFault(1, 1, "the text asks nothing: 'satisfiable' or 'entails' is due in its first line")
-    return reader.question, reader.free + reader.own
+        raise TextFault("the text asks nothing: 'satisfiable' or 'entails' is due in its first line", 1, 1)
+    return Asked(reader.question, reader.names(), reader.clauses)
 
 
 def in_clauses(question):

@@ -3,8 +3,9 @@
 Tree text is 'o' (empty), '*' (full) or '(' left right ')', always folded. The 32 leaves are a number, leaf i at bit i.
 """
 
-TALLEST = 5
-LEAVES = 1 << TALLEST
+from front_end.files import quote
+
+TALLEST = 5  # of a constant
 
 
 class TreeFault(Exception):
@@ -16,8 +17,8 @@ class TreeFault(Exception):
         self.what = what
 
 
-def read_tree(text):
-    """The leaves of a tree text. Faults of its form come first, then a pair that could be folded, then the height."""
+def read_tree(text, tallest=TALLEST):
+    """The 2^tallest leaves of a tree text. Faults of its form come first, then a pair that could be folded, then the height."""
     pairs = []  # the pairs that are not closed yet: where each starts, and its halves so far
     unfolded = tall = None
     leaves = next_leaf = 0
@@ -27,10 +28,10 @@ def read_tree(text):
         wants_half = not pairs or len(pairs[-1][1]) < 2
         if sign not in ("(o*" if wants_half else ")"):
             due = "'(', 'o' or '*'" if wants_half else "')'"
-            raise TreeFault(at, f"no tree text: {due} is due here, not '{sign}'")
+            raise TreeFault(at, f"no tree text: {due} is due here, not {quote(sign)}")
         if sign == "(":
             pairs.append((at, []))
-            if len(pairs) > TALLEST and tall is None:
+            if len(pairs) > tallest and tall is None:
                 tall = at
             continue
         if sign == ")":
@@ -38,7 +39,7 @@ def read_tree(text):
             if halves in (["o", "o"], ["*", "*"]) and unfolded is None:
                 unfolded = start, halves[0]
         else:
-            width = LEAVES >> len(pairs)
+            width = (1 << tallest) >> len(pairs)
             if sign == "*":
                 leaves |= ((1 << width) - 1) << next_leaf
             next_leaf += width
@@ -50,7 +51,7 @@ def read_tree(text):
         start, leaf = unfolded
         raise TreeFault(start, f"a pair of two equal leaves must be folded: write '{leaf}' for '({leaf}{leaf})'")
     if tall is not None:
-        raise TreeFault(tall, f"the tree is too tall: at most {TALLEST} pairs may stand one in the other")
+        raise TreeFault(tall, f"the tree is too tall: at most {tallest} pairs may stand one in the other")
     return leaves
 
 

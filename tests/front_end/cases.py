@@ -2,6 +2,9 @@
 
 EMPTY, FULL, LEFT, RIGHT = "03 00 00 00 00", "03 FF FF FF FF", "03 FF FF 00 00", "03 00 00 FF FF"
 
+# Lines of the help: what the status of ask says.
+STATUSES = ["0  yes", "1  no", "2  refused, or an error", "3  the answer could not be written"]
+
 # The worked questions of SPEC 12.1 to 12.14; 'printed' is 12.13, 'half_not_full' is 12.14.
 WORKED = """printed no_clause joined_to_itself doubled three_not_empty five_not_empty not_the_left_half undefined_join
 no_first_solution left_half_not_inside can_be_split may_be_empty half_not_empty half_not_full""".split()
@@ -10,6 +13,10 @@ no_first_solution left_half_not_inside can_be_split may_be_empty half_not_empty 
 BYTES = [
     ("satisfiable", "01 00 00 00 00"),
     ("entails", "01 01 00 00 00"),
+    ("satisfiable\r\nfree a # b\r\n\r\na is a\r", "01 00 01 00 12 00 00 00"),
+    # A byte order mark at the start, and bytes that are no UTF-8 in a comment.
+    ("\ufeffsatisfiable\nfree a", "01 00 01 00 00"),
+    (b"satisfiable # \xff\xfe\nfree a", "01 00 01 00 00"),
     ("\n# a comment\n  satisfiable # another, with ü\r\n\n", "01 00 00 00 00"),
     ("satisfiable\nfree a b c\na join b is c", "01 00 03 00 10 00 01 02 00"),
     ("satisfiable\nfree a b c\nnot a join b is c", "01 00 03 00 11 00 01 02 00"),
@@ -24,6 +31,15 @@ BYTES = [
     # The systems alternate.
     ("entails\nfree a\nthen\na is a\nif\na is not a\nthen\na is not a", "01 01 01 00 22 00 00 13 00 00 23 00 00 00"),
     ("satisfiable\nif\n* is *", f"01 00 00 00 {FULL} 12 20 20 00"),
+    # Joins inside a clause have fresh variables: free ones after the named ones, own ones at the end.
+    ("satisfiable\nfree a b c d\na join b join c is d", "01 00 05 00 10 00 01 04 10 04 02 03 00"),
+    ("satisfiable\nfree a b c d\na join b is c join d", "01 00 05 00 10 00 01 04 10 02 03 04 00"),
+    ("satisfiable\nfree a b\na join b join b join a is b join b join a",
+     "01 00 06 00 10 00 01 02 10 02 01 03 10 03 00 04 10 01 01 05 10 05 00 04 00"),
+    ("satisfiable\nfree a\na join a join a is a\na join a join a is a", "01 00 03 00 10 00 00 01 10 01 00 00 10 00 00 02 10 02 00 00 00"),
+    ("entails\nfree a b\nown c\nthen\na join b join c is *", f"01 01 02 02 {FULL} 20 00 01 03 20 03 02 20 00"),
+    ("entails\nfree a b c\nown d\nthen\nd is a\nif\na join b join c is a\nthen\nd join d is a join b\nif\na join b is c join c\nthen\nd is b",
+     "01 01 05 02 22 05 00 10 00 01 03 10 03 02 00 20 05 05 06 20 00 01 06 10 00 01 04 10 02 02 04 22 05 01 00"),
     # Constants: those of 'let' in order, equal ones too, then each new tree of the clauses once.
     ("satisfiable\nlet A=(*o)\nlet B = (*o)\nB is A", f"01 00 00 00 {LEFT} {LEFT} 12 21 20 00"),
     ("satisfiable\nlet B = (*o)\n(*o) is (o*)\n(o*) is not *", f"01 00 00 00 {LEFT} {RIGHT} {FULL} 12 20 21 13 21 22 00"),
@@ -33,6 +49,11 @@ BYTES = [
     ("satisfiable\nlet mixed = ((*(o*))(o(*o)))", "01 00 00 00 03 FF F0 00 0F 00"),
 ]
 
+NAME = "a name (letters a to z, digits and '_', no digit first)"
+KEPT = "satisfiable, entails, free, own, let, if, then, not, join, is and o have a meaning of their own"
+UNKNOWN = "a line 'free {0}' before the first clause makes it a variable"
+NOT_INSIDE = "a negated clause has one join, 'not a join b is c': give the join inside it a variable of its own, as in 'a join b is t' and " \
+    "'not t join c is d', which also asks that a join b is defined"
 CLAUSE = "satisfiable\nfree a b c\n"
 
 # A text, and where and why it is refused.
@@ -41,20 +62,30 @@ FAULTS = [
     ("# only a comment\n", "1:1: the text asks nothing: 'satisfiable' or 'entails' is due in its first line"),
     ("\n  free a\n", "2:3: 'satisfiable' or 'entails' is due here, not 'free'"),
     ("satisfiable a", "1:13: the end of the line is due here, not 'a'"),
-    ("satisfiable\nentails", "2:1: the kind of question stands in the first line, and only there"),
+    ("satisfiable\nentails", "2:1: the kind of question stands in the first line alone: a file asks one question"),
     # Names.
-    ("satisfiable\nfree", "2:5: a name (letters, digits, '_') is due here, and the line ends"),
-    ("satisfiable\nfree a # b\nfree  ", "3:5: a name (letters, digits, '_') is due here, and the line ends"),
-    ("satisfiable\nfree a 7b", "2:8: a name (letters, digits, '_') is due here, not '7b'"),
-    ("satisfiable\nfree join", "2:6: 'join' has a meaning of its own and cannot be a name"),
-    ("satisfiable\nfree o", "2:6: 'o' has a meaning of its own and cannot be a name"),
+    ("satisfiable\nfree", "2:5: a name (letters a to z, digits and '_', no digit first) is due here, and the line ends"),
+    ("satisfiable\nfree a # b\nfree  ", "3:5: a name (letters a to z, digits and '_', no digit first) is due here, and the line ends"),
+    ("satisfiable\nfree a 7b", "2:8: '7b' starts with a digit, and a name does not: write '_7b', for example"),
+    ("satisfiable\nlet 7 = o", "2:5: '7' starts with a digit, and a name does not: write '_7', for example"),
+    (CLAUSE + "7b is a", "3:1: '7b' starts with a digit, and a name does not: write '_7b', for example"),
+    ("satisfiable\nfree 7-b", f"2:6: {NAME} is due here, not '7-b'"),
+    ("satisfiable\nfree a, b", "2:6: names are parted by spaces: write 'a' for 'a,'"),
+    ("satisfiable\nfree \u00e4", f"2:6: {NAME} is due here, not '\u00e4'"),
+    ("satisfiable\nfree a" + "b" * 255, f"2:6: the name 'a{'b' * 39}...' has 256 characters: it may have 255"),
+    ("satisfiable\nfree join", f"2:6: 'join' cannot be a name: {KEPT}"),
+    ("satisfiable\nfree o", f"2:6: 'o' cannot be a name: {KEPT}"),
+    ("satisfiable\nlet then = o", f"2:5: 'then' cannot be a name: {KEPT}"),
     ("satisfiable\nfree a b\nfree c a", "3:8: 'a' is defined already, in line 2"),
     ("entails\nfree a\nown a", "3:5: 'a' is defined already, in line 2"),
     ("satisfiable\nfree a\nlet a = o", "3:5: 'a' is defined already, in line 2"),
     ("satisfiable\nlet L = o\nfree L", "3:6: 'L' is defined already, in line 2"),
-    (CLAUSE + "a is\tbb", "3:6: nothing is named 'bb'"),
-    (CLAUSE + "a join b is d", "3:13: nothing is named 'd'"),
-    (CLAUSE + "A is b", "3:1: nothing is named 'A'"),
+    (CLAUSE + "a is\tbb", "3:6: nothing is named 'bb': " + UNKNOWN.format("bb")),
+    (CLAUSE + "a join b is d", "3:13: nothing is named 'd': " + UNKNOWN.format("d")),
+    (CLAUSE + "A is b", "3:1: nothing is named 'A': " + UNKNOWN.format("A")),
+    (CLAUSE + "L = (*o)", "3:1: nothing is named 'L': a constant is defined by 'let', before the first clause: write 'let L = (*o)'"),
+    (CLAUSE + "a is 0", "3:6: '0' is no share: write 'o' for the empty one, '*' for the full one"),
+    (CLAUSE + "1 is a", "3:1: '1' is no share: write 'o' for the empty one, '*' for the full one"),
     (CLAUSE + "a join b is c c", "3:15: the end of the line is due here, not 'c'"),
     # Trees.
     ("satisfiable\nlet L", "2:6: '=' is due here, and the line ends"),
@@ -67,7 +98,15 @@ FAULTS = [
     ("satisfiable\nlet L = (*o", "2:12: no tree text: it ends before the tree does"),
     ("satisfiable\nlet L = (*(o*)", "2:15: no tree text: it ends before the tree does"),
     ("satisfiable\nlet L = (*o)o", "2:13: no tree text: the tree ends before this character"),
-    ("satisfiable\nlet L = (* o)", "2:11: no tree text: it ends before the tree does"),
+    # Trees with spaces inside.
+    ("satisfiable\nlet L = (* o)", "2:11: tree text has no spaces: write '(*o)'"),
+    (CLAUSE + "a is (o *)", "3:8: tree text has no spaces: write '(o*)'"),
+    (CLAUSE + "( o\t(* o) ) is not a", "3:2: tree text has no spaces: write '(o(*o))'"),
+    (CLAUSE + "a is (o o)", "3:8: tree text has no spaces"),
+    (CLAUSE + "a is (o x)", "3:8: tree text has no spaces"),
+    (CLAUSE + "a join (o is b", "3:10: no tree text: it ends before the tree does"),
+    (CLAUSE + "a is ((o *)", "3:9: no tree text: it ends before the tree does"),
+    (CLAUSE + "a is " + "( " * 5000, "3:7: no tree text: it ends before the tree does"),
     (CLAUSE + "a is *o", "3:7: no tree text: the tree ends before this character"),
     (CLAUSE + "a is )", "3:6: no tree text: '(', 'o' or '*' is due here, not ')'"),
     (CLAUSE + "a is " + "(" * 5000, "3:5006: no tree text: it ends before the tree does"),
@@ -83,22 +122,60 @@ FAULTS = [
     (CLAUSE + "a is not", "3:9: a name or a tree is due here, and the line ends"),
     (CLAUSE + "a is is", "3:6: a name or a tree is due here, not 'is'"),
     (CLAUSE + "a is b!", "3:6: a name or a tree is due here, not 'b!'"),
-    (CLAUSE + "a = b", "3:3: 'join' or 'is' is due here, not '='"),
+    (CLAUSE + "a = b", "3:3: 'join' or 'is' is due here, not '=': write 'is' for it"),
     (CLAUSE + "a join", "3:7: a name or a tree is due here, and the line ends"),
-    (CLAUSE + "a join b", "3:9: 'is' is due here, and the line ends"),
-    (CLAUSE + "a join b c", "3:10: 'is' is due here, not 'c'"),
+    (CLAUSE + "a join b", "3:9: 'join' or 'is' is due here, and the line ends"),
+    (CLAUSE + "a join b c", "3:10: 'join' or 'is' is due here, not 'c'"),
+    (CLAUSE + "not a join b c", "3:14: 'is' is due here, not 'c'"),
+    (CLAUSE + "a join b = c", "3:10: 'join' or 'is' is due here, not '=': write 'is' for it"),
+    # Joins inside a clause.
+    (CLAUSE + "a join b join", "3:14: a name or a tree is due here, and the line ends"),
+    (CLAUSE + "a join b join is c", "3:15: a name or a tree is due here, not 'is'"),
+    (CLAUSE + "a join b join c", "3:16: 'join' or 'is' is due here, and the line ends"),
+    (CLAUSE + "a join b is c join", "3:19: a name or a tree is due here, and the line ends"),
+    (CLAUSE + "a join b is c join d", "3:20: nothing is named 'd': " + UNKNOWN.format("d")),
+    (CLAUSE + "a join b is c join a b", "3:22: the end of the line is due here, not 'b'"),
+    (CLAUSE + "c is a join b join a", "3:8: a join stands before 'is': write 'a join b join a is c'"),
+    (CLAUSE + "a join b join c is not a", "3:20: " + NOT_INSIDE),
+    (CLAUSE + "a join b is not c join a", "3:13: the negation of a join is written 'not a join b is c'"),
+    (CLAUSE + "not a join b join c is a", "3:14: " + NOT_INSIDE),
+    (CLAUSE + "not a join b is c join a", "3:19: " + NOT_INSIDE),
+    (CLAUSE + "not c is a join b", "3:7: the negation of an equality is written 'a is not b'"),
     (CLAUSE + "not", "3:4: a name or a tree is due here, and the line ends"),
     (CLAUSE + "not a b", "3:7: 'join' is due here, not 'b'"),
     (CLAUSE + "not a is b", "3:7: the negation of an equality is written 'a is not b'"),
+    # A join stands before 'is'.
+    (CLAUSE + "c is a join b", "3:8: a join stands before 'is': write 'a join b is c'"),
+    (CLAUSE + "c is not  a join b", "3:13: a join stands before 'is': write 'not a join b is c'"),
+    (CLAUSE + "(*o) is a join", "3:11: a join stands before 'is': write 'a join b is c'"),
     (CLAUSE + "a join b is not c", "3:13: the negation of a join is written 'not a join b is c'"),
     # Order, and the two systems.
     (CLAUSE + "a is b\nfree d", "4:1: 'free' must stand before the first clause"),
     (CLAUSE + "a is b\nown d", "4:1: 'own' must stand before the first clause"),
     (CLAUSE + "a is b\nlet L = o", "4:1: 'let' must stand before the first clause"),
-    (CLAUSE + "own d", "3:5: own variables need a question that asks 'entails'"),
-    (CLAUSE + "a is b\n then", "4:2: a second system needs a question that asks 'entails'"),
-    ("entails\nown d\nd is d", "3:1: an own variable in a clause of the first system"),
-    ("entails\nfree a\nown d\nthen\nd is d\nif\na join d is a", "7:8: an own variable in a clause of the first system"),
+    (CLAUSE + "own d", "3:1: own variables need a question that asks 'entails': write that in the first line"),
+    (CLAUSE + "a is b\n then", "4:2: a second system needs a question that asks 'entails': write that in the first line"),
+    ("entails\nown d\nd is d", "3:1: 'd' is an own variable, and they stand in the second system alone: write 'then' before this clause, or make 'd' free"),
+    ("entails\nfree a\nown d\nthen\nd is d\nif\na join d is a",
+     "7:8: 'd' is an own variable, and they stand in the second system alone: write 'then' before this clause, or make 'd' free"),
+    # What an editor shows otherwise than it is read: a clause that seems to stand on a line of its own, and is in a comment.
+    ("satisfiable\nfree a\na is o # so\ra is not o", "3:12: a line break (U+000D) stands here that is no line feed: end each line with a line feed"),
+    ("satisfiable\nfree a\n# so\x85a is not o", "3:5: a line break (U+0085) stands here that is no line feed: end each line with a line feed"),
+    ("satisfiable\nfree a\u2028a is not o", "2:7: a line break (U+2028) stands here that is no line feed: end each line with a line feed"),
+    ("satisfiable\x0cfree a", "1:12: a line break (U+000C) stands here that is no line feed: end each line with a line feed"),
+    ("satisfiable\nfree a\na is o #\u202e", "3:9: a character (U+202E) stands here that turns the order of what is shown: remove it"),
+    ("satisfiable # \u2066\nfree 7", "1:15: a character (U+2066) stands here that turns the order of what is shown: remove it"),
+    # No text.
+    ("\ufeffsatisfiable\nfree 7", "2:6: '7' starts with a digit, and a name does not: write '_7', for example"),
+    ("\ufeffsatisfiable 7", "1:13: the end of the line is due here, not '7'"),
+    ("satisfiable\n\ufefffree a", "2:1: a byte order mark stands here: it may only be the start of the file, so remove it"),
+    ("\ufeff\ufeffsatisfiable", "1:1: a byte order mark stands here: it may only be the start of the file, so remove it"),
+    ("s\0a\0t\0", "1:2: a byte 00 stands here, so this is no UTF-8: save the text as UTF-8"),
+    ("satisfiable\nfree a\0", "2:7: a byte 00 stands here, so this is no UTF-8: save the text as UTF-8"),
+    (b"\xff\xfes\0a\0", "1:1: the text is in UTF-16: save it as UTF-8"),
+    (b"\xfe\xff\0s", "1:1: the text is in UTF-16: save it as UTF-8"),
+    (b"\x01\0\0\0\0", "1:1: this is a question in bytes, and no text: './explain' makes a text of it"),
+    (b"satisfiable\nfree \xe4", f"2:6: {NAME} is due here, not '\\xe4'"),
     ("entails\nfree a\nthen a is a", "3:6: the end of the line is due here, not 'a'"),
 ]
 
@@ -136,6 +213,12 @@ EDGES = [
     ("12 own variables", lines("entails", f"own {names(12)}"), "own more", "3:5: 13 variables: there may be 12, free and own together"),
     ("7 and 5 variables", lines("entails", f"free {names(7)}", f"own {names(4, 'w')}"), "own last more",
      "4:10: 13 variables: there may be 12, free and own together"),
+    ("12 variables with those of joins", lines("satisfiable", f"free {names(10)}", "v0 join v1 join v2 join v3 is v4"), "v1 join v2 is v3 join v4",
+     "4:1: the joins inside this clause need 1 variable more, which makes 13: there may be 12, free and own together"),
+    ("12 variables with those of the second", lines("entails", f"own {names(11)}", "then", "v0 join v1 join v2 is v3"), " v1 join v2 join o is v3 join v4",
+     "5:2: the joins inside this clause need 2 variables more, which makes 14: there may be 12, free and own together"),
+    ("64 joins, the last inside a clause", "satisfiable\nfree a\n" + clauses(62, "a join a is a") + "a join a is a join a\n", "a join a join a is a",
+     "66:1: a 65th positive clause in the first system: there may be 64"),
     ("32 constants", "satisfiable\n" + lets(32), "let more = o", "34:12: a 33rd constant: there may be 32"),
     ("32 constants, one in a clause", "satisfiable\n" + lets(31) + "o is o\n", "o is *", "34:6: a 33rd constant: there may be 32"),
     ("32 constants in clauses", "satisfiable\n" + lines(*(f"{tree} is {tree}" for tree in trees(32))), "not o join o is o",

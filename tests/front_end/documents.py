@@ -1,0 +1,119 @@
+"""Tests of what is written down: the examples, docs/FORMAT.md, README.md."""
+
+import json
+import re
+
+import cases
+from commands import KEYS
+from front_end.answer import MEANINGS
+from front_end.text import RESERVED, read_text
+from harness import TOP, check, command, program
+from texts import constant_question
+
+
+def test_examples():
+    """Each file of examples/ says in its lines '#> ' what is to be printed."""
+    files = sorted((TOP / "examples").glob("*.shares"))
+    check("the worked questions are there", sorted(set(cases.WORKED) - {file.stem for file in files}), [])
+    for file in files:
+        due = "".join(line[3:] for line in file.read_text().splitlines(True) if line.startswith("#> "))
+        check(f"examples/{file.name} says its answer", bool(due), True)
+        check(f"examples/{file.name}", command("ask", str(file)), (int(due.startswith("answer no\n")), due.encode(), ""))
+
+
+def tables(markdown):
+    """The rows of each table, as dicts from the heads of their columns."""
+    heads = None
+    for line in markdown.splitlines():
+        if not line.startswith("|"):
+            heads = None
+            continue
+        cells = [cell.strip() for cell in line.strip().strip("|").split("|")]
+        if heads is None:
+            heads = cells
+        elif not re.fullmatch(r"-+", cells[0]):
+            yield dict(zip(heads, cells))
+
+
+def example_bytes(cell):
+    """The bytes of an example: hexadecimal, with (..)×N for N times over."""
+    if cell == "no byte":
+        return b""
+    text = re.sub(r"\(([0-9A-F ]+)\)×(\d+)", lambda found: (found[1] + " ") * int(found[2]), cell.strip("`"))
+    return bytes.fromhex(text)
+
+
+def packed(lines):
+    """The number that asking gives where the program prints these lines."""
+    words = [line.split() for line in lines]
+    if words[0][0] == "refused":
+        return int(words[0][1]) << 8 | int(words[0][3]) << 16
+    said = {word[0]: word[1:] for word in words}
+    height, reason = said.get("height", ["0"]), said.get("reason", ["0"])
+    disequation = reason[1] if len(reason) > 1 else "0"
+    return (1 if said["answer"] == ["yes"] else 2) | int(height[0]) << 32 | int(reason[0]) << 40 | int(disequation) << 48
+
+
+def test_format():
+    """Every example of docs/FORMAT.md is run."""
+    markdown = (TOP / "docs" / "FORMAT.md").read_text()
+    text = "".join(line[4:] for line in markdown.splitlines(True) if line.startswith("    "))
+    commands = [f"{clause[0]:02X}" for clause in read_text(text).question.clauses]
+    check("FORMAT.md, the text says its commands", re.findall(r"# ([12][0-3])\b", text), commands)
+    seen = []
+    for row in tables(markdown):
+        name = f"FORMAT.md, {' | '.join(row.values())}"
+        if "prints" in row:
+            due = [line.strip("`") for line in row["prints"].split("<br>")]
+            check(name, program(example_bytes(row["bytes"])), due)
+            if row["number"].startswith("`0x"):
+                check(f"{name}: number", int(row["number"].strip("`"), 16), packed(due))
+            else:
+                check(f"{name}: refusal", row["number"], due[0].split()[1])
+            seen += [due[-1].split(" at ")[0]]
+        elif "tree text" in row:
+            leaves = int(row["constant"].strip("`"), 16)
+            check(f"{name}: bytes", leaves.to_bytes(4, "little"), example_bytes(row["bytes"]))
+            check(name, program(constant_question(leaves)), ["answer yes", f"height {row['height']}", "v00 " + row["tree text"].strip("`")])
+            seen += ["tree"]
+        elif "zimorgal_join(a, b)" in row:
+            a, b, c = (int(cell.strip("`"), 16) for cell in row.values())
+            defined = c < 1 << 32
+            constants = b"".join(b"\x03" + leaves.to_bytes(4, "little") for leaves in (a, b, c if defined else 0))
+            question = bytes([0x01, 0, 1, 0]) + constants + bytes([0x10, 0x20, 0x21, 0x22 if defined else 0x00, 0])
+            check(name, program(question)[0], "answer yes" if defined else "answer no")
+            seen += ["join"]
+        elif "zimorgal_height(a)" in row:
+            check(name, program(constant_question(int(row["a"].strip("`"), 16)))[1], f"height {row['zimorgal_height(a)']}")
+            seen += ["height"]
+    due = {"answer no", "v00 (o*)", "reason 0", "reason 1", "reason 2", "reason 3 1", "tree", "join", "height"}
+    check("FORMAT.md has an example of everything", due | {f"refused {number}" for number in range(1, 11)}, set(seen))
+
+
+def test_format_text():
+    """What docs/FORMAT.md says of questions as text: joins inside, statuses, reserved words, meanings, the object of --json."""
+    markdown = (TOP / "docs" / "FORMAT.md").read_text()
+    check("FORMAT.md lists the reserved words", " ".join(f"reserved words: {RESERVED}.".split()) in " ".join(markdown.split()), True)
+    rows = list(tables(markdown))
+    joins = [(row["text"], row["in the format"]) for row in rows if "in the format" in row]
+    check("FORMAT.md has joins inside", len(joins), 2)
+    for text, clauses in joins:
+        lines = [re.findall(r"`(.*?)`", cell) for cell in (text, clauses)]
+        texts = ["\n".join(["satisfiable", f"free {names}", *part]) for names, part in zip(("a b c d", "a b c d t"), lines)]
+        check(f"FORMAT.md, {text}", *(command("ask", "--bytes", "-", given=one.encode()) for one in texts))
+    statuses = [row["status"] for row in rows if "status" in row]
+    check("FORMAT.md has the statuses of the help", statuses, [line.split()[0] for line in cases.STATUSES])
+    words = {(int(row["kind"]), row["verdict"], int(row["reason"]) if row["kind"] == "1" else None): row["meaning"] for row in rows if "height given" in row}
+    check("FORMAT.md has the meanings that --json gives", words, MEANINGS)
+    check("FORMAT.md has the keys of --json", [row["key"].strip("`") for row in rows if "key" in row], KEYS)
+    example = json.loads(re.search(r"```json\n(.*?)```", markdown, re.S)[1])
+    said = json.loads(command("ask", "--json", str(TOP / example["file"]))[1])
+    check("FORMAT.md has the object of its example", example, {**said, "file": example["file"]})
+    check("with the keys in this order", list(example), KEYS)
+
+
+def test_readme():
+    """The question and the pictures that README.md shows are those of the example."""
+    readme = (TOP / "README.md").read_text()
+    example = [line for line in (TOP / "examples" / "third_part.shares").read_text().splitlines() if not line.startswith("#")]
+    check("README.md has the example", "\n".join(f"    {line}" for line in example) in readme, True)

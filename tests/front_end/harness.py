@@ -1,0 +1,76 @@
+"""What the tests share: counting cases, and running the commands and the printing program."""
+
+import io
+import os
+import runpy
+import subprocess
+import sys
+import tempfile
+from pathlib import Path
+from unittest import mock
+
+TOP = Path(__file__).resolve().parent.parent.parent
+FOLDER = tempfile.TemporaryDirectory()  # the commands run here, and tests write their files here
+passed = failed = 0
+
+
+def check(name, found, due):
+    """Counts one case."""
+    global passed, failed
+    if found == due:
+        passed += 1
+    else:
+        failed += 1
+        print(f"FAILED {name}\n  due:   {due!r}\n  found: {found!r}")
+
+
+def file(name, content):
+    """Writes a file, and gives its path."""
+    path = Path(FOLDER.name, name)
+    path.write_bytes(content if isinstance(content, bytes) else content.encode())
+    return path
+
+
+def wrong_program(name, script):
+    """A shell script in the place of the printing program."""
+    path = file(name, f"#!/bin/sh\n{script}\n")
+    path.chmod(0o755)
+    return str(path)
+
+
+def surroundings(changes):
+    """A user's environment: nothing that changes what Python does, and what the case asks."""
+    kept = {name: value for name, value in os.environ.items() if not name.startswith("PYTHON")}
+    return {**kept, **changes}
+
+
+def process(name, *arguments, given=b"", **environment):
+    """Runs a command of the repository, from another folder: its status, what it writes, and its errors as text."""
+    done = subprocess.run([str(TOP / name), *arguments], input=given, stdout=subprocess.PIPE, stderr=subprocess.PIPE,
+                          cwd=FOLDER.name, env=surroundings(environment))
+    return done.returncode, done.stdout, done.stderr.decode()
+
+
+def command(name, *arguments, given=b""):
+    """The same inside this process, which is sooner done."""
+    out, errors = io.TextIOWrapper(io.BytesIO()), io.StringIO()
+    status = 0
+    with mock.patch.multiple(sys, argv=[name, *arguments], stdin=io.TextIOWrapper(io.BytesIO(given)), stdout=out, stderr=errors,
+                             path=list(sys.path)):
+        try:
+            runpy.run_path(str(TOP / name), run_name="__main__")
+        except SystemExit as end:
+            status = end.code or 0
+        out.flush()
+    return status, out.buffer.getvalue(), errors.getvalue()
+
+
+def program(string):
+    """What the printing program says of a byte string, as lines."""
+    return subprocess.run([os.environ["ZIMORGAL_CLI"]], input=string, stdout=subprocess.PIPE, check=True).stdout.decode().splitlines()
+
+
+def program_says(string):
+    """Its first line, or only 'answer' where it answers."""
+    said = program(string)[0]
+    return "answer" if said in ("answer yes", "answer no") else said
