@@ -1,4 +1,5 @@
 // The printing program: reads one question from standard input, asks it, and prints the answer.
+use libc::STDERR_FILENO;
 use libc::STDIN_FILENO;
 use libc::STDOUT_FILENO;
 use text::LONGEST_TEXT;
@@ -33,30 +34,32 @@ fn is_shown(kind: u8, verdict: u8) -> bool
     verdict == 2
 }
 
-fn say_number(number: usize) {
-    io::print_decimal(STDOUT_FILENO, number as u64);
+// Each of these writes to standard output, stops at the first write that fails, and says whether all was written.
+fn say_bytes(bytes: &[u8]) -> bool {
+    io::write_all(STDOUT_FILENO, bytes)
 }
 
-fn say_refused(number: u8, place: usize) {
-    io::write_all(STDOUT_FILENO, b"refused ");
-    io::print_decimal(STDOUT_FILENO, number as u64);
-    io::write_all(STDOUT_FILENO, b" at ");
-    say_number(place);
-    io::write_all(STDOUT_FILENO, b"\n");
+fn say_number(number: usize) -> bool {
+    io::print_decimal(STDOUT_FILENO, number as u64)
 }
 
-fn say_verdict(verdict: u8) {
+fn say_refused(number: u8, place: usize) -> bool {
+    say_bytes(b"refused ")
+        && say_number(number as usize)
+        && say_bytes(b" at ")
+        && say_number(place)
+        && say_bytes(b"\n")
+}
+
+fn say_verdict(verdict: u8) -> bool {
     if verdict == 1 {
-        io::write_all(STDOUT_FILENO, b"answer yes\n");
-        return;
+        return say_bytes(b"answer yes\n");
     }
-    io::write_all(STDOUT_FILENO, b"answer no\n");
+    say_bytes(b"answer no\n")
 }
 
-fn say_height(height: usize) {
-    io::write_all(STDOUT_FILENO, b"height ");
-    say_number(height);
-    io::write_all(STDOUT_FILENO, b"\n");
+fn say_height(height: usize) -> bool {
+    say_bytes(b"height ") && say_number(height) && say_bytes(b"\n")
 }
 
 // The name of a variable, with a space after it: `v` and two decimal digits.
@@ -69,61 +72,70 @@ fn name_of(variable: usize) -> [u8; 4]
 }
 
 // The line of one variable. Every row of an answer has a text, and it fits.
-fn say_row(variable: usize, row: &[u8], text: &mut [u8])
+fn say_row(variable: usize, row: &[u8], text: &mut [u8]) -> bool
     ensures { λ _. ⌜ now (text .exit) ≡ textAfter rowLevels (now (row .entry)) (now (text .entry)) ⌝ }
 {
     let written = text::tree_text(row, text);
     let Written::Length(n) = written else {
-        return;
+        return false;
     };
-    let name = name_of(variable);
-    io::write_all(STDOUT_FILENO, &name);
-    if n <= text.len() {
-        io::write_all(STDOUT_FILENO, &text[..n]);
+    if text.len() < n {
+        return false;
     }
-    io::write_all(STDOUT_FILENO, b"\n");
+    let name = name_of(variable);
+    say_bytes(&name) && say_bytes(&text[..n]) && say_bytes(b"\n")
 }
 
-fn say_rows(answer: &[u8], free: usize, text: &mut [u8]) {
+fn say_rows(answer: &[u8], free: usize, text: &mut [u8]) -> bool {
     let mut v: usize = 0;
     while v < free {
-        say_row(v, rows::row(answer, v), text);
+        if !say_row(v, rows::row(answer, v), text) {
+            return false;
+        }
         v += 1;
     }
+    true
 }
 
 // A shown solution. The buffer takes the text of every row.
-fn say_solution(answer: &[u8], free: usize, height: usize) {
+fn say_solution(answer: &[u8], free: usize, height: usize) -> bool {
     let mut text = [0u8; LONGEST_TEXT];
-    say_height(height);
-    say_rows(answer, free, &mut text);
+    say_height(height) && say_rows(answer, free, &mut text)
 }
 
 // Only reason 3 has a disequation number.
-fn say_reason(reason: u8, number: usize) {
-    io::write_all(STDOUT_FILENO, b"reason ");
-    io::print_decimal(STDOUT_FILENO, reason as u64);
+fn say_reason(reason: u8, number: usize) -> bool {
     if reason == 3 {
-        io::write_all(STDOUT_FILENO, b" ");
-        say_number(number);
+        return say_bytes(b"reason 3 ") && say_number(number) && say_bytes(b"\n");
     }
-    io::write_all(STDOUT_FILENO, b"\n");
+    say_bytes(b"reason ") && say_number(reason as usize) && say_bytes(b"\n")
 }
 
 // What is printed for a question. Bytes 1 and 2 of an accepted one are its kind and how many free variables it has.
-fn say(question: &[u8], answer: &[u8], outcome: Outcome) {
+fn say(question: &[u8], answer: &[u8], outcome: Outcome) -> bool {
     if outcome.verdict == 0 {
-        say_refused(outcome.refusal, outcome.place);
-        return;
+        return say_refused(outcome.refusal, outcome.place);
     }
     let kind = byte_at(question, 1);
-    say_verdict(outcome.verdict);
+    if !say_verdict(outcome.verdict) {
+        return false;
+    }
     if is_shown(kind, outcome.verdict) {
-        say_solution(answer, byte_at(question, 2) as usize, outcome.height);
+        if !say_solution(answer, byte_at(question, 2) as usize, outcome.height) {
+            return false;
+        }
     }
     if kind == 1 {
-        say_reason(outcome.reason, outcome.number);
+        return say_reason(outcome.reason, outcome.number);
     }
+    true
+}
+
+// Whether the bytes that were read are all that standard input has, or as many as there is room for. At its end one more read gives
+// 0; after a read that failed it gives -1, or bytes that were not read.
+fn is_all(read: usize, room: usize) -> bool {
+    let mut rest = [0u8; 1];
+    read == room || libc::read(STDIN_FILENO, &mut rest) == 0
 }
 
 fn main() {
@@ -131,6 +143,18 @@ fn main() {
     let mut answer = [0u8; 1536];
     let mut work = [0u8; 4096];
     let n = io::read_full(STDIN_FILENO, &mut question);
+    if !is_all(n, 1024) {
+        io::write_all(
+            STDERR_FILENO,
+            b"zimorgal_cli: standard input could not be read\n",
+        );
+        return;
+    }
     let outcome = zimorgal::ask(&question[..n], &mut answer, &mut work);
-    say(&question[..n], &answer, outcome);
+    if !say(&question[..n], &answer, outcome) {
+        io::write_all(
+            STDERR_FILENO,
+            b"zimorgal_cli: the answer could not be written\n",
+        );
+    }
 }

@@ -20,35 +20,47 @@ same-length c = search needs
 returns : tie.Need-returns
 returns c = search needs
 
-name-of-requires : tie.Need-name-of-requires
-name-of-requires c κs = search needs
-
-slice-aggregate-write-all : tie.Need-slice-aggregate-write-all
-slice-aggregate-write-all c = search needs
-
-write-all-requires : tie.Need-write-all-requires
-write-all-requires c κs = search needs
-
-slice-reshare-prefix-write-all : tie.Need-slice-reshare-prefix-write-all
-slice-reshare-prefix-write-all c = search needs
-
-slice-aggregate-write-all-2 : tie.Need-slice-aggregate-write-all-2
-slice-aggregate-write-all-2 c = simp length-take (omega arith)
-
-write-all-requires-2 : tie.Need-write-all-requires-2
-write-all-requires-2 c κs = search needs
-
-slice-aggregate-write-all-3 : tie.Need-slice-aggregate-write-all-3
-slice-aggregate-write-all-3 c = search needs
-
-write-all-requires-3 : tie.Need-write-all-requires-3
-write-all-requires-3 c κs = search needs
-
 same-length-2 : tie.Need-same-length-2
 same-length-2 c = search needs
 
 returns-2 : tie.Need-returns-2
 returns-2 c = search needs
+
+name-of-requires : tie.Need-name-of-requires
+name-of-requires c κs = search needs
+
+slice-aggregate-say-bytes : tie.Need-slice-aggregate-say-bytes
+slice-aggregate-say-bytes c = search needs
+
+say-bytes-requires : tie.Need-say-bytes-requires
+say-bytes-requires c κs = search needs
+
+slice-reshare-prefix-say-bytes : tie.Need-slice-reshare-prefix-say-bytes
+slice-reshare-prefix-say-bytes c = search needs
+
+slice-aggregate-say-bytes-2 : tie.Need-slice-aggregate-say-bytes-2
+slice-aggregate-say-bytes-2 c = simp length-take (omega arith)
+
+say-bytes-requires-2 : tie.Need-say-bytes-requires-2
+say-bytes-requires-2 c κs = search needs
+
+slice-aggregate-say-bytes-3 : tie.Need-slice-aggregate-say-bytes-3
+slice-aggregate-say-bytes-3 c = search needs
+
+say-bytes-requires-3 : tie.Need-say-bytes-requires-3
+say-bytes-requires-3 c κs = search needs
+
+same-length-3 : tie.Need-same-length-3
+same-length-3 c = search needs
+
+returns-3 : tie.Need-returns-3
+returns-3 c = search needs
+
+same-length-4 : tie.Need-same-length-4
+same-length-4 c = search needs
+
+returns-4 : tie.Need-returns-4
+returns-4 c = search needs
 
 pub say-row-spec : {M : Type 1} → statement M
 say-row-spec =
@@ -59,13 +71,17 @@ say-row-spec =
     enum-told
     same-length
     returns
-    name-of-requires
-    slice-aggregate-write-all
-    write-all-requires
-    slice-reshare-prefix-write-all
-    slice-aggregate-write-all-2
-    write-all-requires-2
-    slice-aggregate-write-all-3
-    write-all-requires-3
     same-length-2
-    returns-2)
+    returns-2
+    name-of-requires
+    slice-aggregate-say-bytes
+    say-bytes-requires
+    slice-reshare-prefix-say-bytes
+    slice-aggregate-say-bytes-2
+    say-bytes-requires-2
+    slice-aggregate-say-bytes-3
+    say-bytes-requires-3
+    same-length-3
+    returns-3
+    same-length-4
+    returns-4)

@@ -21,6 +21,12 @@ row-requires c κs = tt
 say-row-requires : tie.Need-say-row-requires Inv-loop μ-loop
 say-row-requires c κs = tt
 
+same-length : tie.Need-same-length Inv-loop μ-loop
+same-length c = omega arith
+
+returns : tie.Need-returns Inv-loop μ-loop
+returns c = tt
+
 add-v : tie.Need-add-v Inv-loop μ-loop
 add-v c = omega arith
 
@@ -30,11 +36,11 @@ loop-less c = omega arith
 loop-again : tie.Need-loop-again Inv-loop μ-loop
 loop-again c = omega arith
 
-same-length : tie.Need-same-length Inv-loop μ-loop
-same-length c = c .before .loop .inv
+same-length-2 : tie.Need-same-length-2 Inv-loop μ-loop
+same-length-2 c = c .before .loop .inv
 
-returns : tie.Need-returns Inv-loop μ-loop
-returns c = tt
+returns-2 : tie.Need-returns-2 Inv-loop μ-loop
+returns-2 c = tt
 
 pub say-rows-spec : {M : Type 1} → statement M
 say-rows-spec =
@@ -45,8 +51,10 @@ say-rows-spec =
     loop-holds
     row-requires
     say-row-requires
+    same-length
+    returns
     add-v
     loop-less
     loop-again
-    same-length
-    returns)
+    same-length-2
+    returns-2)
