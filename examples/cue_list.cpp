@@ -53,10 +53,8 @@ void report(const char* asked, const Question& question, zimorgal::Workspace& wo
     std::cout << '\n';
     if (!solution) return;
     std::cout << "  for instance, no taller than " << unsigned{result.height} << ":\n";
-    for (Free variable{0}; variable.number < solution.variables(); ++variable.number) {
-        const zimorgal::Text text = solution.text(variable);
-        std::cout << "    " << std::left << std::setw(10) << names[variable.number] << text.view() << '\n';
-    }
+    for (std::size_t i = 0; i < solution.variables(); ++i)
+        std::cout << "    " << std::left << std::setw(10) << names[i] << solution.text(Free{i}) << '\n';
 }
 
 }  // namespace

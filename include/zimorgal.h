@@ -1,7 +1,8 @@
-/* Zimorgal: exact answers to questions about tree shares. The C interface of libzimorgal.a; for C++ see zimorgal.hpp.
+/* Zimorgal: exact answers to questions about tree shares. The C interface of the library, C99; for C++ see zimorgal.hpp.
 
    docs/SPEC.md of the sources is the whole specification, and docs/PROVED.md says what is proved of these calls.
-   Nothing checks the declarations here against the Rattle source; they are tested.
+   Nothing checks the declarations here against the Rattle source; they are tested. The inline functions at the end are
+   C and only tested. examples/third_thread.c is a whole program.
 
    A share is a binary tree with empty and full leaves; it says which part of a thing a thread holds. A question asks
    whether a system of share clauses is satisfiable, or whether one system entails another. It is a string of bytes,
@@ -27,7 +28,7 @@
    - The parts lent to one call must lie apart, no byte in two of them, and nothing else may touch them during the
      call.
    - Nothing is kept between calls and nothing is allocated. Any number of threads may call at once, each with buffers
-     of its own. A call takes some 40 KB of the thread's stack (tests/cpp/run measures it).
+     of its own. A thread that calls has a stack of ZIMORGAL_STACK_BYTES or more.
    - A refusal leaves every lent byte unchanged. */
 #ifndef ZIMORGAL_H
 #define ZIMORGAL_H
@@ -35,15 +36,49 @@
 #include <stddef.h>
 #include <stdint.h>
 
-#ifdef __cplusplus
-extern "C" {
-#endif
+/* The version of this header. It stands here alone: CMake and pkg-config read it from these three lines.
+   zimorgal_version() gives that of the library that is linked. */
+#define ZIMORGAL_VERSION_MAJOR 0
+#define ZIMORGAL_VERSION_MINOR 2
+#define ZIMORGAL_VERSION_PATCH 0
+
+#define ZIMORGAL_VERSION (ZIMORGAL_VERSION_MAJOR * 0x10000u + ZIMORGAL_VERSION_MINOR * 0x100u + ZIMORGAL_VERSION_PATCH)
 
 #define ZIMORGAL_QUESTION_BYTES 925 /* no accepted question is longer */
 #define ZIMORGAL_ANSWER_BYTES 1536  /* an answer buffer has at least as many: 12 rows */
 #define ZIMORGAL_WORK_BYTES 4096    /* a work area has at least as many */
 #define ZIMORGAL_ROW_BYTES 128      /* a shown share, unfolded to height 10: 1,024 leaves */
 #define ZIMORGAL_TEXT_BYTES 3070    /* no tree text is longer */
+
+/* Enough stack for a thread that calls. A call itself takes some 40 KB; the rest is for the thread, for a signal's frame
+   and for buffers of the caller. tests/cpp/stack.cpp measures it, and runs threads with exactly this much. */
+#define ZIMORGAL_STACK_BYTES 65536
+
+/* What the compiler is told of a part that is lent: its pointer and its length, as numbers of arguments. */
+#if defined(__has_attribute)
+#if __has_attribute(access)
+#define ZIMORGAL_READS(part, length) __attribute__((access(read_only, part, length)))
+#define ZIMORGAL_WRITES(part, length) __attribute__((access(write_only, part, length)))
+#endif
+#endif
+#if !defined(ZIMORGAL_READS)
+#define ZIMORGAL_READS(part, length)
+#define ZIMORGAL_WRITES(part, length)
+#endif
+
+#if !defined(__cplusplus)
+#define ZIMORGAL_INLINE static inline
+#elif __cplusplus >= 201402L
+#define ZIMORGAL_INLINE constexpr
+#else
+#define ZIMORGAL_INLINE inline
+#endif
+
+#ifdef __cplusplus
+extern "C" {
+#endif
+
+enum zimorgal_kind { ZIMORGAL_SATISFIABILITY = 0, ZIMORGAL_ENTAILMENT = 1 };
 
 enum zimorgal_verdict { ZIMORGAL_REFUSED = 0, ZIMORGAL_YES = 1, ZIMORGAL_NO = 2 };
 
@@ -76,6 +111,8 @@ enum zimorgal_reason {
     ZIMORGAL_DISEQUATION_UNMET = 3 /* no: some solution of the first cannot have the numbered disequation beside them */
 };
 
+/* -------- The calls of the library -------- */
+
 /* Answers a question. The result, lowest byte first:
 
        bits  0 to  7   verdict
@@ -94,16 +131,22 @@ enum zimorgal_reason {
    does not extend. It fills the first 1,536 bytes of the answer buffer: 12 rows of 128, row v for free variable v,
    unfolded to height 10, bits as in a constant; the other rows are zero. Otherwise the answer buffer is unchanged.
    After a yes or a no the first 4,096 bytes of the work area are zero. Bytes past those are never touched. */
+ZIMORGAL_READS(1, 2)
+ZIMORGAL_WRITES(3, 4)
+ZIMORGAL_WRITES(5, 6)
 uint64_t zimorgal_ask(const uint8_t *question, size_t question_length, uint8_t *answer, size_t answer_length,
                       uint8_t *work, size_t work_length);
 
 /* Where the row of a variable lies in an answer buffer: offset in the low 32 bits, length (128) in the high 32.
    0, the empty part, if the variable is above 11 or the buffer under 1,536 bytes. */
+ZIMORGAL_READS(1, 2)
 uint64_t zimorgal_row(const uint8_t *answer, size_t answer_length, size_t variable);
 
 /* Writes the tree text of a row: o empty, * full, ( left right ) a pair; folded, without spaces, without a byte 0 at
    its end. Length in the low 32 bits, refusal number (14, then 13) in bits 32 to 39. A refusal gives length 0; bytes
    past the length are unchanged. */
+ZIMORGAL_READS(1, 2)
+ZIMORGAL_WRITES(3, 4)
 uint64_t zimorgal_text(const uint8_t *row, size_t row_length, uint8_t *text, size_t text_length);
 
 /* The join of two constants, as numbers with leaf i at bit i. Exactly 2^32 if it is undefined. */
@@ -111,6 +154,80 @@ uint64_t zimorgal_join(uint32_t a, uint32_t b);
 
 /* The height of a constant, 0 to 5. */
 uint32_t zimorgal_height(uint32_t a);
+
+/* The version of the library: major, minor and patch, a byte each, patch lowest. */
+uint32_t zimorgal_version(void);
+
+/* -------- What the numbers have in them -------- */
+
+/* The fields of what zimorgal_ask gives. */
+ZIMORGAL_INLINE int zimorgal_verdict(uint64_t result) { return result & 0xFF; }      /* enum zimorgal_verdict */
+ZIMORGAL_INLINE int zimorgal_refusal(uint64_t result) { return result >> 8 & 0xFF; } /* enum zimorgal_refusal */
+ZIMORGAL_INLINE unsigned zimorgal_place(uint64_t result) { return result >> 16 & 0xFFFF; }
+ZIMORGAL_INLINE unsigned zimorgal_height_given(uint64_t result) { return result >> 32 & 0xFF; }
+ZIMORGAL_INLINE int zimorgal_reason(uint64_t result) { return result >> 40 & 0xFF; } /* enum zimorgal_reason */
+ZIMORGAL_INLINE unsigned zimorgal_disequation(uint64_t result) { return result >> 48 & 0xFF; }
+
+/* Whether a solution is shown. The result does not say it alone: the kind is byte 1 of the question. */
+ZIMORGAL_INLINE int zimorgal_shows(uint64_t result, int kind) {
+    return zimorgal_verdict(result) == (kind == ZIMORGAL_ENTAILMENT ? ZIMORGAL_NO : ZIMORGAL_YES);
+}
+
+/* The fields of what zimorgal_row gives. */
+ZIMORGAL_INLINE size_t zimorgal_row_offset(uint64_t part) { return part & 0xFFFFFFFF; }
+ZIMORGAL_INLINE size_t zimorgal_row_length(uint64_t part) { return part >> 32; }
+
+/* The fields of what zimorgal_text gives. */
+ZIMORGAL_INLINE size_t zimorgal_text_length(uint64_t written) { return written & 0xFFFFFFFF; }
+ZIMORGAL_INLINE int zimorgal_text_refusal(uint64_t written) { return written >> 32 & 0xFF; } /* enum zimorgal_refusal */
+
+/* The fields of what zimorgal_join gives. */
+ZIMORGAL_INLINE int zimorgal_join_defined(uint64_t joined) { return joined >> 32 == 0; }
+ZIMORGAL_INLINE uint32_t zimorgal_join_leaves(uint64_t joined) { return joined & 0xFFFFFFFF; } /* 0 if undefined */
+
+/* -------- In words -------- */
+
+ZIMORGAL_INLINE const char *zimorgal_describe_verdict(int verdict) {
+    switch (verdict) {
+        case ZIMORGAL_REFUSED: return "refused";
+        case ZIMORGAL_YES: return "yes";
+        case ZIMORGAL_NO: return "no";
+        default: return "unknown verdict";
+    }
+}
+
+ZIMORGAL_INLINE const char *zimorgal_describe_refusal(int refusal) {
+    switch (refusal) {
+        case ZIMORGAL_ACCEPTED: return "not refused";
+        case ZIMORGAL_NO_HEAD: return "the first byte is missing or is not 01";
+        case ZIMORGAL_CUT_SHORT: return "no byte where a command is due, or its operands are cut short";
+        case ZIMORGAL_UNKNOWN_COMMAND: return "an unknown command byte";
+        case ZIMORGAL_OUT_OF_ORDER: return "a second head, or a constant after a clause";
+        case ZIMORGAL_BAD_HEAD: return "kind above 1, more than 12 variables, or own variables with kind 0";
+        case ZIMORGAL_TOO_MANY_CONSTANTS: return "a 33rd constant";
+        case ZIMORGAL_TOO_MANY_CLAUSES: return "a 65th positive clause or a 32nd disequation in one system";
+        case ZIMORGAL_BAD_TERM: return "a term that names nothing, or an own variable in the first system";
+        case ZIMORGAL_NO_SECOND_SYSTEM: return "a clause of the second system with kind 0";
+        case ZIMORGAL_AFTER_THE_END: return "bytes after the end";
+        case ZIMORGAL_ANSWER_TOO_SHORT: return "the answer buffer has under 1,536 bytes";
+        case ZIMORGAL_WORK_TOO_SHORT: return "the work area has under 4,096 bytes";
+        case ZIMORGAL_TEXT_TOO_SHORT: return "the tree text does not fit its buffer";
+        case ZIMORGAL_NOT_A_ROW: return "the row has not 128 bytes";
+        default: return "unknown refusal";
+    }
+}
+
+ZIMORGAL_INLINE const char *zimorgal_describe_reason(int reason) {
+    switch (reason) {
+        case ZIMORGAL_NO_REASON: return "none";
+        case ZIMORGAL_FIRST_UNSOLVABLE: return "the first system has no solution";
+        case ZIMORGAL_POSITIVES_UNMET:
+            return "some solution of the first system cannot meet the second's positive clauses";
+        case ZIMORGAL_DISEQUATION_UNMET:
+            return "some solution of the first system cannot have one of the second's disequations";
+        default: return "unknown reason";
+    }
+}
 
 #ifdef __cplusplus
 }

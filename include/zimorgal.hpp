@@ -1,26 +1,52 @@
-// Zimorgal for C++17: questions about tree shares, put together by name and asked. Nothing here uses the heap or
-// throws. The calls of zimorgal.h are proved; this header is only tested.
+// Zimorgal for C++17: questions about tree shares, put together by name and asked. The calls of zimorgal.h are proved;
+// this header is only tested. A whole program, which writes 'yes' and the share 'o':
 //
-//     zimorgal::Question question;
-//     zimorgal::Error error = question.start_satisfiability(2);
-//     const auto [refused, whole] = question.constant("*");
-//     const zimorgal::Free left{0}, right{1};
-//     error = question.first(join(left, right, whole));            // left join right is whole
-//     error = question.first(not_equal(left, whole));
+//     #include <iostream>
 //
-//     zimorgal::Workspace workspace;
-//     const auto [result, solution] = ask(question, workspace);
-//     if (solution) solution.text(left);                           // the tree text of a share that solves it
+//     #include "zimorgal.hpp"
 //
-// Each step of a question returns Error::none, or says why it was not taken and leaves the question as it was. So a
-// Question is one that the library accepts, at any time. Values are per thread: nothing is shared between them.
+//     int main() {
+//         using namespace zimorgal;
+//         const Free left{0}, right{1};  // two unknown shares
+//
+//         Draft draft;
+//         draft.start_satisfiability(2);
+//         const Constant whole = draft.constant("*");
+//         draft.first(join(left, right, whole));  // left join right is the whole
+//         draft.first(not_equal(left, whole));
+//
+//         Question question;
+//         if (const Error error = draft.finish(question); error != Error::none) {
+//             std::cerr << "step " << draft.step() << ": " << describe(error) << '\n';
+//             return 1;
+//         }
+//
+//         Workspace workspace;
+//         const auto [result, solution] = ask(question, workspace);
+//         std::cout << describe(result.verdict) << '\n';
+//         if (solution) std::cout << solution.text(left) << '\n';
+//     }
+//
+// Each step of a Question returns Error::none, or says why it was not taken and leaves the question as it was. So a
+// Question is one that the library accepts, at any time, whatever values a step was given. A Draft takes steps without a
+// test after each and keeps the first error.
+//
+// Nothing here throws, and nothing uses the heap but str(). Each value belongs to one thread at a time; the threads share
+// only an atomic counter, from which questions are told apart.
 #ifndef ZIMORGAL_HPP
 #define ZIMORGAL_HPP
 
+#if __cplusplus < 201703L
+#error "zimorgal.hpp needs C++17 or later: compile with -std=c++17"
+#else
+
 #include <algorithm>
 #include <array>
+#include <atomic>
 #include <cstddef>
 #include <cstdint>
+#include <iosfwd>
+#include <string>
 #include <string_view>
 #include <type_traits>
 
@@ -45,12 +71,15 @@ enum class Error : std::uint8_t {
     too_many_constants,     // a 33rd
     too_many_positives,     // a 65th positive clause in one system
     too_many_disequations,  // a 32nd in one system
-    names_nothing,          // a term
+    names_nothing,          // a variable that the question has not, or Constant{}
     own_variable_in_first,  // an own variable in the first system
     no_second_system,       // a clause of the second system in a satisfiability question
     not_tree_text,
     too_tall,  // a tree taller than 5
     not_folded,
+    foreign_constant,  // of another question, or from before this one was started anew
+    unknown_relation,  // a Relation that is none of the four
+    unknown_system,    // a System that is none of the two
 };
 
 constexpr std::string_view describe(Error error) noexcept {
@@ -66,38 +95,90 @@ constexpr std::string_view describe(Error error) noexcept {
         case Error::not_tree_text: return "not a tree text";
         case Error::too_tall: return "a tree taller than 5";
         case Error::not_folded: return "a tree that is not folded";
+        case Error::foreign_constant: return "a constant of another question, or from before this one was started anew";
+        case Error::unknown_relation: return "a relation that is none of the four";
+        case Error::unknown_system: return "a system that is none of the two";
     }
     return "unknown error";
 }
 
-// ---------------------------------------------------------------- Terms and clauses
+// ---------------------------------------------------------------- Terms
 
-// A free variable of the question, from 0.
+namespace detail {
+
+template <class T, class... Types>
+inline constexpr bool is_one_of = (std::is_same_v<T, Types> || ...);
+
+// What a variable is numbered with: an integer, or an enum that is one. Characters and bool are not.
+template <class T>
+inline constexpr bool is_number = is_one_of<T, signed char, unsigned char, short, unsigned short, int, unsigned, long,
+                                            unsigned long, long long, unsigned long long> ||
+                                  (std::is_enum_v<T> && std::is_convertible_v<T, long long>);
+
+template <class T>
+using IfNumber = std::enable_if_t<is_number<T>, int>;
+
+// The number of a variable; 12, which no question has, for any number that is not 0 to 11.
+template <class Number>
+constexpr std::size_t variable_number(Number number) noexcept {
+    const auto wide = static_cast<long long>(number);
+    return wide >= 0 && wide < 12 ? static_cast<std::size_t>(wide) : most_variables;
+}
+
+}  // namespace detail
+
+// A free variable of the question, from 0. One that the question has not names nothing: the step says so.
 struct Free {
+    template <class Number, detail::IfNumber<Number> = 0>
+    constexpr explicit Free(Number variable) noexcept : number(detail::variable_number(variable)) {}
+
     std::size_t number;
 };
 
 // An own variable of the second system, from 0.
 struct Own {
+    template <class Number, detail::IfNumber<Number> = 0>
+    constexpr explicit Own(Number variable) noexcept : number(detail::variable_number(variable)) {}
+
     std::size_t number;
 };
 
-// A constant, as the question that it was added to gave it. Constant{} names nothing.
-struct Constant {
-    std::size_t number = most_constants;
+// A constant, as a question gave it. It is that question's until that is started anew, and its copies' as far as they
+// have the same share there; any other question refuses it. So it never means another share. Constant{} names nothing.
+class Constant {
+  public:
+    constexpr Constant() noexcept = default;
+
+    // The share that it means.
+    constexpr Leaves leaves() const noexcept { return leaves_; }
+
+  private:
+    friend class Question;
+    constexpr Constant(std::uint64_t question, std::size_t number, Leaves leaves) noexcept
+        : question_(question), number_(number), leaves_(leaves) {}
+
+    std::uint64_t question_ = 0;  // no question has 0
+    std::size_t number_ = 0;
+    Leaves leaves_ = 0;
 };
 
-// Any of the three, where the kind is known only at run time.
-struct Term {
-    enum class Kind : std::uint8_t { free, own, constant };
+// Any of the three, where the sort is known only at run time.
+class Term {
+  public:
+    constexpr Term(Free variable) noexcept : sort_(Sort::free), number_(variable.number) {}
+    constexpr Term(Own variable) noexcept : sort_(Sort::own), number_(variable.number) {}
+    constexpr Term(Constant constant) noexcept : sort_(Sort::constant), constant_(constant) {}
 
-    constexpr Term(Free variable) noexcept : kind(Kind::free), number(variable.number) {}
-    constexpr Term(Own variable) noexcept : kind(Kind::own), number(variable.number) {}
-    constexpr Term(Constant constant) noexcept : kind(Kind::constant), number(constant.number) {}
+  private:
+    friend class Question;
+    enum class Sort : std::uint8_t { free, own, constant };
 
-    Kind kind;
-    std::size_t number;
+    Sort sort_;
+    std::size_t number_ = 0;  // of a variable
+    Constant constant_;
 };
+
+// ---------------------------------------------------------------- Clauses
 
 // The values are those of the low digit of a command byte.
 enum class Relation : std::uint8_t { join = 0, not_join = 1, equal = 2, not_equal = 3 };
@@ -110,31 +191,41 @@ struct Clause {
 // A clause whose terms are Free and Constant, which no own variable can be: it may stand in the first system.
 struct FirstClause : Clause {};
 
+namespace detail {
+
 template <class... Terms>
-using ClauseOf =
-    std::conditional_t<((std::is_same_v<Terms, Free> || std::is_same_v<Terms, Constant>)&&...), FirstClause, Clause>;
+using ClauseOf = std::conditional_t<(is_one_of<Terms, Free, Constant> && ...), FirstClause, Clause>;
+
+// The four functions below take terms and nothing else, so that a program's own functions of these names stay its own.
+template <class T>
+inline constexpr bool is_term = is_one_of<T, Free, Own, Constant, Term>;
+
+template <class... Terms>
+using IfTerms = std::enable_if_t<(is_term<Terms> && ...), int>;
+
+}  // namespace detail
 
 // a join b is c
-template <class A, class B, class C>
-constexpr ClauseOf<A, B, C> join(A a, B b, C c) noexcept {
+template <class A, class B, class C, detail::IfTerms<A, B, C> = 0>
+constexpr detail::ClauseOf<A, B, C> join(A a, B b, C c) noexcept {
     return {Clause{Relation::join, {a, b, c}}};
 }
 
 // not (a join b is c); so also where the join is undefined
-template <class A, class B, class C>
-constexpr ClauseOf<A, B, C> not_join(A a, B b, C c) noexcept {
+template <class A, class B, class C, detail::IfTerms<A, B, C> = 0>
+constexpr detail::ClauseOf<A, B, C> not_join(A a, B b, C c) noexcept {
     return {Clause{Relation::not_join, {a, b, c}}};
 }
 
 // a is b
-template <class A, class B>
-constexpr ClauseOf<A, B> equal(A a, B b) noexcept {
+template <class A, class B, detail::IfTerms<A, B> = 0>
+constexpr detail::ClauseOf<A, B> equal(A a, B b) noexcept {
     return {Clause{Relation::equal, {a, b, b}}};
 }
 
 // a is not b
-template <class A, class B>
-constexpr ClauseOf<A, B> not_equal(A a, B b) noexcept {
+template <class A, class B, detail::IfTerms<A, B> = 0>
+constexpr detail::ClauseOf<A, B> not_equal(A a, B b) noexcept {
     return {Clause{Relation::not_equal, {a, b, b}}};
 }
 
@@ -142,42 +233,58 @@ constexpr ClauseOf<A, B> not_equal(A a, B b) noexcept {
 
 struct Parsed {
     Error error;
-    Leaves leaves;  // 0 with an error
+    Leaves leaves;      // 0 with an error
+    std::size_t place;  // of the fault: the offset in the text
 };
 
 namespace detail {
 
-// Reads the tree at text[at..] into the `width` leaves from leaf `first` on, which are empty before.
-constexpr Error read_tree(std::string_view text, std::size_t& at, unsigned first, unsigned width,
-                          Leaves& leaves) noexcept {
-    if (at == text.size()) return Error::not_tree_text;
-    const Leaves all = (full_share >> (32 - width)) << first;
-    switch (text[at++]) {
-        case 'o': return Error::none;
-        case '*': leaves |= all; return Error::none;
-        case '(': break;
-        default: return Error::not_tree_text;
+struct TreeReader {
+    std::string_view text;
+    std::size_t at = 0;  // the next character; with an error the one at fault
+    Leaves leaves = 0;
+
+    // Reads a tree into the `width` leaves from leaf `first` on, which are empty before.
+    constexpr Error read(unsigned first, unsigned width) noexcept {
+        if (at == text.size()) return Error::not_tree_text;
+        const Leaves all = (full_share >> (32 - width)) << first;
+        const std::size_t start = at;
+        switch (text[at]) {
+            case 'o': ++at; return Error::none;
+            case '*':
+                ++at;
+                leaves |= all;
+                return Error::none;
+            case '(': break;
+            default: return Error::not_tree_text;
+        }
+        if (width == 1) return Error::too_tall;
+        ++at;
+        const unsigned half = width / 2;
+        if (const Error error = read(first, half); error != Error::none) return error;
+        if (const Error error = read(first + half, half); error != Error::none) return error;
+        if (at == text.size() || text[at] != ')') return Error::not_tree_text;
+        ++at;
+        // Both halves are folded, so they are two equal leaves exactly if all leaves are the same.
+        if ((leaves & all) != 0 && (leaves & all) != all) return Error::none;
+        at = start;
+        return Error::not_folded;
     }
-    if (width == 1) return Error::too_tall;
-    const unsigned half = width / 2;
-    if (const Error error = read_tree(text, at, first, half, leaves); error != Error::none) return error;
-    if (const Error error = read_tree(text, at, first + half, half, leaves); error != Error::none) return error;
-    if (at == text.size() || text[at++] != ')') return Error::not_tree_text;
-    // Both halves are folded, so they are two equal leaves exactly if all leaves are the same.
-    return (leaves & all) == 0 || (leaves & all) == all ? Error::not_folded : Error::none;
-}
+};
 
 }  // namespace detail
 
 // The share that a tree text stands for: o empty, * full, ( left right ) a pair, folded, at most five pairs deep, no
-// spaces. The text is judged from the left and the first fault decides.
+// spaces. The text is judged from the left and the first fault decides. Its place is that of the character that cannot
+// stand there, of the pair that is one too deep, or of the pair that must be folded.
 [[nodiscard]] constexpr Parsed from_text(std::string_view text) noexcept {
-    Leaves leaves = 0;
-    std::size_t at = 0;
-    Error error = detail::read_tree(text, at, 0, 32, leaves);
-    if (error == Error::none && at != text.size()) error = Error::not_tree_text;
-    return {error, error == Error::none ? leaves : 0};
+    detail::TreeReader reader{text};
+    Error error = reader.read(0, 32);
+    if (error == Error::none && reader.at != text.size()) error = Error::not_tree_text;
+    if (error != Error::none) return {error, 0, reader.at};
+    return {Error::none, reader.leaves, 0};
 }
+Parsed from_text(std::nullptr_t) = delete;
 
 // ---------------------------------------------------------------- Questions
 
@@ -190,13 +297,30 @@ struct Bytes {
     constexpr const std::uint8_t* end() const noexcept { return data + size; }
 };
 
-enum class Kind : std::uint8_t { satisfiability = 0, entailment = 1 };
+enum class Kind : std::uint8_t { satisfiability = ZIMORGAL_SATISFIABILITY, entailment = ZIMORGAL_ENTAILMENT };
 enum class System : std::uint8_t { first = 0, second = 1 };
 
 struct NewConstant {
     Error error;
     Constant constant;  // names nothing with an error
+    std::size_t place;  // of a fault in the tree text
 };
+
+namespace detail {
+
+// What is neither Leaves nor tree text: a character, bool or signed number would be taken for leaves without a word.
+template <class T>
+using IfNoShare = std::enable_if_t<!std::is_same_v<T, Leaves> && (!std::is_convertible_v<const T&, std::string_view> ||
+                                                                  std::is_null_pointer_v<T>),
+                                   int>;
+
+// A number that it gives only once.
+inline std::uint64_t next_identity() noexcept {
+    static std::atomic<std::uint64_t> last{0};
+    return last.fetch_add(1, std::memory_order_relaxed) + 1;
+}
+
+}  // namespace detail
 
 // A question that the library accepts. A new one asks whether the empty system over no variables is satisfiable.
 class Question {
@@ -207,29 +331,33 @@ class Question {
         return start(Kind::entailment, free, own);
     }
 
-    // The next constant. It may come after clauses: its bytes are put before them.
+    // The constant with these leaves: the one that is there, otherwise the next. It may come after clauses: its bytes are
+    // put before them.
     [[nodiscard]] NewConstant constant(Leaves leaves) noexcept {
-        if (constants_ == most_constants) return {Error::too_many_constants, {}};
-        const auto place = bytes_.begin() + 4 + 5 * constants_;
-        const auto end = bytes_.begin() + static_cast<std::ptrdiff_t>(size_);
-        std::copy_backward(place, end, end + 5);
-        place[0] = 0x03;
-        for (int i = 0; i < 4; ++i) place[1 + i] = static_cast<std::uint8_t>(leaves >> 8 * i);
-        size_ += 5;
-        return {Error::none, {constants_++}};
+        std::size_t number = 0;
+        while (number < constants_ && leaves_of(number) != leaves) ++number;
+        if (number == most_constants) return {Error::too_many_constants, {}, 0};
+        if (number == constants_) put_constant(leaves);
+        return {Error::none, Constant(identity_, number, leaves), 0};
     }
     [[nodiscard]] NewConstant constant(std::string_view text) noexcept {
         const Parsed parsed = from_text(text);
-        if (parsed.error != Error::none) return {parsed.error, {}};
+        if (parsed.error != Error::none) return {parsed.error, {}, parsed.place};
         return constant(parsed.leaves);
     }
+    template <class Other, detail::IfNoShare<Other> = 0>
+    NewConstant constant(const Other&) = delete;  // a constant is made of Leaves (std::uint32_t) or of a tree text
 
     // A clause of the first or of the second system. Own variables in the first do not compile.
     [[nodiscard]] Error first(const FirstClause& clause) noexcept { return add(System::first, clause); }
+    Error first(const Clause&) =
+        delete;  // an own variable, or a Term that may be one, cannot stand in the first system
     [[nodiscard]] Error second(const Clause& clause) noexcept { return add(System::second, clause); }
 
     // The same where system or terms are known only at run time.
     [[nodiscard]] Error add(System system, const Clause& clause) noexcept {
+        if (system > System::second) return Error::unknown_system;
+        if (clause.relation > Relation::not_equal) return Error::unknown_relation;
         const bool second = system == System::second;
         if (second && kind() == Kind::satisfiability) return Error::no_second_system;
 
@@ -271,29 +399,117 @@ class Question {
         return Error::none;
     }
 
-    Error judge(System system, Term term) const noexcept {
-        std::size_t defined = 0;
-        switch (term.kind) {
-            case Term::Kind::free: defined = free_variables(); break;
-            case Term::Kind::own: defined = own_variables(); break;
-            case Term::Kind::constant: defined = constants_; break;
-        }
-        if (term.number >= defined) return Error::names_nothing;
-        if (term.kind == Term::Kind::own && system == System::first) return Error::own_variable_in_first;
-        return Error::none;
+    // Where a constant's command stands, or is to stand.
+    static std::size_t place_of(std::size_t constant) noexcept { return 4 + 5 * constant; }
+
+    Leaves leaves_of(std::size_t constant) const noexcept {
+        Leaves leaves = 0;
+        for (std::size_t i = 4; i > 0; --i) leaves = leaves << 8 | bytes_[place_of(constant) + i];
+        return leaves;
     }
 
-    std::uint8_t byte_of(Term term) const noexcept {
-        std::size_t from = 0x00;
-        if (term.kind == Term::Kind::own) from = free_variables();
-        if (term.kind == Term::Kind::constant) from = 0x20;
-        return static_cast<std::uint8_t>(from + term.number);
+    void put_constant(Leaves leaves) noexcept {
+        const auto place = bytes_.begin() + place_of(constants_);
+        const auto end = bytes_.begin() + size_;
+        std::copy_backward(place, end, end + 5);
+        place[0] = 0x03;
+        for (int i = 0; i < 4; ++i) place[1 + i] = static_cast<std::uint8_t>(leaves >> 8 * i & 0xFF);
+        size_ += 5;
+        ++constants_;
+        if (identity_ == 0) identity_ = detail::next_identity();
+    }
+
+    Error judge(System system, const Term& term) const noexcept {
+        if (term.sort_ == Term::Sort::constant) return judge(term.constant_);
+        const bool own = term.sort_ == Term::Sort::own;
+        if (term.number_ >= (own ? own_variables() : free_variables())) return Error::names_nothing;
+        return own && system == System::first ? Error::own_variable_in_first : Error::none;
+    }
+
+    Error judge(const Constant& constant) const noexcept {
+        if (constant.question_ == 0) return Error::names_nothing;
+        const bool known = constant.question_ == identity_ && constant.number_ < constants_ &&
+                           constant.leaves_ == leaves_of(constant.number_);
+        return known ? Error::none : Error::foreign_constant;
+    }
+
+    std::uint8_t byte_of(const Term& term) const noexcept {
+        std::size_t byte = term.number_;
+        if (term.sort_ == Term::Sort::own) byte += free_variables();
+        if (term.sort_ == Term::Sort::constant) byte = 0x20 + term.constant_.number_;
+        return static_cast<std::uint8_t>(byte);
     }
 
     std::array<std::uint8_t, ZIMORGAL_QUESTION_BYTES> bytes_{0x01, 0x00, 0x00, 0x00, 0x00};  // head and end
     std::size_t size_ = 5;
-    std::uint8_t constants_ = 0;
+    std::size_t constants_ = 0;
     std::uint8_t clauses_[2][2] = {};  // by system; positive, then negated
+    std::uint64_t identity_ = 0;       // what its constants carry; 0 before the first of them
+};
+
+// A question in the making, without a test after each step. Once a step has an error no further step is taken.
+class Draft {
+  public:
+    Draft& start_satisfiability(std::size_t free) noexcept {
+        return take([&] { return question_.start_satisfiability(free); });
+    }
+    Draft& start_entailment(std::size_t free, std::size_t own) noexcept {
+        return take([&] { return question_.start_entailment(free, own); });
+    }
+
+    Draft& first(const FirstClause& clause) noexcept {
+        return take([&] { return question_.first(clause); });
+    }
+    Draft& first(const Clause&) =
+        delete;  // an own variable, or a Term that may be one, cannot stand in the first system
+    Draft& second(const Clause& clause) noexcept {
+        return take([&] { return question_.second(clause); });
+    }
+    Draft& add(System system, const Clause& clause) noexcept {
+        return take([&] { return question_.add(system, clause); });
+    }
+
+    // A constant, also of the finished question. It names nothing if there is an error.
+    [[nodiscard]] Constant constant(Leaves leaves) noexcept { return make(leaves); }
+    [[nodiscard]] Constant constant(std::string_view text) noexcept { return make(text); }
+    template <class Other, detail::IfNoShare<Other> = 0>
+    Constant constant(const Other&) = delete;  // a constant is made of Leaves (std::uint32_t) or of a tree text
+
+    // The first error, which step had it, from 0, and the place of a fault in a tree text.
+    Error error() const noexcept { return error_; }
+    std::size_t step() const noexcept { return steps_; }
+    std::size_t place() const noexcept { return place_; }
+
+    // Gives the question if every step was taken. Otherwise it says the first error and leaves `question` as it was.
+    [[nodiscard]] Error finish(Question& question) const noexcept {
+        if (error_ == Error::none) question = question_;
+        return error_;
+    }
+
+  private:
+    template <class Step>
+    Draft& take(Step step) noexcept {
+        if (error_ != Error::none) return *this;
+        error_ = step();
+        if (error_ == Error::none) ++steps_;
+        return *this;
+    }
+
+    template <class Share>
+    Constant make(Share share) noexcept {
+        NewConstant made{};
+        take([&] {
+            made = question_.constant(share);
+            place_ = made.place;
+            return made.error;
+        });
+        return made.constant;
+    }
+
+    Question question_;
+    Error error_ = Error::none;
+    std::size_t steps_ = 0;
+    std::size_t place_ = 0;
 };
 
 // ---------------------------------------------------------------- Results
@@ -326,45 +542,13 @@ enum class Reason : std::uint8_t {
 };
 
 constexpr std::string_view describe(Verdict verdict) noexcept {
-    switch (verdict) {
-        case Verdict::refused: return "refused";
-        case Verdict::yes: return "yes";
-        case Verdict::no: return "no";
-    }
-    return "unknown verdict";
+    return zimorgal_describe_verdict(static_cast<int>(verdict));
 }
-
 constexpr std::string_view describe(Refusal refusal) noexcept {
-    switch (refusal) {
-        case Refusal::none: return "not refused";
-        case Refusal::no_head: return "the first byte is missing or is not 01";
-        case Refusal::cut_short: return "cut short";
-        case Refusal::unknown_command: return "an unknown command byte";
-        case Refusal::out_of_order: return "a second head, or a constant after a clause";
-        case Refusal::bad_head: return "an unknown kind, or too many variables";
-        case Refusal::too_many_constants: return "a 33rd constant";
-        case Refusal::too_many_clauses: return "a 65th positive clause or 32nd disequation in one system";
-        case Refusal::bad_term: return "a term that names nothing, or an own variable in the first system";
-        case Refusal::no_second_system: return "a clause of the second system in a satisfiability question";
-        case Refusal::after_the_end: return "bytes after the end";
-        case Refusal::answer_too_short: return "the answer buffer is too short";
-        case Refusal::work_too_short: return "the work area is too short";
-        case Refusal::text_too_short: return "the tree text does not fit";
-        case Refusal::not_a_row: return "not a row";
-    }
-    return "unknown refusal";
+    return zimorgal_describe_refusal(static_cast<int>(refusal));
 }
-
 constexpr std::string_view describe(Reason reason) noexcept {
-    switch (reason) {
-        case Reason::none: return "none";
-        case Reason::first_unsolvable: return "the first system has no solution";
-        case Reason::positives_unmet:
-            return "some solution of the first system cannot meet the second's positive clauses";
-        case Reason::disequation_unmet:
-            return "some solution of the first system cannot have one of the second's disequations";
-    }
-    return "unknown reason";
+    return zimorgal_describe_reason(static_cast<int>(reason));
 }
 
 // Fields without a meaning are 0.
@@ -379,15 +563,13 @@ struct Result {
 
 // The fields of what zimorgal_ask gives.
 constexpr Result decode(std::uint64_t number) noexcept {
-    return {static_cast<Verdict>(number & 0xFF),
-            static_cast<Refusal>(number >> 8 & 0xFF),
-            static_cast<std::uint16_t>(number >> 16 & 0xFFFF),
-            static_cast<std::uint8_t>(number >> 32 & 0xFF),
-            static_cast<Reason>(number >> 40 & 0xFF),
-            static_cast<std::uint8_t>(number >> 48 & 0xFF)};
+    return {
+        static_cast<Verdict>(zimorgal_verdict(number)),     static_cast<Refusal>(zimorgal_refusal(number)),
+        static_cast<std::uint16_t>(zimorgal_place(number)), static_cast<std::uint8_t>(zimorgal_height_given(number)),
+        static_cast<Reason>(zimorgal_reason(number)),       static_cast<std::uint8_t>(zimorgal_disequation(number))};
 }
 
-// ---------------------------------------------------------------- Tree text of rows
+// ---------------------------------------------------------------- Texts
 
 struct Written {
     Refusal refusal;
@@ -397,27 +579,131 @@ struct Written {
 // Writes the tree text of a row, without a byte 0 at its end.
 inline Written write_text(Bytes row, char* text, std::size_t size) noexcept {
     const std::uint64_t number = zimorgal_text(row.data, row.size, reinterpret_cast<std::uint8_t*>(text), size);
-    return {static_cast<Refusal>(number >> 32 & 0xFF), static_cast<std::size_t>(number & 0xFFFFFFFF)};
+    return {static_cast<Refusal>(zimorgal_text_refusal(number)), zimorgal_text_length(number)};
 }
 
-// A tree text in a buffer of its own, in which every one fits. It is empty if there was no row.
-class Text {
-  public:
-    explicit Text(Bytes row) noexcept : length_(write_text(row, text_.data(), text_.size()).length) {}
+namespace detail {
 
+// A text in a buffer of its own.
+template <std::size_t Most>
+class FixedText {
+  public:
     std::string_view view() const& noexcept { return {text_.data(), length_}; }
     std::string_view view() const&& = delete;
 
-  private:
-    std::array<char, ZIMORGAL_TEXT_BYTES> text_;
-    std::size_t length_;
+    std::string str() const { return std::string(text_.data(), length_); }
+
+  protected:
+    std::array<char, Most> text_;
+    std::size_t length_ = 0;
 };
 
-// The tree text of a constant.
-inline Text text_of(Leaves leaves) noexcept {
+template <std::size_t Most, class Traits>
+std::basic_ostream<char, Traits>& operator<<(std::basic_ostream<char, Traits>& out, const FixedText<Most>& text) {
+    return out << text.view();
+}
+
+}  // namespace detail
+
+// The tree text of a row, in a buffer in which every one fits. It is empty if there was no row.
+class Text : public detail::FixedText<ZIMORGAL_TEXT_BYTES> {
+  public:
+    explicit Text(Bytes row) noexcept { length_ = write_text(row, text_.data(), text_.size()).length; }
+};
+
+// The tree text of a constant. Only of Leaves, as with Question::constant.
+template <class Share, std::enable_if_t<std::is_same_v<Share, Leaves>, int> = 0>
+[[nodiscard]] Text text_of(Share leaves) noexcept {
     std::array<std::uint8_t, ZIMORGAL_ROW_BYTES> row{};
     for (std::size_t i = 0; i < row.size(); ++i) row[i] = leaves >> i / 4 & 1 ? 0xFF : 0x00;
     return Text({row.data(), row.size()});
+}
+
+// No question is longer as text: 12 variables, 32 constants of 94 characters, and all clauses, whose systems alternate.
+inline constexpr std::size_t most_question_text = 8233;
+
+// A question as text, for logs. `./ask` of the sources reads it, and it asks the same bytes again. Variables are named
+// v00, v01 and so on, the free ones first, and constants c00, c01 and so on.
+class QuestionText : public detail::FixedText<most_question_text> {
+  public:
+    explicit QuestionText(const Question& question) noexcept {
+        const std::size_t free = question.free_variables(), own = question.own_variables();
+        put(question.kind() == Kind::entailment ? "entails\n" : "satisfiable\n");
+        put_variables("free", 0, free);
+        put_variables("own", free, own);
+        const std::uint8_t* at = question.bytes().begin() + 4;
+        for (std::size_t number = 0; number < question.constants(); ++number, at += 5) put_constant(number, at + 1);
+        bool second = false;
+        while (*at != 0x00) at = put_clause(at, second);
+    }
+
+  private:
+    void put(std::string_view words) noexcept {
+        words = words.substr(0, text_.size() - length_);
+        std::copy(words.begin(), words.end(), text_.begin() + length_);
+        length_ += words.size();
+    }
+
+    // A letter and two digits.
+    void put_name(char letter, std::size_t number) noexcept {
+        const char name[] = {letter, static_cast<char>('0' + number / 10), static_cast<char>('0' + number % 10)};
+        put({name, 3});
+    }
+
+    void put_variables(std::string_view word, std::size_t from, std::size_t count) noexcept {
+        if (count == 0) return;
+        put(word);
+        for (std::size_t i = from; i < from + count; ++i) {
+            put(" ");
+            put_name('v', i);
+        }
+        put("\n");
+    }
+
+    void put_constant(std::size_t number, const std::uint8_t* bytes) noexcept {
+        Leaves leaves = 0;
+        for (std::size_t i = 4; i > 0; --i) leaves = leaves << 8 | bytes[i - 1];
+        const Text tree = text_of(leaves);
+        put("let ");
+        put_name('c', number);
+        put(" = ");
+        put(tree.view());
+        put("\n");
+    }
+
+    void put_term(std::uint8_t term) noexcept {
+        if (term < 0x20)
+            put_name('v', term);
+        else
+            put_name('c', term - std::size_t{0x20});
+    }
+
+    // Writes the clause that starts there, after a line that changes the system if it must. Gives the next one's start.
+    const std::uint8_t* put_clause(const std::uint8_t* at, bool& second) noexcept {
+        const unsigned command = *at++;
+        if ((command >= 0x20) != second) {
+            second = !second;
+            put(second ? "then\n" : "if\n");
+        }
+        const bool joins = (command & 2) == 0, negated = (command & 1) != 0;
+        if (joins && negated) put("not ");
+        put_term(*at++);
+        if (joins) {
+            put(" join ");
+            put_term(*at++);
+        }
+        put(!joins && negated ? " is not " : " is ");
+        put_term(*at++);
+        put("\n");
+        return at;
+    }
+};
+
+[[nodiscard]] inline QuestionText text_of(const Question& question) noexcept { return QuestionText(question); }
+
+template <class Traits>
+std::basic_ostream<char, Traits>& operator<<(std::basic_ostream<char, Traits>& out, const Question& question) {
+    return out << QuestionText(question);
 }
 
 // ---------------------------------------------------------------- Asking
@@ -435,6 +721,7 @@ class Solution {
     Solution() noexcept = default;
     Solution(const Workspace& workspace, std::size_t variables) noexcept
         : workspace_(&workspace), variables_(variables) {}
+    Solution(const Workspace&&, std::size_t) = delete;
 
     explicit operator bool() const noexcept { return workspace_ != nullptr; }
 
@@ -446,7 +733,7 @@ class Solution {
         if (variable.number >= variables_) return {nullptr, 0};
         const auto& answer = workspace_->answer;
         const std::uint64_t part = zimorgal_row(answer.data(), answer.size(), variable.number);
-        return {answer.data() + (part & 0xFFFFFFFF), static_cast<std::size_t>(part >> 32)};
+        return {answer.data() + zimorgal_row_offset(part), zimorgal_row_length(part)};
     }
 
     // The tree text of a share, in a buffer of its own or in the caller's. Refusal::not_a_row if there is no such
@@ -466,18 +753,19 @@ struct Answer {
     Solution solution;
 };
 
-// Asks a question in bytes, from wherever it comes.
-inline Answer ask(Bytes question, Workspace& workspace) noexcept {
-    const Result result = decode(zimorgal_ask(question.data, question.size, workspace.answer.data(),
-                                              workspace.answer.size(), workspace.work.data(), workspace.work.size()));
-    if (result.verdict == Verdict::refused) return {result, {}};
-    const Kind kind = static_cast<Kind>(question.data[1]);
-    const Verdict showing = kind == Kind::satisfiability ? Verdict::yes : Verdict::no;
-    if (result.verdict != showing) return {result, {}};
+// Asks a question in bytes, from wherever it comes. They lie outside the workspace.
+[[nodiscard]] inline Answer ask(Bytes question, Workspace& workspace) noexcept {
+    const std::uint64_t number = zimorgal_ask(question.data, question.size, workspace.answer.data(),
+                                              workspace.answer.size(), workspace.work.data(), workspace.work.size());
+    const Result result = decode(number);
+    // One that is not refused has a head, with the kind at byte 1 and the number of free variables at byte 2.
+    if (result.verdict == Verdict::refused || !zimorgal_shows(number, question.data[1])) return {result, {}};
     return {result, Solution(workspace, question.data[2])};
 }
 
-inline Answer ask(const Question& question, Workspace& workspace) noexcept { return ask(question.bytes(), workspace); }
+[[nodiscard]] inline Answer ask(const Question& question, Workspace& workspace) noexcept {
+    return ask(question.bytes(), workspace);
+}
 
 // ---------------------------------------------------------------- Constants
 
@@ -486,13 +774,20 @@ struct Joined {
     Leaves leaves;  // 0 if undefined
 };
 
-inline Joined join_of(Leaves a, Leaves b) noexcept {
+// Both take Leaves and no other number.
+template <class Share, std::enable_if_t<std::is_same_v<Share, Leaves>, int> = 0>
+[[nodiscard]] Joined join_of(Share a, Share b) noexcept {
     const std::uint64_t number = zimorgal_join(a, b);
-    return {number >> 32 == 0, static_cast<Leaves>(number & 0xFFFFFFFF)};
+    return {zimorgal_join_defined(number) != 0, zimorgal_join_leaves(number)};
 }
 
-inline unsigned height_of(Leaves leaves) noexcept { return zimorgal_height(leaves); }
+template <class Share, std::enable_if_t<std::is_same_v<Share, Leaves>, int> = 0>
+[[nodiscard]] unsigned height_of(Share leaves) noexcept {
+    return zimorgal_height(leaves);
+}
 
 }  // namespace zimorgal
+
+#endif
 
 #endif

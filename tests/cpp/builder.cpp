@@ -2,7 +2,10 @@
 #include <cstdio>
 #include <cstdlib>
 #include <cstring>
+#include <iomanip>
+#include <limits>
 #include <new>
+#include <sstream>
 #include <string>
 #include <vector>
 
@@ -68,7 +71,17 @@ void* operator new(std::size_t size) {
 void operator delete(void* memory) noexcept { std::free(memory); }
 void operator delete(void* memory, std::size_t) noexcept { std::free(memory); }
 
-// ---------------------------------------------------------------- What does not compile
+// ---------------------------------------------------------------- At compile time; refuses.txt has what does not compile
+
+// A program's own functions stay its own, also where the namespace is opened and the arguments must be converted.
+struct Point {};
+struct Corner : Point {};
+static constexpr bool equal(double a, double b) { return a <= b && b <= a; }
+static constexpr int not_equal(const Point&, const Point&) { return 7; }
+static constexpr long join(long a, long b, long c) { return a + b + c; }
+static constexpr double not_join(double a, double b, double c) { return a * b * c; }
+static_assert(equal(1, 1) && !equal(0, 1) && join(1, 2, 3) == 6 && equal(not_join(1, 2, 3), 6), "not captured");
+static_assert(not_equal(Corner(), Corner()) == 7, "not captured");
 
 namespace {
 
@@ -84,7 +97,7 @@ constexpr bool stands_second<T, std::void_t<decltype(std::declval<Question&>().s
 
 constexpr Free v0{0}, v1{1}, v2{2}, v3{3}, v4{4};
 constexpr Own own0{0}, own1{1};
-constexpr Constant c0{0};
+constexpr Constant c0;
 
 static_assert(stands_first<decltype(join(v0, c0, v1))> && stands_second<decltype(join(v0, c0, v1))>);
 static_assert(stands_first<decltype(not_join(c0, c0, c0))> && stands_first<decltype(equal(v0, c0))> &&
@@ -97,14 +110,24 @@ static_assert(!stands_first<decltype(equal(Term(v0), c0))>, "a term known only a
 static_assert(!stands_first<Clause> && !std::is_convertible_v<int, Term> && !std::is_convertible_v<Own, Free>);
 
 static_assert(from_text("(*o)").leaves == 0x0000FFFF, "at compile time too");
+static_assert(from_text("(*x)").place == 2, "at compile time too");
+static_assert(describe(Verdict::no) == "no" && decode(2).verdict == Verdict::no, "at compile time too");
+
+// Variables from any integer; one out of range names nothing, and is no undefined behaviour.
+enum Seats { lights, sound };
+static_assert(Free{1}.number == 1 && Free{1u}.number == 1 && Own{std::size_t{11}}.number == 11 &&
+              Free{sound}.number == 1);
+static_assert(Free{-1}.number == 12 && Free{12}.number == 12 &&
+              Own{std::numeric_limits<long long>::min()}.number == 12 &&
+              Own{std::numeric_limits<unsigned long long>::max()}.number == 12 && Free{std::int8_t{-128}}.number == 12);
 
 // ---------------------------------------------------------------- Bytes
 
-void bytes_of_document_01() {
+void bytes_of_questions() {
     check(copy(Question()) == String{0x01, 0x00, 0x00, 0x00, 0x00}, "bytes of a new question");
 
     Question example = satisfiability(1);
-    const Constant left = take(example.constant(0x0000FFFF));
+    const Constant left = take(example.constant(0x0000FFFFu));
     const Constant whole = take(example.constant("*"));
     take(example.first(join(v0, left, whole)));
     check(copy(example) == String{0x01, 0x00, 0x01, 0x00, 0x03, 0xFF, 0xFF, 0x00, 0x00, 0x03, 0xFF, 0xFF, 0xFF, 0xFF,
@@ -113,7 +136,7 @@ void bytes_of_document_01() {
 
     // Every command and every sort of term; the systems alternate; the second constant comes after clauses.
     Question every = entailment(2, 2);
-    const Constant first = take(every.constant(0x04030201));
+    const Constant first = take(every.constant(0x04030201u));
     take(every.second(join(v1, own0, first)));
     take(every.first(join(v0, v1, first)));
     take(every.first(not_join(first, v0, v1)));
@@ -162,7 +185,6 @@ void errors() {
     refused(sat, Error::names_nothing, "free variable 2 of 2", [&] { return sat.first(equal(v2, v0)); });
     refused(sat, Error::names_nothing, "in the second place", [&] { return sat.first(not_equal(v0, v2)); });
     refused(sat, Error::names_nothing, "in the third place", [&] { return sat.first(join(v0, v1, v2)); });
-    refused(sat, Error::names_nothing, "constant 1 of 1", [&] { return sat.first(join(v0, Constant{1}, v1)); });
     refused(sat, Error::names_nothing, "no constant", [&] { return sat.first(equal(v0, Constant{})); });
     refused(sat, Error::names_nothing, "free variable 32 is no constant",
             [&] { return sat.first(equal(Free{32}, v0)); });
@@ -171,7 +193,12 @@ void errors() {
     refused(sat, Error::not_tree_text, "a constant that is no tree", [&] { return sat.constant("(*").error; });
     refused(sat, Error::too_tall, "a tall constant", [&] { return sat.constant("((((((*o)o)o)o)o)o)").error; });
     refused(sat, Error::not_folded, "a constant not folded", [&] { return sat.constant("(oo)").error; });
-    check(sat.constant("(oo)").constant.number == Constant{}.number, "a refused constant names nothing");
+    refused(sat, Error::names_nothing, "a refused constant",
+            [&] { return sat.first(equal(v0, sat.constant("(oo)").constant)); });
+    refused(sat, Error::names_nothing, "free variable -1", [&] { return sat.first(equal(Free{-1}, v0)); });
+    Free set{0};
+    set.number = 256;
+    refused(sat, Error::names_nothing, "a number that was set", [&] { return sat.first(equal(set, v0)); });
 
     Question ent = entailment(2, 1);
     refused(ent, Error::names_nothing, "own variable 1 of 1", [&] { return ent.second(equal(own1, v0)); });
@@ -185,10 +212,11 @@ void errors() {
 
 void limits() {
     Question constants;
-    for (Leaves i = 0; i < 32; ++i) take(constants.constant(i));
+    Constant last;
+    for (Leaves i = 0; i < 32; ++i) last = take(constants.constant(i));
     check(accepted(constants), "32 constants");
-    refused(constants, Error::too_many_constants, "a 33rd constant", [&] { return constants.constant(0).error; });
-    take(constants.first(equal(Constant{31}, Constant{31})));
+    refused(constants, Error::too_many_constants, "a 33rd constant", [&] { return constants.constant(32u).error; });
+    take(constants.first(equal(last, take(constants.constant(0u)))));
     refused(constants, Error::too_many_constants, "a 33rd by text", [&] { return constants.constant("*").error; });
 
     for (const System system : {System::first, System::second}) {
@@ -241,6 +269,7 @@ class Random {
 // A question written by hand, byte by byte.
 struct ByHand {
     String head{0x01, 0x00, 0x00, 0x00}, constants, clauses;
+    std::vector<Constant> made{};  // what the builder gave for the constants
 
     String bytes() const {
         String all = head;
@@ -256,13 +285,13 @@ std::uint8_t byte(unsigned number) { return static_cast<std::uint8_t>(number); }
 // A term of a sort that the system may have, and its byte. Now and then one past the last that is defined, or an own
 // variable in the first system.
 Term random_term(Random& random, const ByHand& hand, System system, std::uint8_t& written) {
-    const unsigned n = hand.head[2], m = hand.head[3], constants = static_cast<unsigned>(hand.constants.size() / 5);
+    const unsigned n = hand.head[2], m = hand.head[3], constants = static_cast<unsigned>(hand.made.size());
     const bool wrong = random.below(40) == 0;
     const unsigned sort = random.below(3);
     if (sort == 0 && (constants > 0 || wrong)) {
         const unsigned number = wrong ? constants : random.below(constants);
         written = byte(0x20 + number);
-        return Constant{number};
+        return wrong ? Constant{} : hand.made[number];
     }
     if (sort == 1 && (wrong || (m > 0 && system == System::second))) {
         const unsigned number = m == 0 || (wrong && system == System::second) ? m : random.below(m);
@@ -311,7 +340,7 @@ void random_steps() {
         do {
             const unsigned n = random.below(14), m = kind == 0 ? 0 : random.below(14);
             error = kind == 0 ? question.start_satisfiability(n) : question.start_entailment(n, m);
-            compare(error, {{0x01, byte(kind), byte(n), byte(m)}, {}, {}});
+            compare(error, {{0x01, byte(kind), byte(n), byte(m)}, {}, {}, {}});
         } while (error != Error::none);
 
         for (int step = 0; step < 300; ++step) {
@@ -320,7 +349,9 @@ void random_steps() {
                 const Leaves leaves = random.leaves();
                 tried.constants.push_back(0x03);
                 for (int i = 0; i < 4; ++i) tried.constants.push_back(byte(leaves >> 8 * i & 0xFF));
-                compare(question.constant(leaves).error, tried);
+                const NewConstant made = question.constant(leaves);
+                tried.made.push_back(made.constant);
+                compare(made.error, tried);
                 continue;
             }
             const System system = random.below(2) == 0 ? System::first : System::second;
@@ -338,6 +369,143 @@ void random_steps() {
     for (const Refusal refusal : {Refusal::bad_head, Refusal::too_many_constants, Refusal::too_many_clauses,
                                   Refusal::bad_term, Refusal::no_second_system, Refusal::answer_too_short})
         check(seen[static_cast<std::size_t>(refusal)] > 50, "random steps meet: " + std::string(describe(refusal)));
+}
+
+// ---------------------------------------------------------------- Any value of any enum
+
+// Every byte as a relation and as a system: only the four and the two are taken, and each puts its own command.
+void every_enum_value() {
+    for (unsigned system = 0; system < 256; ++system) {
+        for (unsigned relation = 0; relation < 256; ++relation) {
+            Question question = entailment(2, 0);
+            const String before = copy(question);
+            const Error error =
+                question.add(static_cast<System>(system), {static_cast<Relation>(relation), {v0, v1, v0}});
+            const Error due = system > 1 ? Error::unknown_system : relation > 3 ? Error::unknown_relation : Error::none;
+            String after = before;
+            if (due == Error::none) {
+                after.pop_back();
+                after.insert(after.end(), {byte(0x10 + 0x10 * system + relation), 0x00, 0x01});
+                if (relation < 2) after.push_back(0x00);
+                after.push_back(0x00);
+            }
+            if (error != due || copy(question) != after || !accepted(question))
+                check(false, "system " + std::to_string(system) + ", relation " + std::to_string(relation));
+        }
+    }
+    check(true, "every system and relation");
+
+    // A relation that was once taken for a disequation without being counted.
+    Question question = entailment(1, 0);
+    for (int i = 0; i < 64; ++i)
+        check(question.add(System::first, {static_cast<Relation>(0x13), {v0, v0, v0}}) == Error::unknown_relation,
+              "relation 13");
+    check(accepted(question), "accepted after 64 of them");
+
+    // One that was once put as a clause of the second system.
+    question = entailment(1, 0);
+    const Constant whole = take(question.constant("*"));
+    refused(question, Error::unknown_relation, "relation 12, which with the digit of the system makes command 22", [&] {
+        return question.add(System::first, {static_cast<Relation>(0x12), {v0, whole, whole}});
+    });
+}
+
+// ---------------------------------------------------------------- Constants of a question
+
+void whose_constant() {
+    // Equal constants are one.
+    Question question = satisfiability(1);
+    const Constant whole = take(question.constant("*")), half = take(question.constant("(*o)"));
+    take(question.first(equal(v0, take(question.constant(full_share)))));
+    check(question.constants() == 2 && copy(question) == String{0x01, 0x00, 0x01, 0x00, 0x03, 0xFF, 0xFF, 0xFF, 0xFF,
+                                                                0x03, 0xFF, 0xFF, 0x00, 0x00, 0x12, 0x00, 0x20, 0x00},
+          "equal constants are one");
+    check(half.leaves() == 0x0000FFFF && Constant{}.leaves() == 0, "a constant says its share");
+
+    // One kept over a start is refused, whatever the question has by then.
+    Question again = question;
+    take(again.start_satisfiability(1));
+    refused(again, Error::foreign_constant, "kept over a start", [&] { return again.first(equal(v0, whole)); });
+    take(again.constant("(o*)"));
+    refused(again, Error::foreign_constant, "another share there", [&] { return again.first(equal(v0, whole)); });
+    take(again.start_satisfiability(1));
+    const Constant new_whole = take(again.constant("*"));
+    refused(again, Error::foreign_constant, "the same share there", [&] { return again.first(equal(v0, whole)); });
+    take(again.first(equal(v0, new_whole)));
+
+    // One of another question is refused.
+    Question other = satisfiability(1);
+    refused(other, Error::foreign_constant, "of another, none there", [&] { return other.first(equal(v0, whole)); });
+    take(other.constant("*"));
+    refused(other, Error::foreign_constant, "of another, same share", [&] { return other.first(equal(v0, whole)); });
+    refused(other, Error::foreign_constant, "in the third place", [&] { return other.first(join(v0, v0, whole)); });
+    refused(other, Error::foreign_constant, "at run time",
+            [&] { return other.add(System::first, equal(Term(whole), v0)); });
+
+    // A start that fails changes nothing.
+    check(question.start_satisfiability(13) == Error::too_many_variables, "13 variables");
+    take(question.first(not_equal(v0, half)));
+
+    // A copy takes the constants of its original, and the other way round, as long as they mean the same share there.
+    Question copied = question;
+    take(copied.first(equal(v0, whole)));
+    const Constant left = take(question.constant("(*(*o))")), right = take(copied.constant("(o(o*))"));
+    refused(copied, Error::foreign_constant, "added to the original", [&] { return copied.first(equal(v0, left)); });
+    refused(question, Error::foreign_constant, "added to the copy", [&] { return question.first(equal(v0, right)); });
+    take(question.first(equal(v0, left)));
+    take(copied.first(equal(v0, right)));
+    const Constant both = take(question.constant("(*(o*))"));
+    refused(copied, Error::foreign_constant, "not there yet", [&] { return copied.first(equal(v0, both)); });
+    take(copied.constant("(*(o*))"));
+    take(copied.first(equal(v0, both)));
+
+    // Going back to a copy gives up what came after it.
+    Question back = satisfiability(1);
+    take(back.constant("o"));
+    const Question saved = back;
+    const Constant gone = take(back.constant("*"));
+    back = saved;
+    refused(back, Error::foreign_constant, "given up", [&] { return back.first(equal(v0, gone)); });
+    take(back.constant("(*o)"));
+    refused(back, Error::foreign_constant, "another in its place", [&] { return back.first(equal(v0, gone)); });
+
+    // Copies made before the first constant go their own ways.
+    Question early = satisfiability(1), twin = early;
+    const Constant first = take(early.constant("*"));
+    take(twin.constant("*"));
+    refused(twin, Error::foreign_constant, "of a twin", [&] { return twin.first(equal(v0, first)); });
+}
+
+// ---------------------------------------------------------------- Drafts
+
+void drafts() {
+    Draft draft;
+    draft.start_entailment(1, 1);
+    const Constant whole = draft.constant("*"), half = draft.constant(0x0000FFFFu);
+    draft.first(not_equal(v0, half)).second(join(v0, own0, whole)).add(System::second, not_equal(own0, whole));
+    Question question;
+    check(draft.error() == Error::none && draft.step() == 6 && draft.finish(question) == Error::none, "a draft");
+    check(copy(question) == String{0x01, 0x01, 0x01, 0x01, 0x03, 0xFF, 0xFF, 0xFF, 0xFF, 0x03, 0xFF, 0xFF, 0x00,
+                                   0x00, 0x13, 0x00, 0x21, 0x20, 0x00, 0x01, 0x20, 0x23, 0x01, 0x20, 0x00},
+          "bytes of a draft");
+    take(question.second(equal(own0, half)));
+
+    // The first error stays, no step is taken after it, and the question is left alone.
+    const String before = copy(question);
+    Draft wrong;
+    wrong.start_satisfiability(2);
+    const Constant none = wrong.constant("(*(oo))");
+    wrong.first(equal(v0, none)).second(equal(v0, v1)).start_satisfiability(1);
+    check(wrong.constant("*").leaves() == 0, "no constant after an error");
+    check(wrong.error() == Error::not_folded && wrong.step() == 1 && wrong.place() == 2, "the first error of a draft");
+    check(wrong.finish(question) == Error::not_folded && copy(question) == before,
+          "a draft with an error is not given");
+
+    // A draft can go on after it was given.
+    draft.second(equal(own0, half));
+    Question longer;
+    check(draft.finish(longer) == Error::none && copy(longer) == copy(question), "a draft goes on");
+    check(Draft().finish(question) == Error::none && copy(question) == copy(Question()), "an empty draft");
 }
 
 // ---------------------------------------------------------------- Results
@@ -427,8 +595,15 @@ void results() {
 
     for (unsigned i = 0; i <= 14; ++i)
         check(describe(static_cast<Refusal>(i)) != "unknown refusal", "a text for refusal " + std::to_string(i));
-    for (unsigned i = 0; i <= 10; ++i)
+    for (unsigned i = 0; i <= 13; ++i)
         check(describe(static_cast<Error>(i)) != "unknown error", "a text for error " + std::to_string(i));
+    check(describe(static_cast<Error>(14)) == "unknown error" &&
+              describe(static_cast<Verdict>(3)) == "unknown verdict" &&
+              describe(static_cast<Refusal>(255)) == "unknown refusal" &&
+              describe(static_cast<Reason>(4)) == "unknown reason",
+          "texts for what has no meaning");
+    const Result wild = decode(0xFFFFFFFFFFFFFFFF);
+    check(wild.place == 0xFFFF && wild.height == 0xFF && wild.disequation == 0xFF, "every number is decoded");
 }
 
 // ---------------------------------------------------------------- Tree text
@@ -457,32 +632,39 @@ void tree_text() {
     const struct {
         const char* text;
         Error error;
-    } wrong[] = {{"", Error::not_tree_text},
-                 {"x", Error::not_tree_text},
-                 {"O", Error::not_tree_text},
-                 {" o", Error::not_tree_text},
-                 {"o ", Error::not_tree_text},
-                 {"oo", Error::not_tree_text},
-                 {"(", Error::not_tree_text},
-                 {")", Error::not_tree_text},
-                 {"()", Error::not_tree_text},
-                 {"(*)", Error::not_tree_text},
-                 {"(*o", Error::not_tree_text},
-                 {"(*o*)", Error::not_tree_text},
-                 {"(*o))", Error::not_tree_text},
-                 {"(* o)", Error::not_tree_text},
-                 {"(*oo", Error::not_tree_text},
-                 {"(oo", Error::not_tree_text},
-                 {"(oo)", Error::not_folded},
-                 {"(**)", Error::not_folded},
-                 {"((oo)*)", Error::not_folded},
-                 {"(*(**))", Error::not_folded},
-                 {"((*o)(oo))", Error::not_folded},
-                 {"((((((*o)o)o)o)o)o)", Error::too_tall},
-                 {"(o(o(o(o(o(o*))))))", Error::too_tall}};
+        std::size_t place;
+    } wrong[] = {{"", Error::not_tree_text, 0},
+                 {"x", Error::not_tree_text, 0},
+                 {"O", Error::not_tree_text, 0},
+                 {" o", Error::not_tree_text, 0},
+                 {"o ", Error::not_tree_text, 1},
+                 {"oo", Error::not_tree_text, 1},
+                 {"(", Error::not_tree_text, 1},
+                 {")", Error::not_tree_text, 0},
+                 {"()", Error::not_tree_text, 1},
+                 {"(*)", Error::not_tree_text, 2},
+                 {"(*o", Error::not_tree_text, 3},
+                 {"(*o*)", Error::not_tree_text, 3},
+                 {"(*o))", Error::not_tree_text, 4},
+                 {"(* o)", Error::not_tree_text, 2},
+                 {"(*oo", Error::not_tree_text, 3},
+                 {"(oo", Error::not_tree_text, 3},
+                 {"(*(o*)", Error::not_tree_text, 6},
+                 {"(*(o*)x", Error::not_tree_text, 6},
+                 {"(oo)", Error::not_folded, 0},
+                 {"(**)", Error::not_folded, 0},
+                 {"((oo)*)", Error::not_folded, 1},
+                 {"(*(**))", Error::not_folded, 2},
+                 {"((*o)(oo))", Error::not_folded, 5},
+                 {"((((((*o)o)o)o)o)o)", Error::too_tall, 5},
+                 {"(o(o(o(o(o(o*))))))", Error::too_tall, 10}};
     for (const auto& text : wrong) {
         const Parsed parsed = from_text(text.text);
-        check(parsed.error == text.error && parsed.leaves == 0, std::string("no tree: ") + text.text);
+        check(parsed.error == text.error && parsed.leaves == 0 && parsed.place == text.place,
+              std::string("no tree: ") + text.text);
+        Question question = satisfiability(1);
+        const auto [error, constant, place] = question.constant(text.text);
+        check(error == text.error && place == text.place, std::string("no constant: ") + text.text);
     }
     check(from_text(std::string(1000000, '(')).error == Error::too_tall, "a text that only opens pairs");
 
@@ -523,10 +705,35 @@ void tree_text() {
 }
 
 void constants() {
-    check(join_of(0x0000FFFF, 0xFFFF0000).defined && join_of(0x0000FFFF, 0xFFFF0000).leaves == full_share, "a join");
-    check(!join_of(3, 6).defined && join_of(3, 6).leaves == 0, "an undefined join");
-    check(height_of(0) == 0 && height_of(full_share) == 0 && height_of(0x0000FFFF) == 1 && height_of(1) == 5,
+    const Joined halves = join_of(0x0000FFFFu, 0xFFFF0000u);
+    check(halves.defined && halves.leaves == full_share, "a join");
+    check(!join_of(3u, 6u).defined && join_of(3u, 6u).leaves == 0, "an undefined join");
+    check(height_of(0u) == 0 && height_of(full_share) == 0 && height_of(0x0000FFFFu) == 1 && height_of(1u) == 5,
           "heights");
+}
+
+// ---------------------------------------------------------------- Texts
+
+// programs.cpp leaves further questions for ./ask to read.
+void texts() {
+    Question question = entailment(2, 1);
+    const Constant half = take(question.constant("(*o)"));
+    take(question.first(join(v0, v1, half)));
+    take(question.second(not_join(v0, own0, v1)));
+    take(question.second(equal(own0, half)));
+    take(question.first(not_equal(v1, take(question.constant("o")))));
+    const char* const due =
+        "entails\nfree v00 v01\nown v02\nlet c00 = (*o)\nlet c01 = o\nv00 join v01 is c00\nthen\n"
+        "not v00 join v02 is v01\nv02 is c00\nif\nv01 is not c01\n";
+    const QuestionText text = text_of(question);
+    check(text.view() == due && text.str() == due, "a question as text");
+    const QuestionText nothing = text_of(Question());
+    check(nothing.view() == "satisfiable\n", "a new question as text");
+
+    std::ostringstream out;
+    out << question << '|' << std::setw(6) << text_of(0x0000FFFFu) << '|' << text_of(Question());
+    check(out.str() == std::string(due) + "|  (*o)|satisfiable\n", "written to a stream");
+    check(text_of(full_share).str() == "*", "a text as a string");
 }
 
 // ---------------------------------------------------------------- No heap
@@ -534,14 +741,19 @@ void constants() {
 void no_heap() {
     const long before = allocations;
     static Workspace workspace;
-    Question question;
+    Question question, drafted;
     bool fine = question.start_entailment(2, 1) == Error::none;
-    const auto [error, half] = question.constant("(*o)");
-    fine = fine && error == Error::none && question.first(join(v0, half, v1)) == Error::none &&
+    const auto [error, half, place] = question.constant("(*o)");
+    fine = fine && error == Error::none && place == 0 && question.first(join(v0, half, v1)) == Error::none &&
            question.second(not_equal(own0, v0)) == Error::none && question.second(equal(v0, half)) == Error::none;
+    Draft draft;
+    draft.start_satisfiability(1);
+    fine = fine && draft.error() == Error::none && draft.finish(drafted) == Error::none;
+    const QuestionText asked = text_of(question);
     const auto [result, solution] = ask(question, workspace);
     const Text text = solution.text(v0);
-    fine = fine && result.verdict == Verdict::no && !text.view().empty() && allocations == before;
+    fine =
+        fine && result.verdict == Verdict::no && !text.view().empty() && !asked.view().empty() && allocations == before;
     check(fine, "no heap from building to tree text");
     delete new int;
     check(allocations > before, "allocations are counted");
@@ -550,13 +762,17 @@ void no_heap() {
 }  // namespace
 
 int main() {
-    bytes_of_document_01();
+    bytes_of_questions();
     errors();
     limits();
     random_steps();
+    every_enum_value();
+    whose_constant();
+    drafts();
     results();
     tree_text();
     constants();
+    texts();
     no_heap();
     std::printf("%d passed, %d failed\n", passed, failed);
     return failed == 0 ? 0 : 1;

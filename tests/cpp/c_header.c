@@ -1,34 +1,106 @@
-/* The C header from C: the example of SPEC 12.13, and NULL with length 0 for every buffer. Status 0 if all is well. */
+/* The C header from C: the calls, the fields of their numbers, the words, and NULL with length 0 for every part. The last
+   line is 'N passed, M failed'. */
 #include <stdio.h>
 #include <string.h>
 
 #include "zimorgal.h"
 
+static int passed = 0, failed = 0;
+
+static void check(int holds, const char *what) {
+    ++*(holds ? &passed : &failed);
+    if (!holds) printf("FAILED %s\n", what);
+}
+
+static uint8_t answer[ZIMORGAL_ANSWER_BYTES], work[ZIMORGAL_WORK_BYTES], text[ZIMORGAL_TEXT_BYTES];
+
+/* SPEC 12.13. */
+static const uint8_t example[] = {0x01, 0x00, 0x01, 0x00, 0x03, 0xFF, 0xFF, 0x00, 0x00, 0x03,
+                                  0xFF, 0xFF, 0xFF, 0xFF, 0x10, 0x00, 0x20, 0x21, 0x00};
+
+static void calls(void) {
+    const uint64_t result = zimorgal_ask(example, sizeof example, answer, sizeof answer, work, sizeof work);
+    check(result == (ZIMORGAL_YES | (uint64_t)1 << 32), "the example is answered yes, height 1");
+    const uint64_t row = zimorgal_row(answer, sizeof answer, 0);
+    check(row == (uint64_t)ZIMORGAL_ROW_BYTES << 32, "row 0 is the first 128 bytes");
+    const uint64_t written =
+        zimorgal_text(answer + zimorgal_row_offset(row), zimorgal_row_length(row), text, sizeof text);
+    check(written == 4 && memcmp(text, "(o*)", 4) == 0, "the text of row 0 is (o*)");
+    check(zimorgal_join(0x0000FFFF, 0xFFFF0000) == 0xFFFFFFFF, "the halves join to full");
+    check(zimorgal_join(1, 1) == (uint64_t)1 << 32, "an undefined join is 2^32");
+    check(zimorgal_height(1) == 5, "one leaf has height 5");
+}
+
+static void version(void) {
+    check(ZIMORGAL_VERSION >> 16 == ZIMORGAL_VERSION_MAJOR &&
+              (ZIMORGAL_VERSION >> 8 & 0xFF) == ZIMORGAL_VERSION_MINOR &&
+              (ZIMORGAL_VERSION & 0xFF) == ZIMORGAL_VERSION_PATCH,
+          "a byte each, patch lowest");
+    check(zimorgal_version() == ZIMORGAL_VERSION, "header and library are of one version");
+}
+
+/* Every field by its accessor, each value unlike the others. */
+static void fields(void) {
+    const uint64_t result = 0x001E030A039D0802;
+    check(zimorgal_verdict(result) == ZIMORGAL_NO, "verdict");
+    check(zimorgal_refusal(result) == ZIMORGAL_BAD_TERM, "refusal");
+    check(zimorgal_place(result) == 925, "place");
+    check(zimorgal_height_given(result) == 10, "height given");
+    check(zimorgal_reason(result) == ZIMORGAL_DISEQUATION_UNMET, "reason");
+    check(zimorgal_disequation(result) == 30, "disequation");
+
+    check(zimorgal_row_offset(0x0000008000000580) == 0x580, "offset of a row");
+    check(zimorgal_row_length(0x0000008000000580) == 0x80, "length of a row");
+    check(zimorgal_text_length(0x0000000000000BFE) == 3070, "length of a text");
+    check(zimorgal_text_refusal(0x0000000000000BFE) == ZIMORGAL_ACCEPTED, "a text that was written");
+    check(zimorgal_text_length((uint64_t)13 << 32) == 0, "length of a text that was refused");
+    check(zimorgal_text_refusal((uint64_t)13 << 32) == ZIMORGAL_TEXT_TOO_SHORT, "a text that was refused");
+    check(zimorgal_join_defined(0xFFFFFFFF) && zimorgal_join_leaves(0xFFFFFFFF) == 0xFFFFFFFF, "a join");
+    check(!zimorgal_join_defined((uint64_t)1 << 32) && zimorgal_join_leaves((uint64_t)1 << 32) == 0, "no join");
+}
+
+/* Every row of the table in docs/FORMAT.md, "What asking gives", and a refusal of either kind. */
+static void shown_or_not(void) {
+    const uint64_t reason_1 = 0x0000010000000001, reason_2 = 0x0000020000000002, reason_3 = 0x0000030000000002;
+    check(zimorgal_shows(ZIMORGAL_YES, ZIMORGAL_SATISFIABILITY), "satisfiable is shown");
+    check(!zimorgal_shows(ZIMORGAL_NO, ZIMORGAL_SATISFIABILITY), "not satisfiable shows nothing");
+    check(!zimorgal_shows(ZIMORGAL_YES, ZIMORGAL_ENTAILMENT), "entailed shows nothing");
+    check(!zimorgal_shows(reason_1, ZIMORGAL_ENTAILMENT), "no solution of the first shows nothing");
+    check(zimorgal_shows(reason_2, ZIMORGAL_ENTAILMENT), "reason 2 is shown");
+    check(zimorgal_shows(reason_3, ZIMORGAL_ENTAILMENT), "reason 3 is shown");
+    check(!zimorgal_shows(ZIMORGAL_NO_HEAD << 8, ZIMORGAL_SATISFIABILITY), "a refusal shows nothing");
+    check(!zimorgal_shows(ZIMORGAL_NO_HEAD << 8, ZIMORGAL_ENTAILMENT), "a refusal of the other kind neither");
+}
+
+/* Each number has words of its own, and a number without a meaning is unknown. */
+static void in_words(const char *(*describe)(int), int most, const char *unknown) {
+    for (int i = 0; i <= most; ++i) {
+        check(strcmp(describe(i), unknown) != 0, unknown);
+        for (int j = 0; j < i; ++j) check(strcmp(describe(i), describe(j)) != 0, describe(i));
+    }
+    check(strcmp(describe(most + 1), unknown) == 0 && strcmp(describe(-1), unknown) == 0, describe(most + 1));
+}
+
+static void nothing_lent(void) {
+    check(zimorgal_ask(NULL, 0, NULL, 0, NULL, 0) == ZIMORGAL_NO_HEAD << 8, "NULL question");
+    check(zimorgal_ask(example, sizeof example, NULL, 0, NULL, 0) == ZIMORGAL_ANSWER_TOO_SHORT << 8,
+          "NULL answer buffer");
+    check(zimorgal_ask(example, sizeof example, answer, sizeof answer, NULL, 0) == ZIMORGAL_WORK_TOO_SHORT << 8,
+          "NULL work area");
+    check(zimorgal_row(NULL, 0, 0) == 0, "NULL answer buffer for a row");
+    check(zimorgal_text(NULL, 0, NULL, 0) == (uint64_t)ZIMORGAL_NOT_A_ROW << 32, "NULL row");
+    check(zimorgal_text(answer, ZIMORGAL_ROW_BYTES, NULL, 0) == (uint64_t)ZIMORGAL_TEXT_TOO_SHORT << 32, "NULL text");
+}
+
 int main(void) {
-    static const uint8_t question[] = {0x01, 0x00, 0x01, 0x00, 0x03, 0xFF, 0xFF, 0x00, 0x00, 0x03,
-                                       0xFF, 0xFF, 0xFF, 0xFF, 0x10, 0x00, 0x20, 0x21, 0x00};
-    uint8_t answer[ZIMORGAL_ANSWER_BYTES], work[ZIMORGAL_WORK_BYTES], text[ZIMORGAL_TEXT_BYTES];
-    uint64_t part, written;
-
-    if (zimorgal_ask(question, sizeof question, answer, sizeof answer, work, sizeof work) !=
-        (ZIMORGAL_YES | (uint64_t)1 << 32))
-        return puts("the example is not answered yes, height 1"), 1;
-    part = zimorgal_row(answer, sizeof answer, 0);
-    if (part != (uint64_t)ZIMORGAL_ROW_BYTES << 32) return puts("row 0 is not the first 128 bytes"), 1;
-    written = zimorgal_text(answer + (uint32_t)part, (size_t)(part >> 32), text, sizeof text);
-    if (written != 4 || memcmp(text, "(o*)", 4) != 0) return puts("the text of row 0 is not (o*)"), 1;
-    if (zimorgal_join(0x0000FFFF, 0xFFFF0000) != 0xFFFFFFFF) return puts("the halves do not join to full"), 1;
-    if (zimorgal_join(1, 1) != (uint64_t)1 << 32) return puts("an undefined join is not 2^32"), 1;
-    if (zimorgal_height(1) != 5) return puts("one leaf has not height 5"), 1;
-
-    if (zimorgal_ask(NULL, 0, NULL, 0, NULL, 0) != ZIMORGAL_NO_HEAD << 8) return puts("NULL question"), 1;
-    if (zimorgal_ask(question, sizeof question, NULL, 0, NULL, 0) != ZIMORGAL_ANSWER_TOO_SHORT << 8)
-        return puts("NULL answer buffer"), 1;
-    if (zimorgal_ask(question, sizeof question, answer, sizeof answer, NULL, 0) != ZIMORGAL_WORK_TOO_SHORT << 8)
-        return puts("NULL work area"), 1;
-    if (zimorgal_row(NULL, 0, 0) != 0) return puts("NULL answer buffer for a row"), 1;
-    if (zimorgal_text(NULL, 0, NULL, 0) != (uint64_t)ZIMORGAL_NOT_A_ROW << 32) return puts("NULL row"), 1;
-    if (zimorgal_text(answer, ZIMORGAL_ROW_BYTES, NULL, 0) != (uint64_t)ZIMORGAL_TEXT_TOO_SHORT << 32)
-        return puts("NULL text"), 1;
-    return 0;
+    calls();
+    version();
+    fields();
+    shown_or_not();
+    in_words(zimorgal_describe_verdict, ZIMORGAL_NO, "unknown verdict");
+    in_words(zimorgal_describe_refusal, ZIMORGAL_NOT_A_ROW, "unknown refusal");
+    in_words(zimorgal_describe_reason, ZIMORGAL_DISEQUATION_UNMET, "unknown reason");
+    nothing_lent();
+    printf("%d passed, %d failed\n", passed, failed);
+    return failed != 0;
 }

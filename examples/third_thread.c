@@ -1,0 +1,99 @@
+/* Two threads of a lighting desk hold parts of a cue list. This program asks in C what an analyser would ask before it
+   lets a third thread in.
+
+       gcc -std=c99 -Iinclude examples/third_thread.c target/staticlib/libzimorgal.a -o third_thread && ./third_thread
+
+   It writes examples/third_thread.out. */
+#include <stdio.h>
+
+#include "zimorgal.h"
+
+/* The free variables of the questions here. */
+enum { LIGHTS, SOUND, BOTH, RECORDER, ALL };
+static const char *const names[] = {"lights", "sound", "both", "recorder", "all"};
+
+/* Constants are numbered from 20 on, in hexadecimal. */
+enum { NOTHING = 0x20, WHOLE = 0x21 };
+
+/* One command a line. */
+/* clang-format off */
+
+/* May a third thread hold a part as well? */
+static const uint8_t third_thread[] = {
+    0x01, ZIMORGAL_SATISFIABILITY, 5, 0, /* five free variables */
+    0x03, 0x00, 0x00, 0x00, 0x00,        /* NOTHING */
+    0x10, LIGHTS, SOUND, BOTH,           /* lights join sound is both */
+    0x10, BOTH, RECORDER, ALL,           /* both join recorder is all */
+    0x13, LIGHTS, NOTHING,               /* lights is not empty */
+    0x13, SOUND, NOTHING,                /* sound is not empty */
+    0x13, RECORDER, NOTHING,             /* recorder is not empty */
+    0x00,
+};
+
+/* Is there always a part left that would make theirs whole? The second system has one variable of its own. */
+enum { REST = BOTH + 1 };
+static const uint8_t part_left[] = {
+    0x01, ZIMORGAL_ENTAILMENT, 3, 1,     /* three free variables, one own */
+    0x03, 0x00, 0x00, 0x00, 0x00,        /* NOTHING */
+    0x03, 0xFF, 0xFF, 0xFF, 0xFF,        /* WHOLE */
+    0x10, LIGHTS, SOUND, BOTH,           /* lights join sound is both */
+    0x20, BOTH, REST, WHOLE,             /* then: both join rest is the whole */
+    0x23, REST, NOTHING,                 /* and rest is not empty */
+    0x00,
+};
+/* clang-format on */
+
+/* A question with a mistake: its clause names a second variable, and there is one. */
+static const uint8_t mistaken[] = {0x01, ZIMORGAL_SATISFIABILITY, 1, 0, 0x12, 0, 1, 0x00};
+
+/* The buffers that are lent. */
+static uint8_t answer[ZIMORGAL_ANSWER_BYTES];
+static uint8_t work[ZIMORGAL_WORK_BYTES];
+
+/* Writes the shares that the answer buffer shows, one for each free variable. */
+static void write_solution(unsigned variables) {
+    for (unsigned variable = 0; variable < variables; ++variable) {
+        const uint64_t row = zimorgal_row(answer, sizeof answer, variable);
+        uint8_t text[ZIMORGAL_TEXT_BYTES];
+        const uint64_t written =
+            zimorgal_text(answer + zimorgal_row_offset(row), zimorgal_row_length(row), text, sizeof text);
+        if (zimorgal_text_refusal(written) != ZIMORGAL_ACCEPTED) return;
+        printf("    %-10s%.*s\n", names[variable], (int)zimorgal_text_length(written), (const char *)text);
+    }
+}
+
+/* Asks, and writes the verdict and what is shown with it. */
+static void report(const char *asked, const uint8_t *question, size_t length) {
+    const uint64_t result = zimorgal_ask(question, length, answer, sizeof answer, work, sizeof work);
+    printf("%s\n  %s", asked, zimorgal_describe_verdict(zimorgal_verdict(result)));
+    if (zimorgal_verdict(result) == ZIMORGAL_REFUSED) {
+        printf(" at byte %u: %s\n", zimorgal_place(result), zimorgal_describe_refusal(zimorgal_refusal(result)));
+        return;
+    }
+    if (zimorgal_reason(result) != ZIMORGAL_NO_REASON)
+        printf(": %s", zimorgal_describe_reason(zimorgal_reason(result)));
+    if (zimorgal_reason(result) == ZIMORGAL_DISEQUATION_UNMET) printf(", number %u", zimorgal_disequation(result));
+    printf("\n");
+    /* A question that is not refused has a head: its kind is byte 1, its number of free variables byte 2. */
+    if (!zimorgal_shows(result, question[1])) return;
+    printf("  for instance, no taller than %u:\n", zimorgal_height_given(result));
+    write_solution(question[2]);
+}
+
+int main(void) {
+    if (zimorgal_version() != ZIMORGAL_VERSION) {
+        fprintf(stderr, "the header and the library are of two versions\n");
+        return 1;
+    }
+    report("Two threads hold parts of the cue list. May a third hold a part as well?", third_thread,
+           sizeof third_thread);
+    report("Is there always a part left that would make theirs whole?", part_left, sizeof part_left);
+    report("And a question with a mistake?", mistaken, sizeof mistaken);
+
+    const uint64_t joined = zimorgal_join(0x0000FFFF, 0xFFFF0000);
+    printf("Do the left half and the right half join?\n  %s", zimorgal_join_defined(joined) ? "yes" : "no");
+    if (zimorgal_join_defined(joined))
+        printf(", to a share of height %u", zimorgal_height(zimorgal_join_leaves(joined)));
+    printf("\n");
+    return 0;
+}

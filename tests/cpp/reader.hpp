@@ -1,0 +1,153 @@
+// A reader of questions, written from docs/FORMAT.md alone. It shares no code with the headers and the library, which it
+// is to be compared with.
+#ifndef ZIMORGAL_TESTS_READER_HPP
+#define ZIMORGAL_TESTS_READER_HPP
+
+#include <cstddef>
+#include <cstdint>
+#include <vector>
+
+namespace reader {
+
+enum class Sort { free, own, share };
+
+// A variable by its number among those of its sort, or a share by its leaves.
+struct Term {
+    Sort sort;
+    std::uint32_t value;
+};
+
+// With three terms a join, with two an equality.
+struct Clause {
+    bool second, negated;
+    std::vector<Term> terms;
+};
+
+struct Question {
+    bool entailment = false;
+    unsigned free = 0, own = 0;
+    std::vector<std::uint32_t> constants;
+    std::vector<Clause> clauses;
+};
+
+inline bool operator==(const Term& a, const Term& b) { return a.sort == b.sort && a.value == b.value; }
+inline bool operator==(const Clause& a, const Clause& b) {
+    return a.second == b.second && a.negated == b.negated && a.terms == b.terms;
+}
+inline bool operator==(const Question& a, const Question& b) {
+    return a.entailment == b.entailment && a.free == b.free && a.own == b.own && a.constants == b.constants &&
+           a.clauses == b.clauses;
+}
+
+// The refusal number, 0 for none, and the place.
+struct Reading {
+    unsigned refusal;
+    std::size_t place;
+    Question question;
+};
+
+namespace parts {
+
+// How many operand bytes a command has; -1 if there is no such command.
+inline int operands(unsigned command) {
+    switch (command) {
+        case 0x00: return 0;
+        case 0x01: return 3;
+        case 0x03: return 4;
+        case 0x10:
+        case 0x11:
+        case 0x20:
+        case 0x21: return 3;
+        case 0x12:
+        case 0x13:
+        case 0x22:
+        case 0x23: return 2;
+        default: return -1;
+    }
+}
+
+// Whether a term may stand in a clause of that system; if so, what it means.
+inline bool means(const Question& question, bool second, unsigned byte, Term& term) {
+    if (byte < question.free) {
+        term = {Sort::free, byte};
+        return true;
+    }
+    if (byte < question.free + question.own) {
+        term = {Sort::own, byte - question.free};
+        return second;
+    }
+    if (byte < 0x20 || byte - 0x20 >= question.constants.size()) return false;
+    term = {Sort::share, question.constants[byte - 0x20]};
+    return true;
+}
+
+// The fault of a head, 0 for none.
+inline unsigned head(const std::uint8_t* operand, Question& question) {
+    const unsigned kind = operand[0];
+    question.entailment = kind == 1;
+    question.free = operand[1];
+    question.own = operand[2];
+    return kind > 1 || question.free + question.own > 12 || (kind == 0 && question.own > 0) ? 5 : 0;
+}
+
+inline unsigned constant(const std::uint8_t* operand, Question& question) {
+    if (!question.clauses.empty()) return 4;
+    if (question.constants.size() == 32) return 6;
+    std::uint32_t leaves = 0;
+    for (unsigned leaf = 0; leaf < 32; ++leaf)
+        if (operand[leaf / 8] >> leaf % 8 & 1) leaves |= std::uint32_t{1} << leaf;
+    question.constants.push_back(leaves);
+    return 0;
+}
+
+inline unsigned clause(unsigned command, const std::uint8_t* operand, Question& question) {
+    Clause made{command >= 0x20, command % 2 == 1, {}};
+    if (made.second && !question.entailment) return 9;
+    unsigned alike = 0;
+    for (const Clause& other : question.clauses) alike += other.second == made.second && other.negated == made.negated;
+    if (alike == (made.negated ? 31u : 64u)) return 7;
+    for (int i = 0; i < operands(command); ++i) {
+        Term term{};
+        if (!means(question, made.second, operand[i], term)) return 8;
+        made.terms.push_back(term);
+    }
+    question.clauses.push_back(made);
+    return 0;
+}
+
+}  // namespace parts
+
+inline Reading read(const std::uint8_t* bytes, std::size_t length) {
+    Reading reading{0, 0, {}};
+    const auto refuse = [&](unsigned number, std::size_t place) {
+        reading.refusal = number;
+        reading.place = place;
+        return reading;
+    };
+    if (length == 0 || bytes[0] != 0x01) return refuse(1, 0);
+    std::size_t at = 0;
+    while (true) {
+        if (at == length) return refuse(2, length);
+        const unsigned command = bytes[at];
+        const int count = parts::operands(command);
+        if (count < 0) return refuse(3, at);
+        if (length - at - 1 < static_cast<std::size_t>(count)) return refuse(2, at);
+        const std::uint8_t* const operand = bytes + at + 1;
+        unsigned fault = 0;
+        if (command == 0x00) break;
+        if (command == 0x01)
+            fault = at > 0 ? 4 : parts::head(operand, reading.question);
+        else if (command == 0x03)
+            fault = parts::constant(operand, reading.question);
+        else
+            fault = parts::clause(command, operand, reading.question);
+        if (fault != 0) return refuse(fault, at);
+        at += 1 + static_cast<std::size_t>(count);
+    }
+    if (at + 1 < length) return refuse(10, at + 1);
+    return reading;
+}
+
+}  // namespace reader
+
+#endif

@@ -1,0 +1,16 @@
+/* Lends buffers; compiled with -DSHORT one of them is shorter than the call is told, and a compiler that knows the access
+   attribute says so. */
+#include "zimorgal.h"
+
+#ifdef SHORT
+#define ANSWER_BYTES 100
+#else
+#define ANSWER_BYTES ZIMORGAL_ANSWER_BYTES
+#endif
+
+int main(void) {
+    static const uint8_t question[] = {0x01, 0x00, 0x00, 0x00, 0x00};
+    uint8_t answer[ANSWER_BYTES], work[ZIMORGAL_WORK_BYTES];
+    const uint64_t result = zimorgal_ask(question, sizeof question, answer, ZIMORGAL_ANSWER_BYTES, work, sizeof work);
+    return zimorgal_verdict(result) != ZIMORGAL_YES;
+}

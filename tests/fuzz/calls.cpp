@@ -1,0 +1,229 @@
+// The C calls, for libFuzzer. The first byte of an input chooses the lengths of the lent buffers and what they hold, and
+// whether the rest is the question as it is, or numbers that one is made of which is accepted. What is checked of each call is in docs/SPEC.md: 4 and 7 for asking, 6 for rows and texts. That a
+// shown counterexample does not extend is left to tests/brute. tests/fuzz/run builds and runs it.
+#include <algorithm>
+#include <bitset>
+#include <cstdio>
+#include <cstdlib>
+#include <cstring>
+#include <memory>
+#include <string>
+#include <vector>
+
+#include "../cpp/reader.hpp"
+#include "zimorgal.h"
+
+namespace {
+
+using Bytes = std::vector<std::uint8_t>;
+
+void check(bool holds, const char* what) {
+    if (holds) return;
+    std::fprintf(stderr, "FAILED %s\n", what);
+    std::abort();
+}
+
+// Bytes on the heap, as many as are lent and no more, so that the sanitizer sees a step past them.
+struct Lent {
+    explicit Lent(const Bytes& bytes) : size(bytes.size()), data(new std::uint8_t[bytes.size()]) {
+        if (size > 0) std::memcpy(data.get(), bytes.data(), size);
+    }
+    Bytes now() const { return Bytes(data.get(), data.get() + size); }
+
+    std::size_t size;
+    std::unique_ptr<std::uint8_t[]> data;
+};
+
+// The least k with n <= 2^k.
+unsigned c(std::size_t n) {
+    unsigned k = 0;
+    while (n > std::size_t{1} << k) ++k;
+    return k;
+}
+
+// ---------------------------------------------------------------- Shares as 1,024 leaves
+
+using Row = std::bitset<1024>;
+
+Row row_of_leaves(std::uint32_t leaves) {
+    static const Row block(0xFFFFFFFF);
+    Row row;
+    for (std::size_t i = 0; i < 32; ++i)
+        if (leaves >> i & 1) row |= block << 32 * i;
+    return row;
+}
+
+Row row_of_bytes(const std::uint8_t* bytes) {
+    Row row;
+    for (std::size_t i = 128; i > 0; --i) row = row << 8 | Row(bytes[i - 1]);
+    return row;
+}
+
+// The leaves from one on, as tree text; and how tall that tree is.
+std::string text(const Row& row, std::size_t from, std::size_t width, unsigned& height) {
+    bool same = true;
+    for (std::size_t i = from + 1; same && i < from + width; ++i) same = row[i] == row[from];
+    height = 0;
+    if (same) return row[from] ? "*" : "o";
+    unsigned left = 0, right = 0;
+    const std::string halves = text(row, from, width / 2, left) + text(row, from + width / 2, width / 2, right);
+    height = 1 + std::max(left, right);
+    return "(" + halves + ")";
+}
+
+unsigned height(const Row& row) {
+    unsigned found = 0;
+    text(row, 0, 1024, found);
+    return found;
+}
+
+// A positive clause holds at every leaf, a disequation fails as a clause at one.
+bool holds(const reader::Clause& clause, const std::vector<Row>& variables) {
+    Row terms[3];
+    for (std::size_t i = 0; i < clause.terms.size(); ++i) {
+        const reader::Term& term = clause.terms[i];
+        terms[i] = term.sort == reader::Sort::share ? row_of_leaves(term.value) : variables[term.value];
+    }
+    const bool join = (terms[0] & terms[1]).none() && (terms[0] | terms[1]) == terms[2];
+    return (clause.terms.size() == 3 ? join : terms[0] == terms[1]) != clause.negated;
+}
+
+// ---------------------------------------------------------------- Questions made of numbers
+
+class Maker {
+  public:
+    Maker(const std::uint8_t* data, std::size_t size) : data_(data), end_(data + size) {}
+
+    Bytes make() {
+        const unsigned kind = below(2), free = below(13), own = kind == 0 ? 0 : below(13 - free), constants = below(7);
+        Bytes bytes = {0x01, byte(kind), byte(free), byte(own)};
+        for (unsigned i = 0; i < constants; ++i) {
+            // Blocks of 1, 2, 4, .. or 32 leaves, so that there are constants of every height.
+            const unsigned width = 1u << below(6);
+            std::uint32_t leaves = 0;
+            for (unsigned leaf = 0; leaf < 32; leaf += width)
+                if (below(2) == 1) leaves |= 0xFFFFFFFF >> (32 - width) << leaf;
+            bytes.insert(bytes.end(), {0x03, byte(leaves & 0xFF), byte(leaves >> 8 & 0xFF), byte(leaves >> 16 & 0xFF),
+                                       byte(leaves >> 24)});
+        }
+        unsigned left[2][2] = {{64, 31}, {64, 31}};
+        while (data_ < end_) {
+            const unsigned second = below(kind + 1), relation = below(4), named = second == 1 ? free + own : free;
+            if (named + constants == 0 || left[second][relation % 2]-- == 0) break;
+            bytes.push_back(byte(0x10 + 0x10 * second + relation));
+            for (unsigned i = 0; i < (relation < 2 ? 3u : 2u); ++i) {
+                const unsigned term = below(named + constants);
+                bytes.push_back(byte(term < named ? term : 0x20 + term - named));
+            }
+        }
+        bytes.push_back(0x00);
+        return bytes;
+    }
+
+  private:
+    static std::uint8_t byte(unsigned number) { return static_cast<std::uint8_t>(number); }
+    unsigned below(unsigned bound) { return data_ < end_ ? *data_++ % bound : 0; }
+
+    const std::uint8_t* data_;
+    const std::uint8_t* end_;
+};
+
+// ---------------------------------------------------------------- The calls
+
+// The row and the text call, on every row.
+std::vector<Row> rows(const Lent& answer) {
+    std::vector<Row> all;
+    for (std::size_t variable = 0; variable < 13; ++variable) {
+        const std::uint64_t part = zimorgal_row(answer.data.get(), answer.size, variable);
+        check(part == (variable < 12 ? std::uint64_t{128} << 32 | 128 * variable : 0), "place of a row");
+        if (variable == 12) break;
+        const std::uint8_t* const bytes = answer.data.get() + zimorgal_row_offset(part);
+        all.push_back(row_of_bytes(bytes));
+        unsigned tall = 0;
+        const std::string due = text(all.back(), 0, 1024, tall);
+        Lent fits(Bytes(due.size(), '#')), short_by_one(Bytes(due.size() - 1, '#'));
+        const std::uint64_t written = zimorgal_text(bytes, 128, fits.data.get(), fits.size);
+        check(written == due.size() && fits.now() == Bytes(due.begin(), due.end()), "text of a row");
+        check(zimorgal_text(bytes, 128, short_by_one.data.get(), short_by_one.size) == std::uint64_t{13} << 32 &&
+                  short_by_one.now() == Bytes(due.size() - 1, '#'),
+              "text that does not fit");
+    }
+    return all;
+}
+
+void shown(const reader::Question& question, const Lent& answer, unsigned given) {
+    const std::vector<Row> all = rows(answer);
+    for (std::size_t variable = 0; variable < 12; ++variable) {
+        check(height(all[variable]) <= given, "a shown tree is too tall");
+        check(variable < question.free || all[variable].none(), "the row of no free variable");
+    }
+    for (const reader::Clause& clause : question.clauses)
+        check(clause.second || holds(clause, all), "what is shown does not solve the first system");
+}
+
+// The height that is given with a shown solution.
+unsigned height_due(const reader::Question& question) {
+    unsigned tallest = 0;
+    std::size_t disequations = 0;
+    for (const std::uint32_t leaves : question.constants) {
+        check(zimorgal_height(leaves) == height(row_of_leaves(leaves)), "height of a constant");
+        tallest = std::max<unsigned>(tallest, zimorgal_height(leaves));
+    }
+    for (const reader::Clause& clause : question.clauses) disequations += clause.negated && !clause.second;
+    return tallest + c(disequations + question.entailment);
+}
+
+}  // namespace
+
+extern "C" int LLVMFuzzerTestOneInput(const std::uint8_t* data, std::size_t size) {
+    if (size == 0) return 0;
+    const unsigned choice = data[0];
+    const std::size_t answer_bytes = choice % 8 == 1 ? 1535 : choice % 8 == 2 ? 0 : 1536 + choice % 8;
+    const std::size_t work_bytes = choice / 8 % 8 == 1 ? 4095 : choice / 8 % 8 == 2 ? 0 : 4096 + choice / 8 % 8;
+    const bool made = choice / 64 % 2 == 1;
+    const Bytes bytes = made ? Maker(data + 1, size - 1).make() : Bytes(data + 1, data + size);
+    const Bytes answer_before(answer_bytes, static_cast<std::uint8_t>(choice / 128 * 0x55));
+    const Bytes work_before(work_bytes, static_cast<std::uint8_t>(~choice));
+    const Lent question(bytes), answer(answer_before), work(work_before);
+    const reader::Reading reading = reader::read(bytes.data(), bytes.size());
+    check(!made || reading.refusal == 0, "what is made is accepted");
+
+    const std::uint64_t result =
+        zimorgal_ask(question.data.get(), question.size, answer.data.get(), answer.size, work.data.get(), work.size);
+    check(question.now() == bytes, "the question is unchanged");
+
+    std::uint64_t refusal = reading.refusal << 8 | reading.place << 16;
+    if (refusal == 0 && answer_bytes < 1536) refusal = 11 << 8;
+    if (refusal == 0 && work_bytes < 4096) refusal = 12 << 8;
+    if (refusal != 0) {
+        check(result == refusal, "another refusal");
+        check(answer.now() == answer_before && work.now() == work_before, "a refusal leaves every byte unchanged");
+        return 0;
+    }
+
+    const reader::Question& asked = reading.question;
+    const bool shows = zimorgal_shows(result, asked.entailment) != 0;
+    const int verdict = zimorgal_verdict(result), reason = zimorgal_reason(result);
+    check((verdict == ZIMORGAL_YES || verdict == ZIMORGAL_NO) && result >> 56 == 0, "a verdict");
+    check(zimorgal_refusal(result) == 0 && zimorgal_place(result) == 0, "no refusal, no place");
+    check(zimorgal_height_given(result) == (shows ? height_due(asked) : 0), "the height given");
+    check(asked.entailment ? (verdict == ZIMORGAL_YES ? reason <= 1 : reason == 2 || reason == 3) : reason == 0,
+          "reason");
+    check(zimorgal_disequation(result) <= (reason == 3 ? 30 : 0), "a disequation");
+
+    Bytes answer_due = answer.now(), work_due = work_before;
+    std::fill(work_due.begin(), work_due.begin() + 4096, std::uint8_t{0});
+    check(work.now() == work_due, "the work area is cleared");
+    if (shows) answer_due.erase(answer_due.begin(), answer_due.begin() + 1536);
+    check(
+        answer_due == Bytes(answer_before.end() - static_cast<std::ptrdiff_t>(answer_due.size()), answer_before.end()),
+        "bytes that nothing is shown in");
+    if (shows) shown(asked, answer, zimorgal_height_given(result));
+
+    const Lent again(answer_before), work_again(work_before);
+    check(zimorgal_ask(question.data.get(), question.size, again.data.get(), again.size, work_again.data.get(),
+                       work_again.size) == result &&
+              again.now() == answer.now(),
+          "the same question again");
+    return 0;
+}
