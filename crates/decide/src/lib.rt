@@ -1,7 +1,6 @@
 // Deciding a question that was read: which searches have a solution, and the plan of the one to show.
 use plans::Plan;
 use plans::Search;
-use plans::Solved;
 use questions::Question;
 ghost use mathlib.Core.Path.{_≡_};
 ghost use Prim.Native.Nat.{ℕ, _^_, _<_, _≤_, max};
@@ -9,8 +8,7 @@ ghost use lib.ListN.{length, getD, take};
 ghost use Rattle.shares.specs.Constant.{constantLevels};
 ghost use Rattle.systems.specs.Questions.{Question as Asked, entailment, WellFormed, tallestConstant, questionHeight};
 ghost use Rattle.questions.specs.Stored.{storedOf, Stands};
-ghost use Rattle.plans.specs.Tests.{Readable, Named};
-ghost use Rattle.plans.specs.Entries.{SolvedAs};
+ghost use Rattle.plans.specs.Tests.{Readable};
 ghost use Rattle.decide.specs.Decision.{Standing, Decided};
 
 // What deciding finds. Of a question of satisfiability: a solution; none. Of an entailment: the first system has no solution; every
@@ -30,6 +28,8 @@ pub struct Decision {
     pub finding: Finding,
     pub plan: Plan,
 }
+
+// ---- the question
 
 // The number of constant i.
 fn number_of(constants: &[u64; 32], i: usize) -> u64
@@ -64,13 +64,12 @@ fn question_height(constants: &[u64; 32], defined: usize) -> usize
     h
 }
 
-// Searches a question at its 2^h leaves.
-fn solve(question: Question, clauses: &[u8; 768], h: usize, search: Search) -> Solved
-    requires { ⌜ Readable (now clauses) (question .counts) (question .free) (question .own) ⌝ }
-    requires { ⌜ Named (question .counts) search × (question .defined ≤ 32) × (h ≤ 5) ⌝ }
-    ensures { λ r. ⌜ SolvedAs (storedOf question (now (clauses .entry))) h search r ⌝ }
+// Decides an entailment at its 2^h leaves.
+fn decide_entailment(question: Question, clauses: &[u8; 768], h: usize) -> Decision
+    requires { ⌜ Readable (now clauses) (question .counts) (question .free) (question .own) × (question .defined ≤ 32) × (h ≤ 5) ⌝ }
+    ensures { λ r. ⌜ ((q : Asked) → Stands (question .kind) (storedOf question (now (clauses .entry))) q → q .kind ≡ entailment → h ≡ questionHeight q → Decided q r) ⌝ }
 {
-    plans::solve(
+    let unmet = plans::solve(
         clauses,
         &question.counts,
         &question.constants,
@@ -78,16 +77,8 @@ fn solve(question: Question, clauses: &[u8; 768], h: usize, search: Search) -> S
         question.free,
         question.own,
         h,
-        search,
-    )
-}
-
-// Decides an entailment at its 2^h leaves.
-fn decide_entailment(question: Question, clauses: &[u8; 768], h: usize) -> Decision
-    requires { ⌜ Readable (now clauses) (question .counts) (question .free) (question .own) × (question .defined ≤ 32) × (h ≤ 5) ⌝ }
-    ensures { λ r. ⌜ ((q : Asked) → Stands (question .kind) (storedOf question (now (clauses .entry))) q → q .kind ≡ entailment → h ≡ questionHeight q → Decided q r) ⌝ }
-{
-    let unmet = solve(question, clauses, h, Search::Unmet);
+        Search::Unmet,
+    );
     let plan = unmet.plan;
     if !unmet.plainly {
         return Decision {
@@ -111,7 +102,16 @@ fn decide_entailment(question: Question, clauses: &[u8; 768], h: usize) -> Decis
         h,
     );
     if j < question.counts[3] {
-        let missed = solve(question, clauses, h, Search::Missed(j));
+        let missed = plans::solve(
+            clauses,
+            &question.counts,
+            &question.constants,
+            question.defined,
+            question.free,
+            question.own,
+            h,
+            Search::Missed(j),
+        );
         let shown = missed.plan;
         return Decision {
             finding: Finding::Missed(j),
@@ -131,7 +131,16 @@ pub fn decide(question: Question, clauses: &[u8; 768]) -> Decision
 {
     let h = question_height(&question.constants, question.defined);
     if question.kind == 0 {
-        let first = solve(question, clauses, h, Search::First);
+        let first = plans::solve(
+            clauses,
+            &question.counts,
+            &question.constants,
+            question.defined,
+            question.free,
+            question.own,
+            h,
+            Search::First,
+        );
         let plan = first.plan;
         if first.found {
             return Decision {

@@ -13,19 +13,19 @@ question-height-requires c κs = search needs
 
 solve-requires : tie.Need-solve-requires
 solve-requires c κs =
-    let h = c .before in
+    let h = c .before .before .before .before in
     let (q, St, _) = h .before .before .before .pre in
     (readable _ q St, (tt, St .constantCounted, omega (arith, question-low _ q St, h .question-height .ensures ∙ height-is _ q St)))
 
 returns : tie.Need-returns
 returns c =
-    λ q St F. decided-satisfied _ q St (question-low _ q St) _ (solved-at _ q St (c .before .before .before .before .question-height .ensures ∙ height-is _ q St) (c .before .before .solve .ensures))
-    (kind-satisfiability _ q St (c .before .before .before .if1 .taken)) (c .if2 .taken)
+    λ q St F. decided-satisfied _ q St (question-low _ q St) _ (solved-at _ q St (c .before .before .before .before .before .before .before .question-height .ensures ∙ height-is _ q St) (c .before .before .solve .ensures))
+    (kind-satisfiability _ q St (c .before .before .before .before .before .before .if1 .taken)) (c .if2 .taken)
 
 returns-2 : tie.Need-returns-2
 returns-2 c =
-    λ q St F. decided-unsatisfied _ q St (question-low _ q St) _ (solved-at _ q St (c .before .before .before .before .question-height .ensures ∙ height-is _ q St) (c .before .before .solve .ensures))
-    (kind-satisfiability _ q St (c .before .before .before .if1 .taken)) (c .if2 .left)
+    λ q St F. decided-unsatisfied _ q St (question-low _ q St) _ (solved-at _ q St (c .before .before .before .before .before .before .before .question-height .ensures ∙ height-is _ q St) (c .before .before .solve .ensures))
+    (kind-satisfiability _ q St (c .before .before .before .before .before .before .if1 .taken)) (c .if2 .left)
 
 decide-entailment-requires : tie.Need-decide-entailment-requires
 decide-entailment-requires c κs =

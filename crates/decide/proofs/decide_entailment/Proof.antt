@@ -24,15 +24,16 @@ element-copy-out-if3 c = search needs
 
 solve-requires-2 : tie.Need-solve-requires-2
 solve-requires-2 c κs =
-    let start = c .before .before .before .before .before .before .before .before .before .before .before in
-    (start .pre .0, (c .if3 .taken, start .pre .1, start .pre .2))
+    let test = c .before .before .before in
+    let start = test .before .before .before .before .before .before .before .before .before .before .before .before .before .before in
+    (start .pre .0, (test .if3 .taken, start .pre .1, start .pre .2))
 
 returns-3 : tie.Need-returns-3
 returns-3 c =
-    let low = c .before .before .before .before in
+    let low = c .before .before .before .before .before .before .before in
     let first = low .before .before .before .before .before in
     λ q St k e. decided-missed _ q St (question-low _ q St) _ (solved-at _ q St e (first .before .before .before .solve .ensures)) k (flip _ (first .if1 .left)) (low .before .before .before .before .if2 .left)
-    _ (lowest-at _ q St e (low .lowest-missed .ensures)) (c .before .before .if3 .taken) _ (solved-at _ q St e (c .before .solve2 .ensures))
+    _ (lowest-at _ q St e (low .lowest-missed .ensures)) (c .before .before .before .before .before .if3 .taken) _ (solved-at _ q St e (c .before .solve2 .ensures))
 
 returns-4 : tie.Need-returns-4
 returns-4 c =
