@@ -29,8 +29,6 @@ pub struct Decision {
     pub plan: Plan,
 }
 
-// ---- the question
-
 // The number of constant i.
 fn number_of(constants: &[u64; 32], i: usize) -> u64
     requires { ⌜ i < 32 ⌝ }
