@@ -1,13 +1,14 @@
 -- Laws of clauses: the tests by Boolean operations, and the terms that a section reads. Assumes nothing.
-use mathlib.Core.Path.{_≡_, refl, ap, ap₂, _∙_}
+use mathlib.Core.Path.{_≡_, refl, sym, ap, ap₂, _∙_}
 use mathlib.Core.Bool.{Bool, true, false, not, xor, _&&_, _||_, Bool·beq}
 use mathlib.Core.List.{List}
 use Prim.Native.Nat.{ℕ, _+_, _-_, _*_, _^_, _≤_, _<_}
 use native.Mathlib.Nat.{add-assoc}
+use native.Mathlib.Numerals.{add-one}
 use native.Mathlib.Omega.{arith}
 use lib.Bits.{bitAnd, bitOr, bitXor, or-lt, and-lt, xor-lt}
 use lib.ListN.{getD}
-use Rattle.shares.specs.BelowLaws.{every-ext}
+use Rattle.shares.specs.BelowLaws.{every-ext, every-more, every-stays}
 use Rattle.shares.specs.Constant.{bit}
 use Rattle.shares.specs.BitLaws.{bit-and, bit-or, bit-xor}
 use Rattle.shares.specs.BitParts.{bit-not}
@@ -73,3 +74,17 @@ unfolding allClauses
 section-ext x y {clauses} {start} {count} c h =
     every-ext count (λ k. clauseTest clauses x (start + 4 * k)) (λ k. clauseTest clauses y (start + 4 * k))
     (λ k l. clause-ext x y (clauses-at c k l) h)
+
+-- a bit that passes the first k clauses of a section, and one more
+pub section-more : (b : Bool) (clauses : List ℕ) (x : ℕ → Bool) (start k : ℕ)
+    → ((b && allClauses clauses x start k) && clauseTest clauses x (start + 4 * k)) ≡ (b && allClauses clauses x start (k + 1))
+unfolding allClauses
+section-more true clauses x start k = sym (rw (add-one k) (every-more k (λ k. clauseTest clauses x (start + 4 * k))))
+section-more false clauses x start k = refl
+
+-- where a bit fails the first k clauses of a section, it fails them all
+pub section-stays : (b : Bool) (clauses : List ℕ) (x : ℕ → Bool) (start k count : ℕ) → k ≤ count → (b && allClauses clauses x start k) ≡ false
+    → (b && allClauses clauses x start count) ≡ false
+unfolding allClauses
+section-stays true clauses x start k count h e = every-stays count k (λ k. clauseTest clauses x (start + 4 * k)) h e
+section-stays false clauses x start k count h e = refl

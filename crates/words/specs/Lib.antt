@@ -3,7 +3,7 @@ pub mod Choices
 pub mod Table
 pub mod ClauseLaws
 pub mod TermLaws
-pub mod TableLaws
-pub mod LowestLaws
 pub mod Stores
+pub mod LowestLaws
+pub mod TableLaws
 pub mod Shifts

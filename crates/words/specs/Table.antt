@@ -1,5 +1,6 @@
 -- The table of terms: a word for each term, with its values in the 64 choices of one word. Assumes nothing.
 use mathlib.Core.Path.{_≡_}
+use mathlib.Core.Bool.{false}
 use mathlib.Core.List.{List}
 use Prim.Native.Nat.{ℕ, _+_, _-_, _*_, _≤_, _<_}
 use lib.ListN.{getD}
@@ -23,7 +24,11 @@ pub record Changed (n m from w : ℕ) (old new : List ℕ) : Type 0 where
   pub set : (t : ℕ) → t < n + m → from ≤ position n m t → Digits n m w t (getD new t 0)
   pub kept : (t : ℕ) → (t < n + m → position n m t < from) → getD new t 0 ≡ getD old t 0
 
--- the words from 32 are those of the constants, and every other word is as it was
-pub record ConstantWords (values : ℕ) (old new : List ℕ) : Type 0 where
-  pub set : (t : ℕ) → 32 ≤ t → t < 64 → (i : ℕ) → i < 64 → bit (getD new t 0) i ≡ bit values (t - 32)
-  pub kept : (t : ℕ) → t < 32 → getD new t 0 ≡ getD old t 0
+-- only the first `count` values are set
+abbrev pub Within : ℕ → ℕ → Type 0
+Within count values = (i : ℕ) → count ≤ i → bit values i ≡ false
+
+-- the words of the first `count` constants are those of their values, and every other word is as it was
+pub record ConstantWords (count values : ℕ) (old new : List ℕ) : Type 0 where
+  pub set : (i : ℕ) → i < count → (k : ℕ) → k < 64 → bit (getD new (32 + i) 0) k ≡ bit values i
+  pub kept : (t : ℕ) → (32 ≤ t → 32 + count ≤ t) → getD new t 0 ≡ getD old t 0

@@ -1,17 +1,18 @@
 -- Laws of the table of terms: how it is started and moved, and what clauses say of it. Assumes nothing.
-use mathlib.Core.Path.{_≡_, sym, ap, ap₂, _∙_}
-use mathlib.Core.Bool.{not, _&&_}
+use mathlib.Core.Path.{_≡_, refl, sym, ap, ap₂, _∙_, subst}
+use mathlib.Core.Bool.{false, not, _&&_}
 use mathlib.Core.List.{List}
-use Prim.Native.Nat.{ℕ, _+_, _*_, _^_, _≤_, _<_}
+use Prim.Native.Nat.{ℕ, _+_, _-_, _*_, _^_, _≤_, _<_}
 use native.Mathlib.Decide.{decLt, decLe}
 use native.Mathlib.Omega.{arith}
-use lib.ListN.{getD}
+use lib.ListN.{length, getD, set}
 use Rattle.shares.specs.Constant.{bit}
 use Rattle.shares.specs.BitLaws.{bit-zero}
 use Rattle.words.specs.Clause.{clauseTest, allClauses, position, termValue, Clauses}
 use Rattle.words.specs.ClauseLaws.{clause-ext, section-ext}
 use Rattle.words.specs.Choices.{allPass, clauseFails, allPassBut}
-use Rattle.words.specs.Table.{Terms, Changed, ConstantWords}
+use Rattle.words.specs.Table.{Terms, Changed, Within, ConstantWords}
+use Rattle.words.specs.Stores.{store-law}
 use Rattle.words.specs.TermLaws.{value-variable, value-constant, value-none, value-fixed}
 use Rattle.shares.specs.BitParts.{bit-low}
 
@@ -22,18 +23,51 @@ low-digit w v i p h l = here w ∙ sym (here v)
     here : (u : ℕ) → bit (64 * u + i) p ≡ bit i p
     here u = let e : 64 * u + i ≡ u * 2 ^ 6 + i = omega arith in ap (λ z. bit z p) e ∙ bit-low 6 u i h p l
 
-pub terms-started : (n m values : ℕ) (zero first last : List ℕ) → n + m ≤ 12 → ((t : ℕ) → t < 32 → getD zero t 0 ≡ 0)
-    → ConstantWords values zero first → Changed n m 0 0 first last → Terms n m values 0 last
-terms-started n m values zero first last h none c v t l i k = go (decLt t (n + m)) (decLt t 32)
+-- a table of zeros, once the variables are set
+pub terms-started : (n m : ℕ) (zero last : List ℕ) → ((t : ℕ) → t < 64 → getD zero t 0 ≡ 0) → Changed n m 0 0 zero last → Terms n m 0 0 last
+terms-started n m zero last none v t l i k = go (decLt t (n + m)) (decLt t 32)
   where
-    go : Dec (t < n + m) → Dec (t < 32) → bit (getD last t 0) i ≡ termValue n m values (64 * 0 + i) t
-    go (yes a) d = v .set t a (omega arith) i k ∙ sym (value-variable n m values (64 * 0 + i) t a)
-    go (no a) (yes b) =
-        ap (λ x. bit x i) (v .kept t (λ q. absurd (a q)) ∙ c .kept t b ∙ none t b) ∙ bit-zero i
-        ∙ sym (value-none n m values (64 * 0 + i) t (omega arith) b)
-    go (no a) (no b) =
-        ap (λ x. bit x i) (v .kept t (λ q. absurd (a q))) ∙ c .set t (omega arith) l i k
-        ∙ sym (value-constant n m values (64 * 0 + i) t (omega arith) (omega arith))
+    blank : n + m ≤ t → bit (getD last t 0) i ≡ false
+    blank g = ap (λ x. bit x i) (v .kept t (λ q. absurd (omega arith)) ∙ none t l) ∙ bit-zero i
+
+    go : Dec (t < n + m) → Dec (t < 32) → bit (getD last t 0) i ≡ termValue n m 0 (64 * 0 + i) t
+    go (yes a) d = v .set t a (omega arith) i k ∙ sym (value-variable n m 0 (64 * 0 + i) t a)
+    go (no a) (yes b) = blank (omega arith) ∙ sym (value-none n m 0 (64 * 0 + i) t (omega arith) b)
+    go (no a) (no b) = blank (omega arith) ∙ sym (value-constant n m 0 (64 * 0 + i) t (omega arith) (omega arith) ∙ bit-zero (t - 32))
+
+-- the words of constants, one by one
+pub constants-none : (values : ℕ) (old : List ℕ) → ConstantWords 0 values old old
+constants-none values old = record { set = λ i l. absurd (omega arith); kept = λ t h. refl }
+
+pub constants-more : (values : ℕ) (old terms : List ℕ) (i x : ℕ) → 32 + i < length terms → ((k : ℕ) → k < 64 → bit x k ≡ bit values i)
+    → ConstantWords i values old terms → ConstantWords (i + 1) values old (set terms (32 + i) x)
+constants-more values old terms i x room bits c = record {
+  set = λ j l. store-law (λ t y. (j : ℕ) → t ≡ 32 + j → j < i + 1 → (k : ℕ) → k < 64 → bit y k ≡ bit values j) terms (32 + i) x room
+      (λ t n j e m. subst (λ t. (k : ℕ) → k < 64 → bit (getD terms t 0) k ≡ bit values j) (sym e) (c .set j (omega arith)))
+      (λ j e m k h. bits k h ∙ ap (bit values) (omega arith)) (32 + j) j refl l;
+  kept = λ t h. store-law (λ t y. (32 ≤ t → 32 + (i + 1) ≤ t) → y ≡ getD old t 0) terms (32 + i) x room
+      (λ t n h. c .kept t (λ q. omega (arith, h q))) (λ h. absurd (omega (arith, h (omega arith)))) t h;
+}
+
+-- other values of the constants
+pub terms-changed : (n m count values old w : ℕ) (terms new : List ℕ) → n + m ≤ 12 → count ≤ 32 → Within count old → Within count values
+    → ConstantWords count values terms new → Terms n m old w terms → Terms n m values w new
+terms-changed n m count values old w terms new h few wo wv c r t l i k = go (decLt t (n + m)) (decLt t 32) (decLt t (32 + count))
+  where
+    go : Dec (t < n + m) → Dec (t < 32) → Dec (t < 32 + count) → bit (getD new t 0) i ≡ termValue n m values (64 * w + i) t
+    go (yes a) _ _ =
+        ap (λ x. bit x i) (c .kept t (λ q. absurd (omega arith))) ∙ r t l i k ∙ value-variable n m old (64 * w + i) t a
+        ∙ sym (value-variable n m values (64 * w + i) t a)
+    go (no a) (yes b) _ =
+        ap (λ x. bit x i) (c .kept t (λ q. absurd (omega arith))) ∙ r t l i k ∙ value-none n m old (64 * w + i) t (omega arith) b
+        ∙ sym (value-none n m values (64 * w + i) t (omega arith) b)
+    go (no a) (no b) (yes d) =
+        let e : 32 + (t - 32) ≡ t = omega arith in
+        ap (λ j. bit (getD new j 0) i) (sym e) ∙ c .set (t - 32) (omega arith) i k
+        ∙ sym (value-constant n m values (64 * w + i) t (omega arith) (omega arith))
+    go (no a) (no b) (no d) =
+        ap (λ x. bit x i) (c .kept t (λ q. omega arith)) ∙ r t l i k ∙ value-constant n m old (64 * w + i) t (omega arith) (omega arith)
+        ∙ wo (t - 32) (omega arith) ∙ sym (value-constant n m values (64 * w + i) t (omega arith) (omega arith) ∙ wv (t - 32) (omega arith))
 
 pub terms-moved : (n m w : ℕ) (old new : List ℕ) → Changed n m 6 w old new → (values v : ℕ) → Terms n m values v old → Terms n m values w new
 terms-moved n m w old new c values v r t l i k = go (decLt t (n + m)) (decLe 6 (position n m t))

@@ -1,6 +1,6 @@
 // Clauses at one leaf for 64 choices of Boolean values at a time: bit i of word w is choice 64 * w + i.
 ghost use mathlib.Core.Path.{_≡_};
-ghost use mathlib.Core.Bool.{Bool·beq, _&&_};
+ghost use mathlib.Core.Bool.{Bool·beq, _&&_, not};
 ghost use Prim.Native.Nat.{ℕ, _+_, _-_, _*_, _^_, _<_, _≤_};
 ghost use lib.Dec.{ltb};
 ghost use lib.ListN.{length, getD};
@@ -8,8 +8,8 @@ ghost use Rattle.shares.specs.Below.{firstBelow};
 ghost use Rattle.shares.specs.Constant.{bit};
 ghost use Rattle.shares.specs.Tree.{joins};
 ghost use Rattle.words.specs.Clause.{testValue, clauseTest, allClauses, position, Clauses};
-ghost use Rattle.words.specs.Choices.{wordCount, valuesAt, clauseFails};
-ghost use Rattle.words.specs.Table.{TermWord, Terms, Changed, ConstantWords};
+ghost use Rattle.words.specs.Choices.{wordCount, valuesAt};
+ghost use Rattle.words.specs.Table.{Terms, Changed, Within};
 
 // Bit i of the result is the test of a join at the bits i of a, b and c.
 fn join_word(a: u64, b: u64, c: u64) -> u64
@@ -57,12 +57,26 @@ pub fn clause_word(terms: &[u64; 64], clauses: &[u8; 768], at: usize) -> u64
     test_word(clauses[at], a, b, c)
 }
 
-// Bit i of the result says whether all clauses of the section pass, where term t has bit i of terms[t] for its value.
-pub fn section_word(terms: &[u64; 64], clauses: &[u8; 768], start: usize, count: usize) -> u64
-    requires { ⌜ Clauses (now clauses) start count ⌝ }
-    ensures { λ r. ⌜ ((i : ℕ) → i < 64 → bit r i ≡ allClauses (now (clauses .entry)) (λ t. bit (getD (now (terms .entry)) t 0) i) start count) ⌝ }
+// The bits of x at which the clause at byte `at` fails, where term t has bit i of terms[t] for its value.
+pub fn failing_word(terms: &[u64; 64], clauses: &[u8; 768], at: usize, x: u64) -> u64
+    requires { ⌜ Clauses (now clauses) at 1 ⌝ }
+    ensures { λ r. ⌜ ((i : ℕ) → i < 64 → bit r i ≡ (bit x i && not (clauseTest (now (clauses .entry)) (λ t. bit (getD (now (terms .entry)) t 0) i) at))) ⌝ }
 {
-    let mut r: u64 = 0xFFFF_FFFF_FFFF_FFFF;
+    x & !clause_word(terms, clauses, at)
+}
+
+// The bits of x at which all clauses of the section pass, where term t has bit i of terms[t] for its value.
+pub fn section_word(
+    terms: &[u64; 64],
+    clauses: &[u8; 768],
+    start: usize,
+    count: usize,
+    x: u64,
+) -> u64
+    requires { ⌜ Clauses (now clauses) start count ⌝ }
+    ensures { λ r. ⌜ ((i : ℕ) → i < 64 → bit r i ≡ (bit x i && allClauses (now (clauses .entry)) (λ t. bit (getD (now (terms .entry)) t 0) i) start count)) ⌝ }
+{
+    let mut r = x;
     let mut k: usize = 0;
     while k < count {
         if r == 0 {
@@ -124,21 +138,6 @@ fn digit_word(p: usize, w: usize) -> u64
     spread(basics::digit(w as u64, p - 6))
 }
 
-// The word at w of the term whose number is byte `at`, where there are no own variables.
-fn value_word(clauses: &[u8; 768], at: usize, n: usize, values: u64, w: usize) -> u64
-    requires { ⌜ (n ≤ 12) × (at < 768) × (getD (now clauses) at 0 < 64) ⌝ }
-    ensures { λ r. ⌜ TermWord n 0 values w (getD (now (clauses .entry)) at 0) r ⌝ }
-{
-    let t = basics::index(clauses[at]);
-    if t < n {
-        return digit_word(n - 1 - t, w);
-    }
-    if t < 32 {
-        return 0;
-    }
-    spread(basics::digit(values, t - 32))
-}
-
 // The variable that has digit p. A variable is found from its digit as the digit is from the variable.
 fn variable_at(n: usize, m: usize, p: usize) -> usize
     requires { ⌜ (n + m ≤ 12) × (p < n + m) ⌝ }
@@ -150,18 +149,15 @@ fn variable_at(n: usize, m: usize, p: usize) -> usize
     2 * n + m - 1 - p
 }
 
-// Puts the words of the constants into a table that is empty there, from term 32 to the last that is not 0.
-fn set_constants(values: u64, terms: &mut [u64])
-    requires { ⌜ (length (now terms) ≡ 64) × ((t : ℕ) → 32 ≤ t → t < 64 → getD (now terms) t 0 ≡ 0) ⌝ }
-    ensures { λ r. ⌜ ConstantWords values (now (terms .entry)) (now (terms .exit)) ⌝ }
+// Puts the words of the first `count` constants into the table of terms, in place of those of other values.
+pub fn set_constants(values: u64, count: usize, terms: &mut [u64])
+    requires { ⌜ (count ≤ 32) × (length (now terms) ≡ 64) ⌝ }
+    ensures { λ r. ⌜ ((n m old w : ℕ) → n + m ≤ 12 → Within count old → Within count values → Terms n m old w (now (terms .entry)) → Terms n m values w (now (terms .exit))) ⌝ }
 {
-    let mut t: usize = 32;
-    while t < 64 {
-        if values >> (t - 32) == 0 {
-            return;
-        }
-        terms[t] = spread(basics::digit(values, t - 32));
-        t += 1;
+    let mut i: usize = 0;
+    while i < count {
+        terms[32 + i] = spread(basics::digit(values, i));
+        i += 1;
     }
 }
 
@@ -178,12 +174,11 @@ fn set_variables(n: usize, m: usize, from: usize, w: usize, terms: &mut [u64])
     }
 }
 
-// Makes the table of terms at word 0 of a table that is empty.
-pub fn start_terms(n: usize, m: usize, values: u64, terms: &mut [u64])
+// Makes the table of terms at word 0 of a table that is empty, where all constants are 0.
+pub fn start_terms(n: usize, m: usize, terms: &mut [u64])
     requires { ⌜ (n + m ≤ 12) × (length (now terms) ≡ 64) × ((t : ℕ) → t < 64 → getD (now terms) t 0 ≡ 0) ⌝ }
-    ensures { λ r. ⌜ Terms n m values 0 (now (terms .exit)) ⌝ }
+    ensures { λ r. ⌜ Terms n m 0 0 (now (terms .exit)) ⌝ }
 {
-    set_constants(values, terms);
     set_variables(n, m, 0, 0, terms);
 }
 
@@ -200,18 +195,6 @@ pub fn lowest(x: u64) -> usize
     ensures { λ r. ⌜ r ≡ firstBelow 64 (bit x) ⌝ }
 {
     u64::trailing_zeros(x) as usize
-}
-
-// The choices of word w in which the clause at byte `at` fails, where there are no own variables.
-pub fn fails_word(clauses: &[u8; 768], at: usize, n: usize, values: u64, w: usize) -> u64
-    requires { ⌜ n ≤ 12 ⌝ }
-    requires { ⌜ Clauses (now clauses) at 1 ⌝ }
-    ensures { λ r. ⌜ ((i : ℕ) → i < 64 → bit r i ≡ clauseFails (now (clauses .entry)) at n 0 values (64 * w + i)) ⌝ }
-{
-    let a = value_word(clauses, at + 1, n, values, w);
-    let b = value_word(clauses, at + 2, n, values, w);
-    let c = value_word(clauses, at + 3, n, values, w);
-    !test_word(clauses[at], a, b, c)
 }
 
 // How many words hold 2^d choices.
