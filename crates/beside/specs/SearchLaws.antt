@@ -13,15 +13,6 @@ use Rattle.shares.specs.BelowLaws.{first-least, first-below, first-is}
 use Rattle.shares.specs.Constant.{bit}
 use Rattle.shares.specs.BitLaws.{bit-zero}
 use Rattle.words.specs.LowestLaws.{lowest-lt}
-use Rattle.sets.specs.Sets.{inSet, Words}
-
--- bit i of word w stands for choice 64 * w + i
-pub in-word : (set : List ℕ) (w i : ℕ) → i < 64 → inSet set (64 * w + i) ≡ bit (getD set w 0) i
-unfolding inSet
-in-word set w i h =
-    let e : (64 * w + i) / 64 ≡ w = omega arith in
-    let f : (64 * w + i) % 64 ≡ i = omega arith in
-    ap₂ (λ u v. bit (getD set u 0) v) e f
 
 -- what fails below 64 * w, and at the d choices from there, fails below 64 * w + d
 pub none-more : (p : ℕ → Bool) (w d : ℕ) → ((z : ℕ) → z < 64 * w → p z ≡ false) → ((i : ℕ) → i < d → p (64 * w + i) ≡ false)
@@ -45,9 +36,3 @@ pub none-in-word : (p : ℕ → Bool) (w x : ℕ) → x ≡ 0 → ((z : ℕ) →
     → ((i : ℕ) → i < 64 → bit x i ≡ p (64 * w + i)) → (z : ℕ) → z < 64 * (w + 1) → p z ≡ false
 none-in-word p w x e before word z l =
     none-more p w 64 before (λ i k. sym (word i k) ∙ ap (λ y. bit y i) e ∙ bit-zero i) z (omega arith)
-
--- words that are the set of the choices that pass p
-pub words-set : (set : List ℕ) (count : ℕ) (p : ℕ → Bool) → Words count (λ w. getD set w 0) p → (z : ℕ) → z < 64 * count → inSet set z ≡ p z
-words-set set count p h z l =
-    let e : 64 * (z / 64) + z % 64 ≡ z = omega arith in
-    ap (inSet set) (sym e) ∙ in-word set (z / 64) (z % 64) (mod-lt z (omega arith)) ∙ h (z / 64) (omega arith) (z % 64) (mod-lt z (omega arith)) ∙ ap p e

@@ -1,4 +1,4 @@
--- `sets::merge_word` meets its contract. The loop's invariant: the word is or-ed with itself under the digits from n to p. Assumes nothing.
+-- `beside::merge_word` meets its contract. The loop's invariant: the word is or-ed with itself under the digits from n to p. Assumes nothing.
 use mathlib.Core.Path.{_≡_, sym, ap, _∙_, subst}
 use mathlib.Core.Bool.{_||_}
 use Prim.Native.Nat.{_+_, _-_, _*_, _%_, _^_, _≤_, _<_}
@@ -7,11 +7,11 @@ use lib.Pow.{pow-pos, pow-lt}
 use Rattle.shares.specs.Constant.{bit}
 use Rattle.shares.specs.BitLaws.{bit-or}
 use Rattle.words.specs.Shifts.{power-shift}
-use Rattle.sets.specs.GatherLaws.{merged-same}
-use Rattle.sets.specs.MergeLaws.{merge-start, merge-more, merge-whole}
-use Rattle.sets.specs.Sets.{MergedTo}
-use Rattle.sets.proofs.merge_word.Statement.{statement}
-use Rattle.sets.proofs.merge_word.Tie as tie
+use Rattle.beside.specs.GatherLaws.{merged-same}
+use Rattle.beside.specs.MergeLaws.{merge-start, merge-more, merge-whole}
+use Rattle.beside.specs.Beside.{MergedTo}
+use Rattle.beside.proofs.merge_word.Statement.{statement}
+use Rattle.beside.proofs.merge_word.Tie as tie
 
 abbrev Inv-loop : tie.InvT-loop
 Inv-loop x n r₀ p₀ r p = (n ≤ p) × (p ≤ 6) × MergedTo n p x r

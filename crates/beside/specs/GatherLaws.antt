@@ -19,7 +19,7 @@ use Rattle.shares.specs.BelowLaws.{some-found, some-intro, some-more, first-lon
 use Rattle.shares.specs.Constant.{bit}
 use Rattle.shares.specs.BitLaws.{bit-zero}
 use Rattle.words.specs.Choices.{wordCount, someOwn, Periodic}
-use Rattle.sets.specs.Sets.{Words, Gathered, Merged}
+use Rattle.beside.specs.Beside.{Merged}
 
 -- ---- a free choice in a word
 
@@ -124,45 +124,6 @@ own-none n p periodic z =
     ap (λ k. k + z % 2 ^ n) (zero-mul (2 ^ n)) ∙ zero-add (z % 2 ^ n) ∙ ap (λ k. z % 2 ^ k) (sym (add-zero n)) in
     or-false (p (0 * 2 ^ n + z % 2 ^ n)) ∙ ap p e ∙ sym (periodic z)
 
-pub own-none-words : (n : ℕ) (p : ℕ → Bool) (word : ℕ → ℕ) → Periodic (n + 0) p → Words (wordCount n) word (λ z. someOwn n 0 p (z % 2 ^ n)) → Words (wordCount n) word p
-own-none-words n p word periodic h w l i k = h w l i k ∙ own-none n p periodic (64 * w + i)
-
--- ---- words gathered
-
-pub gathered-none : (n : ℕ) (p : ℕ → Bool) (word : ℕ → ℕ) → ((w : ℕ) → w < wordCount n → word w ≡ 0) → Gathered n p 0 word
-unfolding someBelow
-gathered-none n p word h w l i k = ap (λ x. bit x i) (h w l) ∙ bit-zero i
-
--- word v falls on word `at`
-pub gathered-more : (n : ℕ) (p : ℕ → Bool) (v at : ℕ) (old new : ℕ → ℕ) → at ≡ v % wordCount n → Gathered n p v old
-    → ((i : ℕ) → i < 64 → bit (new at) i ≡ (bit (old at) i || p (64 * v + i)))
-    → ((w : ℕ) → w < wordCount n → (w ≡ at → ⊥) → new w ≡ old w) → Gathered n p (v + 1) new
-gathered-more n p v at old new word-is g here others w l i k =
-    go (ℕ-discrete w at) ∙ sym (ap (λ c. someBelow c falls) (add-one v) ∙ some-more v falls)
-  where
-    falls : ℕ → Bool
-    falls u = eqb (u % wordCount n) w && p (64 * u + i)
-
-    go : Dec (w ≡ at) → bit (new w) i ≡ (someBelow v falls || falls v)
-    go (yes e) =
-        ap (λ y. bit (new y) i) e ∙ here i k ∙ ap (λ y. bit (old y) i || p (64 * v + i)) (sym e)
-        ∙ ap₂ _||_ (g w l i k) (sym (ap (λ b. b && p (64 * v + i)) (eq-eqb (v % wordCount n) w (sym (e ∙ word-is)))))
-    go (no apart) =
-        ap (λ y. bit y i) (others w l apart) ∙ g w l i k
-        ∙ sym (ap (λ b. someBelow v falls || (b && p (64 * v + i))) (ne-eqb (v % wordCount n) w (λ q. apart (sym (word-is ∙ q)))) ∙ or-false (someBelow v falls))
-
--- the choice of a word that a gathered bit stands for, and back
-gathered-found : (n : ℕ) (p : ℕ → Bool) (v w i : ℕ) → T (someBelow v (λ u. eqb (u % wordCount n) w && p (64 * u + i)))
-    ↔ ((u : ℕ) × (u < v) × (u % wordCount n ≡ w) × T (p (64 * u + i)))
-gathered-found n p v w i = (
-  λ t.
-      let (u, l, s) = some-found v (λ u. eqb (u % wordCount n) w && p (64 * u + i)) t in
-      (u, l, eqb→eq (u % wordCount n) w (and-left (eqb (u % wordCount n) w) (p (64 * u + i)) s), and-right (eqb (u % wordCount n) w) (p (64 * u + i)) s),
-  λ (u, l, e, s).
-      some-intro v (λ u. eqb (u % wordCount n) w && p (64 * u + i)) u l
-      (and-intro (eqb (u % wordCount n) w) (p (64 * u + i)) (of-true (eq-eqb (u % wordCount n) w e)) s),
-)
-
 -- merging changes nothing in a word whose six digits are all free
 pub merged-same : (n x : ℕ) → 6 ≤ n → Merged n x x
 merged-same n x h i l =
@@ -175,40 +136,6 @@ merged-same n x h i l =
   where
     same : ℕ → Bool
     same j = eqb (j % 2 ^ n) (i % 2 ^ n) && bit x j
-
--- where every word is gathered, and word 0 merged, the words are the set of the free choices beside which some own choice passes
-module _ (n m : ℕ) (p : ℕ → Bool) (old new : ℕ → ℕ) (periodic : Periodic (n + m) p) (all : Gathered n p (wordCount (n + m)) old)
-    (first : Merged n (old 0) (new 0)) (others : (w : ℕ) → w < wordCount n → (w ≡ 0 → ⊥) → new w ≡ old w) where
-  merged : (w : ℕ) → w < wordCount n → Merged n (old w) (new w)
-  unfolding wordCount
-  merged w l = go (ℕ-discrete w 0)
-    where
-      go : Dec (w ≡ 0) → Merged n (old w) (new w)
-      go (yes e) = subst (λ k. Merged n (old k) (new k)) (sym e) first
-      go (no g) = subst (λ x. Merged n (old w) x) (sym (others w l g)) (merged-same n (old w) (six (decLe 6 n)))
-        where
-          six : Dec (6 ≤ n) → 6 ≤ n
-          six (yes h) = h
-          six (no h) = let e : n - 6 ≡ 0 = omega arith in absurd (g (lt-one (subst (λ k. w < 2 ^ k) e l)))
-
-  pub gathered-set : Words (wordCount n) new (λ z. someOwn n m p (z % 2 ^ n))
-  gathered-set w l i k =
-      merged w l i k
-      ∙ same-test (someBelow 64 same) (someOwn n m p ((64 * w + i) % 2 ^ n))
-      (λ t.
-      let (j, b, s) = some-found 64 same t in
-      let f = eqb→eq (j % 2 ^ n) (i % 2 ^ n) (and-left (eqb (j % 2 ^ n) (i % 2 ^ n)) (bit (old w) j) s) in
-      let g = subst T (all w l j b) (and-right (eqb (j % 2 ^ n) (i % 2 ^ n)) (bit (old w) j) s) in
-      let (u, a, e, v) = gathered-found n p (wordCount (n + m)) w j .0 g in
-      own-words n m p periodic w i l k .1 (u, j, a, b, e, f, v))
-      (λ t.
-      let (u, j, a, b, e, f, s) = own-words n m p periodic w i l k .0 t in
-      let g = gathered-found n p (wordCount (n + m)) w j .1 (u, a, e, s) in
-      some-intro 64 same j b
-      (and-intro (eqb (j % 2 ^ n) (i % 2 ^ n)) (bit (old w) j) (of-true (eq-eqb (j % 2 ^ n) (i % 2 ^ n) f)) (subst T (sym (all w l j b)) g)))
-    where
-      same : ℕ → Bool
-      same j = eqb (j % 2 ^ n) (i % 2 ^ n) && bit (old w) j
 
 -- ---- a test that counts n digits alone
 

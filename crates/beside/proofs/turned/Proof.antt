@@ -1,8 +1,8 @@
--- `sets::turned` meets its contract. Assumes nothing.
+-- `beside::turned` meets its contract. Assumes nothing.
 use borrow.Author.Needs.{needs}
-use Rattle.sets.specs.MergeLaws.{turned-bit}
-use Rattle.sets.proofs.turned.Statement.{statement}
-use Rattle.sets.proofs.turned.Tie as tie
+use Rattle.beside.specs.MergeLaws.{turned-bit}
+use Rattle.beside.proofs.turned.Statement.{statement}
+use Rattle.beside.proofs.turned.Tie as tie
 
 shr-result : tie.Need-shr-result
 shr-result c = search needs

@@ -15,7 +15,7 @@ use Rattle.shares.specs.BelowLaws.{some-found, some-intro, some-add}
 use Rattle.shares.specs.Constant.{bit}
 use Rattle.shares.specs.BitLaws.{bit-or}
 use Rattle.shares.specs.BitParts.{bit-shift, bit-mod, bit-beyond, bit-raised-low, bit-raised}
-use Rattle.sets.specs.Sets.{Merged, MergedTo}
+use Rattle.beside.specs.Beside.{Merged, MergedTo}
 
 -- ---- turned by k bits
 
