@@ -1,12 +1,3 @@
-pub mod Numbers
-pub mod Plan
-pub mod PlanLaws
-pub mod Tests
-pub mod Entries
-pub mod EntryLaws
-pub mod AssignedLaws
-pub mod LeafLaws
-pub mod FillLaws
+pub mod Pairs
 pub mod Shown
 pub mod ShownLaws
-pub mod SolveLaws

@@ -19,11 +19,10 @@ use Rattle.leaves.specs.Problem.{Problem, solvable, disequationAt, choiceAt, ca
 use Rattle.leaves.specs.ProblemLaws.{at-block, rank-lt, plain-passes, block-passes}
 use Rattle.plans.specs.declared.Plan.{Plan}
 use Rattle.plans.specs.Shown.{planChoiceAfter, planChoice}
-use Rattle.plans.specs.Numbers.{numbered}
+use Rattle.leaves.specs.Numbers.{numbered, leafFor, rankOf, plainChoice, specialChoice}
 use Rattle.leaves.specs.ChoiceLaws.{pick-number}
-use Rattle.plans.specs.Plan.{leafFor, rankOf, plainChoice, specialChoice}
-use Rattle.plans.specs.PlanLaws.{plain-is, special-is}
-use Rattle.plans.specs.Entries.{Made}
+use Rattle.leaves.specs.NumberLaws.{plain-is, special-is}
+use Rattle.plans.specs.Pairs.{Made}
 
 module _ (n h : ℕ) (R : Problem ℕ) (k : ℕ) (plan : Plan) (M : Made n h R k plan) (room : R .count ≤ 2 ^ k) (s : ℕ) (s< : s < 2 ^ (h + k)) where
   b : ℕ

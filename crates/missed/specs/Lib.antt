@@ -1,3 +1,0 @@
-pub mod Missed
-pub mod MissedLaws
-pub mod MissedSetLaws

@@ -1,0 +1,56 @@
+-- Pairs of a leaf and a choice as one number, the pairs that a search finds, and the plan of them. Assumes nothing.
+use mathlib.Core.Path.{_≡_}
+use mathlib.Core.Bool.{cond}
+use mathlib.Core.List.{List}
+use Prim.Native.Nat.{ℕ, _+_, _-_, _*_, _/_, _%_, _^_, _≤_, _<_}
+use lib.Dec.{ltb, eqb}
+use lib.ListN.{getD}
+use Rattle.shares.specs.Below.{countBelow}
+use Rattle.leaves.specs.Problem.{Problem}
+use Rattle.leaves.specs.Numbers.{leafFor, rankOf, plainChoice, specialChoice}
+use Rattle.words.specs.Choices.{wordCount}
+use Rattle.plans.specs.declared.Plan.{Plan}
+use Rattle.plans.specs.declared.Outline.{Outline}
+
+-- how many choices the words of a leaf hold, with n free variables: the pair of leaf b and choice z is the number b * leafWidth n + z
+abbrev pub leafWidth : ℕ → ℕ
+leafWidth n = 64 * wordCount n
+
+-- the entry of a table of pairs that disequation e has: an extra one has entry 31, the others come from entry 0 on
+abbrev pub slotOf : ℕ → ℕ → ℕ
+slotOf extra e = cond (ltb e extra) 31 (e - extra)
+
+-- a table of pairs that can be planned: its numbers are of leaves and choices that there are
+pub record Fitting (o : Outline) (pairs : List ℕ) : Type 0 where
+  pub variables : o .free ≤ 12
+  pub low : o .height ≤ 5
+  pub splits : o .splits ≤ 5
+  pub extra : o .extra ≤ 1
+  pub few : o .count ≤ 31
+  pub plains : (b : ℕ) → b < 2 ^ o .height → getD pairs (32 + b) 0 < 4096
+  pub entries : (e : ℕ) → e < o .extra + o .count → getD pairs (slotOf (o .extra) e) 0 < 2 ^ o .height * leafWidth (o .free)
+
+-- a table holds the pairs of a solvable problem: the least choice of each leaf, and the leaf and the choice of each disequation
+pub record PairsOf (n h : ℕ) (R : Problem ℕ) (extra : ℕ) (pairs : List ℕ) : Type 0 where
+  pub plains : (b : ℕ) → b < 2 ^ h → getD pairs (32 + b) 0 ≡ plainChoice n h R b
+  pub entries : (e : ℕ) → e < R .count → getD pairs (slotOf extra e) 0 ≡ leafFor n h R e * leafWidth n + specialChoice n h R e (leafFor n h R e)
+  pub within : (e : ℕ) → e < R .count → specialChoice n h R e (leafFor n h R e) < leafWidth n
+
+-- the leaf of disequation e by its pair
+abbrev pub pairLeaf : Outline → List ℕ → ℕ → ℕ
+pairLeaf o pairs e = getD pairs (slotOf (o .extra) e) 0 / leafWidth (o .free)
+
+-- the first e disequations have their sub-leaves and choices
+pub record Filled (o : Outline) (pairs : List ℕ) (e : ℕ) (subleaf choice : List ℕ) : Type 0 where
+  pub sub-leaves : (i : ℕ) → i < e
+      → getD subleaf i 0 ≡ pairLeaf o pairs i * 2 ^ o .splits + countBelow i (λ j. eqb (pairLeaf o pairs j) (pairLeaf o pairs i))
+  pub choices : (i : ℕ) → i < e → getD choice i 0 ≡ getD pairs (slotOf (o .extra) i) 0 % leafWidth (o .free)
+
+-- the plan's entries are those of the problem, with each leaf split k times
+pub record Made (n h : ℕ) (R : Problem ℕ) (k : ℕ) (plan : Plan) : Type 0 where
+  pub low : plan .low ≡ h
+  pub high : plan .high ≡ h + k
+  pub count : plan .count ≡ R .count
+  pub plains : (b : ℕ) → b < 2 ^ h → getD (plan .plain) b 0 ≡ plainChoice n h R b
+  pub sub-leaves : (j : ℕ) → j < R .count → getD (plan .subleaf) j 0 ≡ leafFor n h R j * 2 ^ k + rankOf n h R j
+  pub choices : (j : ℕ) → j < R .count → getD (plan .choice) j 0 ≡ specialChoice n h R j (leafFor n h R j)
