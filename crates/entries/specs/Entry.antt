@@ -1,0 +1,57 @@
+-- What is kept of the words of choices that a pass goes over. Words are counted through all leaves; bit i of word t is number 64 * t + i. Assumes nothing.
+use mathlib.Core.Path.{_≡_}
+use mathlib.Core.Bool.{Bool, _&&_, _||_}
+use mathlib.Core.List.{List}
+use Prim.Native.Nat.{ℕ, _+_, _*_, _≤_, _<_}
+use lib.Dec.{T}
+use lib.ListN.{getD}
+use Rattle.shares.specs.Below.{someBelow, firstBelow}
+use Rattle.shares.specs.Constant.{bit}
+
+-- ---- the first number that passes
+
+-- entry e after t words: its bit says whether some number passes p, and then its number is the first
+pub record Entry (p : ℕ → Bool) (t met : ℕ) (pairs : List ℕ) (e : ℕ) : Type 0 where
+  pub found : bit met e ≡ someBelow (64 * t) p
+  pub stored : T (bit met e) → getD pairs e 0 ≡ firstBelow (64 * t) p
+
+-- the numbers of word t that pass p are the bits of a word
+abbrev pub WordOf : (ℕ → Bool) → (ℕ → Bool) → ℕ → Type 0
+WordOf word p t = (i : ℕ) → i < 64 → word i ≡ p (64 * t + i)
+
+-- entry e after word t, of which `word` has the bits. Nothing else changes
+pub record Kept (e t : ℕ) (word : ℕ → Bool) (met : ℕ) (pairs : List ℕ) (met′ : ℕ) (pairs′ : List ℕ) : Type 0 where
+  pub entry : (p : ℕ → Bool) → WordOf word p t → Entry p t met pairs e → Entry p (t + 1) met′ pairs′ e
+  pub met-kept : (k : ℕ) → (k ≡ e → ⊥) → bit met′ k ≡ bit met k
+  pub pairs-kept : (k : ℕ) → (k ≡ e → ⊥) → getD pairs′ k 0 ≡ getD pairs k 0
+
+-- the same of the first `count` entries
+pub record KeptAll (count t : ℕ) (word : ℕ → ℕ → Bool) (met : ℕ) (pairs : List ℕ) (met′ : ℕ) (pairs′ : List ℕ) : Type 0 where
+  pub entry : (e : ℕ) → e < count → (p : ℕ → Bool) → WordOf (word e) p t → Entry p t met pairs e → Entry p (t + 1) met′ pairs′ e
+  pub met-kept : (k : ℕ) → count ≤ k → bit met′ k ≡ bit met k
+  pub pairs-kept : (k : ℕ) → count ≤ k → getD pairs′ k 0 ≡ getD pairs k 0
+
+-- ---- marks
+
+-- two words have a bit in common
+unfoldable pub common : ℕ → ℕ → Bool
+common a b = someBelow 64 (λ k. bit a k && bit b k)
+
+-- some bit of a word is set
+abbrev pub some : ℕ → Bool
+some a = someBelow 64 (bit a)
+
+-- mark j, if bit j is wanted: rows 0 to 31 are the choices left, 32 to 63 those of the first system's disequations, 64 to 95 the marks
+pub record Marked (j count wanted here : ℕ) (rows : List ℕ) (here′ : ℕ) (rows′ : List ℕ) : Type 0 where
+  pub there : bit here′ j ≡ (bit here j || (bit wanted j && some (getD rows j 0)))
+  pub mark : T (bit wanted j) → (i : ℕ) → i < count → bit (getD rows′ (64 + j) 0) i ≡ (bit (getD rows (64 + j) 0) i || common (getD rows (32 + i) 0) (getD rows j 0))
+  pub here-kept : (k : ℕ) → (k ≡ j → ⊥) → bit here′ k ≡ bit here k
+  pub rows-kept : (k : ℕ) → (k ≡ 64 + j → ⊥) → getD rows′ k 0 ≡ getD rows k 0
+
+-- the first n marks
+pub record MarkedAll (n count wanted here : ℕ) (rows : List ℕ) (here′ : ℕ) (rows′ : List ℕ) : Type 0 where
+  pub there : (j : ℕ) → j < n → bit here′ j ≡ (bit here j || (bit wanted j && some (getD rows j 0)))
+  pub mark : (j : ℕ) → j < n → T (bit wanted j) → (i : ℕ) → i < count
+      → bit (getD rows′ (64 + j) 0) i ≡ (bit (getD rows (64 + j) 0) i || common (getD rows (32 + i) 0) (getD rows j 0))
+  pub here-kept : (k : ℕ) → n ≤ k → bit here′ k ≡ bit here k
+  pub rows-kept : (k : ℕ) → (64 ≤ k → 64 + n ≤ k) → getD rows′ k 0 ≡ getD rows k 0

@@ -1,0 +1,132 @@
+-- Laws of entries: one word more. Assumes nothing.
+use mathlib.Core.Path.{_≡_, refl, sym, ap, _∙_}
+use mathlib.Core.Bool.{Bool, true, false, not, _&&_, _||_, or-false, or-true}
+use mathlib.Core.List.{List}
+use mathlib.Core.Logic.{_⊎_, inl, inr}
+use Prim.Native.Nat.{ℕ, _+_, _*_, _^_, _≤_, _<_}
+use native.Mathlib.Decide.{decLt, ℕ-discrete}
+use native.Mathlib.Omega.{arith}
+use lib.Bits.{bitOr}
+use lib.Dec.{T, T-not, eqb}
+use lib.ListN.{length, getD, set}
+use lib.Seq.{getD-set-same, getD-set-other}
+use borrow.Author.Tests.{eq-eqb, ne-eqb}
+use Rattle.shares.specs.Test.{is-true, is-false, of-true, of-false}
+use Rattle.shares.specs.Below.{someBelow, firstBelow}
+use Rattle.shares.specs.BelowLaws.{some-none, some-add, some-intro, first-longer, first-is, first-none, first-below, first-least}
+use Rattle.shares.specs.Constant.{bit}
+use Rattle.shares.specs.BitLaws.{bit-zero, bit-or}
+use Rattle.words.specs.LowestLaws.{lowest-lt}
+use Rattle.entries.specs.BitLaws.{power-bit, bit-added}
+use Rattle.entries.specs.SearchLaws.{found-in-word, none-in-word}
+use Rattle.entries.specs.Entry.{Entry, WordOf, Kept, KeptAll}
+
+-- one word more of a test
+pub some-word : (t : ℕ) (p : ℕ → Bool) → someBelow (64 * (t + 1)) p ≡ (someBelow (64 * t) p || someBelow 64 (λ i. p (64 * t + i)))
+some-word t p = let e : 64 * (t + 1) ≡ 64 * t + 64 = omega arith in ap (λ n. someBelow n p) e ∙ some-add (64 * t) 64 p
+
+module _ (p : ℕ → Bool) (t : ℕ) where
+  -- something has passed already
+  pub some-stays : (t′ : ℕ) → t ≤ t′ → T (someBelow (64 * t) p) → someBelow (64 * t′) p ≡ true
+  some-stays t′ l s =
+      let (i, m, u) = Rattle.shares.specs.BelowLaws.some-found (64 * t) p s in
+      is-true (someBelow (64 * t′) p) (some-intro (64 * t′) p i (omega arith) u)
+
+  pub entry-stays : (t′ met : ℕ) (pairs : List ℕ) (e : ℕ) → t ≤ t′ → bit met e ≡ true → Entry p t met pairs e → Entry p t′ met pairs e
+  entry-stays t′ met pairs e l b E =
+      let s : T (someBelow (64 * t) p) = of-true (sym (E .found) ∙ b) in
+      record {
+        found = b ∙ sym (some-stays t′ l s);
+        stored = λ u. E .stored u ∙ sym (first-longer (64 * t) (64 * t′) p (omega arith) s);
+      }
+
+  -- nothing passes in this word
+  pub entry-none : (met : ℕ) (pairs : List ℕ) (e : ℕ) → ((i : ℕ) → i < 64 → p (64 * t + i) ≡ false) → Entry p t met pairs e → Entry p (t + 1) met pairs e
+  entry-none met pairs e none E = go (bit met e) refl
+    where
+      same : someBelow (64 * (t + 1)) p ≡ someBelow (64 * t) p
+      same = some-word t p ∙ ap (_||_ (someBelow (64 * t) p)) (some-none 64 (λ i. p (64 * t + i)) none) ∙ or-false (someBelow (64 * t) p)
+
+      go : (b : Bool) → bit met e ≡ b → Entry p (t + 1) met pairs e
+      go true q = entry-stays (t + 1) met pairs e (omega arith) q E
+      go false q = record { found = E .found ∙ sym same; stored = λ u. absurd (T-not (bit met e) (of-false q) u) }
+
+  -- nothing has passed yet, and the word y is not 0
+  pub entry-found : (met y : ℕ) (pairs : List ℕ) (e : ℕ) → e < length pairs → y < 2 ^ 64 → (y ≡ 0 → ⊥) → bit met e ≡ false → WordOf (bit y) p t
+      → Entry p t met pairs e → Entry p (t + 1) (bitOr met (2 ^ e)) (set pairs e (64 * t + firstBelow 64 (bit y))) e
+  entry-found met y pairs e room small n q w E = record {
+    found = bit-added met e true refl e ∙ rw (eq-eqb e e refl) (or-true (bit met e)) ∙ sym (is-true (someBelow (64 * (t + 1)) p) there);
+    stored = λ u. getD-set-same pairs e (64 * t + firstBelow 64 (bit y)) 0 room ∙ first;
+  }
+    where
+      before : (z : ℕ) → z < 64 * t → p z ≡ false
+      before z l =
+          is-false (p z) (Rattle.shares.specs.Test.holds (not (p z)) (λ u.
+          T-not (someBelow (64 * t) p) (of-false (sym (E .found) ∙ q))
+          (some-intro (64 * t) p z l (Rattle.shares.specs.Test.holds (p z) (λ v. T-not (not (p z)) u v)))))
+
+      first : 64 * t + firstBelow 64 (bit y) ≡ firstBelow (64 * (t + 1)) p
+      first = found-in-word p t (t + 1) y (omega arith) small n before w
+
+      there : T (someBelow (64 * (t + 1)) p)
+      there =
+          Rattle.shares.specs.BelowLaws.first-some (64 * (t + 1)) p
+          (rw (← first) (omega (arith, lowest-lt y small n)))
+
+module _ (e t : ℕ) (word : ℕ → Bool) (met : ℕ) (pairs : List ℕ) where
+  -- it has found one already
+  pub kept-before : bit met e ≡ true → Kept e t word met pairs met pairs
+  kept-before q = record { entry = λ p w E. entry-stays p t (t + 1) met pairs e (omega arith) q E; met-kept = λ k n. refl; pairs-kept = λ k n. refl }
+
+  -- it finds none
+  pub kept-none : ((i : ℕ) → i < 64 → word i ≡ false) → Kept e t word met pairs met pairs
+  kept-none z = record {
+    entry = λ p w E. entry-none p t met pairs e (λ i l. sym (w i l) ∙ z i l) E;
+    met-kept = λ k n. refl;
+    pairs-kept = λ k n. refl;
+  }
+
+-- it finds one
+pub kept-found : (e t y met : ℕ) (pairs : List ℕ) → e < length pairs → y < 2 ^ 64 → (y ≡ 0 → ⊥) → bit met e ≡ false
+    → Kept e t (bit y) met pairs (bitOr met (2 ^ e)) (set pairs e (64 * t + firstBelow 64 (bit y)))
+kept-found e t y met pairs room small n q = record {
+  entry = λ p w E. entry-found p t met y pairs e room small n q w E;
+  met-kept = λ k a. bit-added met e true refl k ∙ rw (ne-eqb k e a) (or-false (bit met k));
+  pairs-kept = λ k a. getD-set-other pairs e k (64 * t + firstBelow 64 (bit y)) 0 a;
+}
+
+-- the bits of a word may be said otherwise
+pub kept-as : (e t : ℕ) (word word′ : ℕ → Bool) (met : ℕ) (pairs : List ℕ) (met′ : ℕ) (pairs′ : List ℕ) → ((i : ℕ) → i < 64 → word i ≡ word′ i)
+    → Kept e t word met pairs met′ pairs′ → Kept e t word′ met pairs met′ pairs′
+kept-as e t word word′ met pairs met′ pairs′ same K = record {
+  entry = λ p w E. K .entry p (λ i l. same i l ∙ w i l) E;
+  met-kept = K .met-kept;
+  pairs-kept = K .pairs-kept;
+}
+
+-- ---- all of them
+
+module _ (t : ℕ) (word : ℕ → ℕ → Bool) (met : ℕ) (pairs : List ℕ) where
+  pub all-none : KeptAll 0 t word met pairs met pairs
+  all-none = record { entry = λ e l. absurd (omega arith); met-kept = λ k l. refl; pairs-kept = λ k l. refl }
+
+  pub all-more : (e met′ : ℕ) (pairs′ : List ℕ) (met″ : ℕ) (pairs″ : List ℕ) → KeptAll e t word met pairs met′ pairs′
+      → Kept e t (word e) met′ pairs′ met″ pairs″ → KeptAll (e + 1) t word met pairs met″ pairs″
+  all-more e met′ pairs′ met″ pairs″ A K = record {
+    entry = λ i l. entry i l (ℕ-discrete i e);
+    met-kept = λ k l. K .met-kept k (λ q. omega arith) ∙ A .met-kept k (omega arith);
+    pairs-kept = λ k l. K .pairs-kept k (λ q. omega arith) ∙ A .pairs-kept k (omega arith);
+  }
+    where
+      entry : (i : ℕ) → i < e + 1 → Dec (i ≡ e) → (p : ℕ → Bool) → WordOf (word i) p t → Entry p t met pairs i → Entry p (t + 1) met″ pairs″ i
+      entry i l (yes q) p w E =
+          rw q (K .entry p (rw q at w) (record {
+            found = A .met-kept e (omega arith) ∙ rw q at (E .found);
+            stored = λ u. A .pairs-kept e (omega arith) ∙ (rw q at (E .stored)) (rw (A .met-kept e (omega arith)) at u);
+          }))
+      entry i l (no n) p w E =
+          let F = A .entry i (omega arith) p w E in
+          record {
+            found = K .met-kept i n ∙ F .found;
+            stored = λ u. K .pairs-kept i n ∙ F .stored (rw (K .met-kept i n) at u);
+          }

@@ -1,0 +1,161 @@
+// What is kept of the words of choices that a pass goes over: for each of up to 64 searches the least choice found so far, and for each
+// disequation of the second system which disequations of the first were met.
+ghost use mathlib.Core.Path.{_≡_};
+ghost use mathlib.Core.Bool.{_&&_, _||_, not};
+ghost use Prim.Native.Nat.{ℕ, _+_, _*_, _<_, _≤_};
+ghost use lib.Dec.{eqb};
+ghost use lib.ListN.{length, getD};
+ghost use Rattle.shares.specs.Below.{someBelow};
+ghost use Rattle.shares.specs.Constant.{bit};
+ghost use Rattle.words.specs.Clause.{clauseTest, Clauses};
+ghost use Rattle.entries.specs.Entry.{Kept, KeptAll, common, Marked, MarkedAll};
+
+// Keeps the least choice of word number `turn` in which a bit of y is set as that of search e, if it has found none yet.
+pub fn keep_least(e: usize, turn: usize, y: u64, met: u64, pairs: &mut [u32]) -> u64
+    requires { ⌜ (e < 64) × (turn < 2048) × (length (now pairs) ≡ 64) ⌝ }
+    ensures { λ r. ⌜ Kept e turn (bit y) met (now (pairs .entry)) r (now (pairs .exit)) ⌝ }
+{
+    if basics::digit(met, e) {
+        return met;
+    }
+    if y == 0 {
+        return met;
+    }
+    pairs[e] = (64 * turn + words::lowest(y)) as u32;
+    met | (1 << e)
+}
+
+// Keeps the least choice of x in which the clause at byte `at` fails as that of search e, if it has found none yet.
+fn keep_one(
+    terms: &[u64; 64],
+    clauses: &[u8; 768],
+    i: usize,
+    turn: usize,
+    x: u64,
+    met: u64,
+    pairs: &mut [u32],
+) -> u64
+    requires { ⌜ (i < 64) × (turn < 2048) × (length (now pairs) ≡ 64) ⌝ }
+    requires { ⌜ Clauses (now clauses) (256 + 4 * i) 1 ⌝ }
+    ensures { λ r. ⌜ Kept i turn (λ k. bit x k && not (clauseTest (now (clauses .entry)) (λ t. bit (getD (now (terms .entry)) t 0) k) (256 + 4 * i))) met (now (pairs .entry)) r (now (pairs .exit)) ⌝ }
+{
+    if basics::digit(met, i) {
+        return met;
+    }
+    let y = words::failing_word(terms, clauses, 256 + 4 * i, x);
+    keep_least(i, turn, y, met, pairs)
+}
+
+// Keeps for each disequation of the first system the least choice of x in which it holds, if it has found none yet.
+pub fn keep_all(
+    terms: &[u64; 64],
+    clauses: &[u8; 768],
+    count: usize,
+    turn: usize,
+    x: u64,
+    met: u64,
+    pairs: &mut [u32],
+) -> u64
+    requires { ⌜ (count ≤ 31) × (turn < 2048) × (length (now pairs) ≡ 64) ⌝ }
+    requires { ⌜ Clauses (now clauses) 256 count ⌝ }
+    ensures { λ r. ⌜ KeptAll count turn (λ i k. bit x k && not (clauseTest (now (clauses .entry)) (λ t. bit (getD (now (terms .entry)) t 0) k) (256 + 4 * i))) met (now (pairs .entry)) r (now (pairs .exit)) ⌝ }
+{
+    let mut r = met;
+    let mut i: usize = 0;
+    while i < count {
+        r = keep_one(terms, clauses, i, turn, x, r, pairs);
+        i += 1;
+    }
+    r
+}
+
+// Puts the choices of x in which disequation i of the first system holds into word 32 + i.
+pub fn fill_failing(terms: &[u64; 64], clauses: &[u8; 768], count: usize, x: u64, rows: &mut [u64])
+    requires { ⌜ (count ≤ 32) × (length (now rows) ≡ 96) ⌝ }
+    requires { ⌜ Clauses (now clauses) 256 count ⌝ }
+    ensures { λ _. ⌜ ((i : ℕ) → i < count → (k : ℕ) → k < 64 → bit (getD (now (rows .exit)) (32 + i) 0) k ≡ (bit x k && not (clauseTest (now (clauses .entry)) (λ t. bit (getD (now (terms .entry)) t 0) k) (256 + 4 * i)))) ⌝ }
+    ensures { λ _. ⌜ ((k : ℕ) → (32 ≤ k → 32 + count ≤ k) → getD (now (rows .exit)) k 0 ≡ getD (now (rows .entry)) k 0) ⌝ }
+{
+    let mut i: usize = 0;
+    while i < count {
+        rows[32 + i] = words::failing_word(terms, clauses, 256 + 4 * i, x);
+        i += 1;
+    }
+}
+
+// Whether two words have a bit in common.
+fn have_common(a: u64, b: u64) -> bool
+    ensures { λ r. ⌜ r ≡ common a b ⌝ }
+{
+    a & b != 0
+}
+
+// Word k of some rows.
+fn word_of(rows: &[u64], k: usize) -> u64
+    requires { ⌜ k < length (now rows) ⌝ }
+    ensures { λ r. ⌜ r ≡ getD (now (rows .entry)) k 0 ⌝ }
+{
+    rows[k]
+}
+
+// Sets bit i of a mark, if two words have a bit in common.
+fn mark_bit(a: u64, b: u64, i: usize, mark: u64) -> u64
+    requires { ⌜ i < 64 ⌝ }
+    ensures { λ r. ⌜ ((k : ℕ) → bit r k ≡ (bit mark k || (eqb k i && common a b))) ⌝ }
+{
+    if have_common(a, b) {
+        return mark | (1 << i);
+    }
+    mark
+}
+
+// Sets bit i of a mark for each i below `count` whose word 32 + i has a bit in common with word j.
+fn mark_row(rows: &[u64], j: usize, count: usize, mark: u64) -> u64
+    requires { ⌜ (j < 32) × (count ≤ 32) × (length (now rows) ≡ 96) ⌝ }
+    ensures { λ r. ⌜ ((i : ℕ) → i < count → bit r i ≡ (bit mark i || common (getD (now (rows .entry)) (32 + i) 0) (getD (now (rows .entry)) j 0))) ⌝ }
+{
+    let left = word_of(rows, j);
+    let mut r = mark;
+    let mut i: usize = 0;
+    while i < count {
+        r = mark_bit(word_of(rows, 32 + i), left, i, r);
+        i += 1;
+    }
+    r
+}
+
+// If disequation j of the second system is wanted and word j is not empty: sets bit j of `here`, and adds to mark j, which is word 64 + j, the
+// disequations of the first system that have a choice in common with word j.
+fn mark_one(rows: &mut [u64], wanted: u64, count: usize, j: usize, here: u64) -> u64
+    requires { ⌜ (j < 32) × (count ≤ 32) × (length (now rows) ≡ 96) ⌝ }
+    ensures { λ r. ⌜ Marked j count wanted here (now (rows .entry)) r (now (rows .exit)) ⌝ }
+{
+    if !basics::digit(wanted, j) {
+        return here;
+    }
+    if word_of(rows, j) == 0 {
+        return here;
+    }
+    rows[64 + j] = mark_row(rows, j, count, word_of(rows, 64 + j));
+    here | (1 << j)
+}
+
+// The same for each disequation of the second system.
+pub fn mark_all(
+    rows: &mut [u64],
+    wanted: u64,
+    first_count: usize,
+    second_count: usize,
+    here: u64,
+) -> u64
+    requires { ⌜ («first_count» ≤ 32) × («second_count» ≤ 32) × (length (now rows) ≡ 96) ⌝ }
+    ensures { λ r. ⌜ MarkedAll «second_count» «first_count» wanted here (now (rows .entry)) r (now (rows .exit)) ⌝ }
+{
+    let mut r = here;
+    let mut j: usize = 0;
+    while j < second_count {
+        r = mark_one(rows, wanted, first_count, j, r);
+        j += 1;
+    }
+    r
+}
