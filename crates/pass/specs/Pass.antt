@@ -1,0 +1,111 @@
+-- What is known in the middle of a pass: after some words of a leaf, and after some leaves. A pair of leaf b and choice z is the number
+-- b * leafWidth n + z, so that word w of leaf b is word b * wordCount n + w of all. Assumes nothing.
+use mathlib.Core.Path.{_≡_}
+use mathlib.Core.Bool.{Bool, false, not, _&&_}
+use mathlib.Core.List.{List}
+use Prim.Native.Nat.{ℕ, _+_, _*_, _/_, _%_, _^_, _≤_, _<_}
+use lib.Dec.{T}
+use lib.ListN.{getD}
+use Rattle.shares.specs.Below.{everyBelow, someBelow, firstBelow}
+use Rattle.shares.specs.Constant.{bit}
+use Rattle.leaves.specs.Choices.{least}
+use Rattle.leaves.specs.Problem.{solvable}
+use Rattle.leaves.specs.Numbers.{numbered}
+use Rattle.questions.specs.Stored.{Stored, stored}
+use Rattle.words.specs.Choices.{wordCount}
+use Rattle.beside.specs.declared.Sizes.{Sizes}
+use Rattle.entries.specs.Entry.{Entry}
+use Rattle.plans.specs.Pairs.{leafWidth, PairsOf}
+use Rattle.pass.specs.Tests.{leafValues, firstMeets, firstDiffers, secondMeets, extraOf, allowedIn, testsOf}
+use Rattle.pass.specs.declared.Search.{Search}
+use Rattle.pass.specs.declared.Search.the-variants.{First, Unmet, Missed}
+use Rattle.pass.specs.declared.Seen.{Seen}
+use Rattle.pass.specs.declared.Survey.{Survey}
+
+-- what is stored of a question, from its numbers, its clauses' bytes and its constants
+abbrev pub storedBy : Sizes → List ℕ → List ℕ → Stored
+storedBy sizes clauses constants = stored clauses (sizes .counts) constants (sizes .defined) (sizes .free) (sizes .own)
+
+-- ---- tests of pairs
+
+-- a test of the values at a leaf and a choice there, as a test of pairs
+abbrev pub onPairs : Stored → ℕ → (ℕ → ℕ → Bool) → ℕ → Bool
+onPairs S h f u = f (leafValues S h (u / leafWidth (S .free))) (u % leafWidth (S .free))
+
+-- the search allows the choice, and disequation i of the first system holds
+abbrev pub meetsHere : Stored → Search → ℕ → ℕ → ℕ → Bool
+meetsHere S search i values z = allowedIn S search values z && firstDiffers S values i z
+
+-- the first system allows the choice, and no own choice meets the second's positive clauses beside it
+abbrev pub unmetHere : Stored → ℕ → ℕ → Bool
+unmetHere S values z = firstMeets S values z && not (secondMeets S values z)
+
+-- ---- in the middle of leaf b, after its first w words
+
+pub record Amid (S : Stored) (h : ℕ) (search : Search) (b w : ℕ) (seen : Seen) (pairs rows : List ℕ) : Type 0 where
+  -- the least choice of the leaf
+  pub plain : Entry (allowedIn S search (leafValues S h b)) w (seen .met) pairs (32 + b)
+  -- the least pair of each disequation of the first system, and of an unmet choice
+  pub entries : (i : ℕ) → i < getD (S .counts) 1 0 → Entry (onPairs S h (meetsHere S search i)) (b * wordCount (S .free) + w) (seen .met) pairs i
+  pub unmet : search ≡ Unmet → Entry (onPairs S h (unmetHere S)) (b * wordCount (S .free) + w) (seen .met) pairs 31
+  -- unless there is an unmet choice: which disequations of the second system some choice of this leaf misses, and which of the first
+  -- system's were met by such a choice of any leaf
+  pub here : search ≡ Unmet → T (not (bit (seen .met) 31)) → (j : ℕ) → j < getD (S .counts) 3 0 → T (bit (seen .possible) j)
+      → bit (seen .here) j ≡ someBelow (64 * w) (allowedIn S (Missed j) (leafValues S h b))
+  pub marks : search ≡ Unmet → T (not (bit (seen .met) 31)) → (j : ℕ) → j < getD (S .counts) 3 0 → T (bit (seen .possible) j)
+      → (i : ℕ) → i < getD (S .counts) 1 0 → bit (getD rows (64 + j) 0) i ≡ someBelow (64 * (b * wordCount (S .free) + w)) (onPairs S h (meetsHere S (Missed j) i))
+
+-- nothing is changed of the leaves other than b, nor of what is possible
+pub record OthersKept (b : ℕ) (seen : Seen) (pairs : List ℕ) (seen′ : Seen) (pairs′ : List ℕ) : Type 0 where
+  pub met-kept : (k : ℕ) → 32 ≤ k → (k ≡ 32 + b → ⊥) → bit (seen′ .met) k ≡ bit (seen .met) k
+  pub pairs-kept : (k : ℕ) → 32 ≤ k → (k ≡ 32 + b → ⊥) → getD pairs′ k 0 ≡ getD pairs k 0
+
+-- ---- after the first b leaves
+
+-- every leaf so far has a choice that misses disequation j of the second system
+abbrev pub missedBelow : Stored → ℕ → ℕ → ℕ → Bool
+missedBelow S h b j = everyBelow b (λ b. someBelow (leafWidth (S .free)) (allowedIn S (Missed j) (leafValues S h b)))
+
+pub record After (S : Stored) (h : ℕ) (search : Search) (b : ℕ) (seen : Seen) (pairs rows : List ℕ) : Type 0 where
+  -- each has a least choice, and nothing is known of the others
+  pub plains : (a : ℕ) → a < b → T (someBelow (leafWidth (S .free)) (allowedIn S search (leafValues S h a)))
+      × (getD pairs (32 + a) 0 ≡ firstBelow (leafWidth (S .free)) (allowedIn S search (leafValues S h a)))
+  pub fresh : (a : ℕ) → b ≤ a → a < 32 → bit (seen .met) (32 + a) ≡ false
+  pub entries : (i : ℕ) → i < getD (S .counts) 1 0 → Entry (onPairs S h (meetsHere S search i)) (b * wordCount (S .free)) (seen .met) pairs i
+  pub unmet : search ≡ Unmet → Entry (onPairs S h (unmetHere S)) (b * wordCount (S .free)) (seen .met) pairs 31
+  pub possible : search ≡ Unmet → T (not (bit (seen .met) 31)) → (j : ℕ) → j < getD (S .counts) 3 0 → bit (seen .possible) j ≡ missedBelow S h b j
+  pub marks : search ≡ Unmet → T (not (bit (seen .met) 31)) → (j : ℕ) → j < getD (S .counts) 3 0 → T (bit (seen .possible) j)
+      → (i : ℕ) → i < getD (S .counts) 1 0 → bit (getD rows (64 + j) 0) i ≡ someBelow (64 * (b * wordCount (S .free))) (onPairs S h (meetsHere S (Missed j) i))
+
+-- one leaf more, where it has a choice; where it has none its bit is not set
+pub record Visited (S : Stored) (h : ℕ) (search : Search) (b : ℕ) (seen : Seen) (pairs rows : List ℕ) : Type 0 where
+  pub done : T (bit (seen .met) (32 + b)) → After S h search (b + 1) seen pairs rows
+  pub none : T (not (bit (seen .met) (32 + b))) → T (not (someBelow (leafWidth (S .free)) (allowedIn S search (leafValues S h b))))
+
+-- a whole pass: whether every leaf has a choice, and then what is known after the last
+pub record Passed (S : Stored) (h : ℕ) (search : Search) (seen : Seen) (pairs rows : List ℕ) : Type 0 where
+  pub all : everyBelow (2 ^ h) (λ b. bit (seen .met) (32 + b)) ≡ everyBelow (2 ^ h) (λ b. someBelow (leafWidth (S .free)) (allowedIn S search (leafValues S h b)))
+  pub after : T (everyBelow (2 ^ h) (λ b. bit (seen .met) (32 + b))) → After S h search (2 ^ h) seen pairs rows
+
+-- ---- what is found
+
+-- the problem of a search is solvable
+abbrev pub solvableIn : Stored → ℕ → Search → Bool
+solvableIn S h search = solvable (least (S .free)) h (numbered (S .free) (testsOf S h search))
+
+-- the lowest disequation of the second system that some solution of the first cannot have, or their count
+abbrev pub lowestMissedIn : Stored → ℕ → ℕ
+lowestMissedIn S h = firstBelow (getD (S .counts) 3 0) (λ j. solvableIn S h (Missed j))
+
+-- a search: whether its problem is solvable, and then the pairs of it
+pub record SolvedAs (S : Stored) (h : ℕ) (search : Search) (found : Bool) (pairs : List ℕ) : Type 0 where
+  pub found-is : found ≡ solvableIn S h search
+  pub pairs-are : T found → PairsOf (S .free) h (testsOf S h search) (extraOf search) pairs
+
+-- a survey of an entailment: whether the first system has a solution; if so, whether some solution leaves the second's positive clauses unmet, and the
+-- pairs of it; if none does, the lowest disequation of the second that some solution misses
+pub record SurveyedAs (S : Stored) (h : ℕ) (r : Survey) (pairs : List ℕ) : Type 0 where
+  pub solvable-is : r .solvable ≡ solvableIn S h First
+  pub unmet-is : T (r .solvable) → r .unmet ≡ solvableIn S h Unmet
+  pub pairs-are : T (r .solvable) → T (r .unmet) → PairsOf (S .free) h (testsOf S h Unmet) (extraOf Unmet) pairs
+  pub missed-is : T (r .solvable) → T (not (r .unmet)) → r .missed ≡ lowestMissedIn S h
