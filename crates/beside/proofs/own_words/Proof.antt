@@ -1,4 +1,11 @@
+-- `beside::own_words` meets its contract. Assumes nothing.
+use mathlib.Core.Path.{_≡_, sym, ap, ap₂, _∙_}
+use Prim.Native.Nat.{_+_, _-_, _*_, _^_}
+use native.Mathlib.Nat.{mul-one}
+use native.Mathlib.Omega.{arith}
 use borrow.Author.Needs.{needs}
+use lib.Pow.{pow-add}
+use Rattle.words.specs.Choices.{wordCount}
 use Rattle.beside.proofs.own_words.Statement.{statement}
 use Rattle.beside.proofs.own_words.Tie as tie
 use Rattle.beside.proofs.own_words.Reads as reads
@@ -6,25 +13,27 @@ use Rattle.beside.proofs.own_words.Lts as lts
 use Rattle.basics.proofs.power.Reads as power-reads
 use Rattle.words.proofs.word_count.Reads as word-count-reads
 
--- src/lib.rt:92:34
 add-word-count : tie.Need-add-word-count
 add-word-count c = search needs
 
--- src/lib.rt:92:9
 word-count-requires : tie.Need-word-count-requires
 word-count-requires c κs = search needs
 
--- src/lib.rt:92:9
 returns : tie.Need-returns
-returns c = ?
+unfolding wordCount
+returns c =
+    let e : c .before .before .args .n - 6 ≡ 0 = omega arith in
+    ap (λ k. c .word-count .result * 2 ^ k) e ∙ mul-one (c .word-count .result) ∙ c .word-count .ensures
 
--- src/lib.rt:94:5
 power-requires : tie.Need-power-requires
 power-requires c κs = search needs
 
--- src/lib.rt:87:1
 returns-2 : tie.Need-returns-2
-returns-2 c = ?
+unfolding wordCount
+returns-2 c =
+    let a = c .before .before .args in
+    let e : a .m + (a .n - 6) ≡ a .n + a .m - 6 = omega arith in
+    ap (λ k. k * 2 ^ (a .n - 6)) (c .power .ensures) ∙ sym (pow-add 2 (a .m) (a .n - 6)) ∙ ap (λ k. 2 ^ k) e
 
 pub own-words-spec : {M : Type 1} → statement M
 own-words-spec =

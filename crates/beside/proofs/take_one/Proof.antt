@@ -1,3 +1,15 @@
+-- `beside::take_one` meets its contract. Assumes nothing.
+use mathlib.Core.Path.{_≡_, refl, ap, _∙_, subst}
+use mathlib.Core.Bool.{Bool, true, false, not, _&&_}
+use native.Mathlib.Omega.{arith}
+use lib.Dec.{T, T-not}
+use lib.ListN.{getD}
+use Rattle.shares.specs.Test.{of-true, of-false, holds}
+use Rattle.shares.specs.Constant.{bit}
+use Rattle.shares.specs.BitLaws.{bit-and}
+use Rattle.words.specs.ClauseLaws.{not-bits}
+use Rattle.beside.specs.Beside.{Left}
+use Rattle.beside.specs.TakeLaws.{other-bits, taken-not, taken-set}
 use borrow.Author.Needs.{needs}
 use Rattle.beside.proofs.take_one.Statement.{statement}
 use Rattle.beside.proofs.take_one.Tie as tie
@@ -6,53 +18,60 @@ use Rattle.beside.proofs.take_one.Lts as lts
 use Rattle.basics.proofs.digit.Reads as digit-reads
 use Rattle.words.proofs.failing_word.Reads as failing-word-reads
 
--- src/lib.rt:111:9
 digit-requires : tie.Need-digit-requires
 digit-requires c κs = search needs
 
--- src/lib.rt:112:9
 returns : tie.Need-returns
-returns c = ?
+returns c =
+    let a = c .before .before .before .args in
+    taken-not (a .j) _ (a .wanted) (a .left .now) (subst (λ b. T (not b)) (c .before .digit .ensures) (of-true (c .if1 .taken)))
 
--- src/lib.rt:114:13
 mul-z : tie.Need-mul-z
 mul-z c = search needs
 
--- src/lib.rt:114:13
 slice-read-z : tie.Need-slice-read-z
 slice-read-z c = search needs
 
--- src/lib.rt:114:24
 failing-word-requires : tie.Need-failing-word-requires
 failing-word-requires c κs = search needs
 
--- src/lib.rt:115:5
 mul-left : tie.Need-mul-left
 mul-left c = search needs
 
--- src/lib.rt:115:5
 slice-write-left : tie.Need-slice-write-left
 slice-write-left c = search needs
 
--- src/lib.rt:117:27
 shl-result : tie.Need-shl-result
 shl-result c = search needs
 
--- src/lib.rt:117:9
 same-length : tie.Need-same-length
 same-length c = search needs
 
--- src/lib.rt:117:9
-returns-2 : tie.Need-returns-2
-returns-2 c = ?
+-- bit j is set
+wanted-here : (r b : Bool) → r ≡ b → not r ≡ false → T b
+wanted-here r b e h = subst T e (holds r (λ u. T-not (not r) (of-false h) u))
 
--- src/lib.rt:98:1
+returns-2 : tie.Need-returns-2
+returns-2 c =
+    let a = c .before .before .before .before .before .before .args in
+    let d = c .before .before .before .before .digit in
+    let f = c .before .failing-word in
+    taken-set (a .j) _ (a .wanted) (a .left .now) _ _ (omega arith) (wanted-here (d .result) _ (d .ensures) (c .before .before .before .if1 .left))
+    (λ i h. bit-and _ _ i ∙ ap (_&&_ (bit (getD (a .left .now) (a .j) 0) i)) (not-bits (f .result) i _ (f .ok) h (f .ensures i h)))
+    (λ u. c .if2 .taken) (λ k h n. other-bits (a .wanted) (a .j) k (omega arith) h n)
+
 same-length-2 : tie.Need-same-length-2
 same-length-2 c = search needs
 
--- src/lib.rt:98:1
 returns-3 : tie.Need-returns-3
-returns-3 c = ?
+returns-3 c =
+    let a = c .before .before .before .before .before .before .args in
+    let d = c .before .before .before .before .digit in
+    let f = c .before .failing-word in
+    let t = wanted-here (d .result) (bit (a .wanted) (a .j)) (d .ensures) (c .before .before .before .if1 .left) in
+    taken-set (a .j) _ (a .wanted) (a .left .now) (a .wanted) _ (omega arith) t
+    (λ i h. bit-and _ _ i ∙ ap (_&&_ (bit (getD (a .left .now) (a .j) 0) i)) (not-bits (f .result) i _ (f .ok) h (f .ensures i h)))
+    (λ u. absurd (T-not (bit (a .wanted) (a .j)) u t)) (λ k h n. refl)
 
 pub take-one-spec : {M : Type 1} → statement M
 take-one-spec =
