@@ -5,6 +5,7 @@ use mathlib.Core.Bool.{Bool, not, _&&_, and-assoc}
 use mathlib.Core.List.{List}
 use Prim.Native.Nat.{ℕ, _+_, _*_, _≤_, _<_}
 use native.Mathlib.Omega.{arith}
+use lib.Arith.{digits-lt}
 use lib.Dec.{T}
 use lib.ListN.{getD}
 use Rattle.shares.specs.Test.{passes, of-false}
@@ -19,7 +20,15 @@ use Rattle.words.specs.TermLaws.{pass-mod, but-mod}
 use Rattle.beside.specs.Beside.{
   Readable, Shared, SameFree, Left, besideWords, TakenAll, Emptied, Swept, SweptAll, Missing, positivesPass, disequationPasses,
 }
+use Rattle.beside.specs.GatherLaws.{words-le}
 use Rattle.beside.specs.LeftLaws.{left-start, left-word, left-empty, left-own}
+
+-- the words beside word w are below 64
+pub word-small : (n m total words o w : ℕ) → n + m ≤ 12 → words ≡ wordCount n → total * wordCount n ≡ wordCount (n + m) → o < total → w < wordCount n
+    → o * words + w < 64
+word-small n m total words o w few e enough h l =
+    let small : o * wordCount n + w < total * wordCount n = digits-lt h l in
+    subst (λ k. o * k + w < 64) (sym e) (omega (arith, words-le (n + m) few))
 
 -- a word that is no longer wanted stays empty
 pub emptied-more : (count : ℕ) (s : ℕ → ℕ → Bool) (wanted going going′ : ℕ) (left left′ : List ℕ) → TakenAll count s going left going′ left′
