@@ -65,11 +65,14 @@ module _ (clauses counts : List ℕ) (n m values w x wanted : ℕ) where
 
   -- one word more: y has the choices of x that meet the positive clauses there
   module _ (o none going y none′ going′ : ℕ) (terms terms′ left left′ : List ℕ) (C : Readable clauses counts n m)
-      (table : Terms n m values (o * wordCount n + w) terms′)
+      (v : ℕ) (next : v ≡ o * wordCount n + w) (moved : Terms n m values v terms′)
       (section : (i : ℕ) → i < 64 → bit y i ≡ (bit x i && allClauses clauses (λ t. bit (getD terms′ t 0) i) 384 (getD counts 2 0)))
       (fewer : Left none (bit y) none′)
       (taken : TakenAll (getD counts 3 0) (λ j i. bit y i && not (clauseTest clauses (λ t. bit (getD terms′ t 0) i) (640 + 4 * j))) going left going′ left′)
       where
+    table : Terms n m values (o * wordCount n + w) terms′
+    table = subst (λ v. Terms n m values v terms′) next moved
+
     positives : (i : ℕ) → i < 64 → bit y i ≡ (bit x i && positivesPass clauses counts n m values (64 * (o * wordCount n + w) + i))
     positives i l =
         section i l

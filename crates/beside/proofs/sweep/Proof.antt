@@ -24,7 +24,7 @@ use Rattle.words.proofs.word_count.Reads as word-count-reads
 
 abbrev Inv-loop : tie.InvT-loop
 Inv-loop terms₀ clauses w x wanted left₀ sizes words total none₀ going₀ o₀ terms left none going o =
-    (o ≤ total) × (length terms ≡ 64) × (length left ≡ length left₀) × Emptied (getD (sizes .counts) 3 0) wanted going left
+    (o ≤ total) × (length left ≡ length left₀) × Emptied (getD (sizes .counts) 3 0) wanted going left
     × ((k : ℕ) → 32 ≤ k → getD left k 0 ≡ getD left₀ k 0)
     × ((values : ℕ) → Terms (sizes .free) (sizes .own) values w terms₀ → Swept clauses (sizes .counts) (sizes .free) (sizes .own) values w x wanted o none terms left)
 
@@ -42,7 +42,6 @@ loop-holds c =
     let a = c .before .before .before .args in
     let p = c .before .before .before .pre in (
       omega arith,
-      omega arith,
       refl,
       λ j h t u. absurd (T-not (bit (a .wanted) j) u t),
       λ k h. refl,
@@ -50,7 +49,7 @@ loop-holds c =
     )
 
 same-length : tie.Need-same-length Inv-loop μ-loop
-same-length c = c .before .before .before .loop .inv .2
+same-length c = c .before .before .before .loop .inv .1
 
 returns : tie.Need-returns Inv-loop μ-loop
 returns c =
@@ -61,9 +60,9 @@ returns c =
         words = total .result;
         enough = total .ensures;
         swept = rw (c .before .if1 .taken) at (swept-stop (a .clauses .now) (a .t3 .counts) (a .t3 .free) (a .t3 .own) values (a .w) (a .x) (a .wanted) (l .o) (total .result) (l .none) (l .going) (l .terms) (l .left)
-            (l .inv .0) (c .before .if1 .taken) (c .if2 .taken) (l .inv .3) (l .inv .5 values t));
+            (l .inv .0) (c .before .if1 .taken) (c .if2 .taken) (l .inv .2) (l .inv .4 values t));
       },
-      l .inv .4,
+      l .inv .3,
     )
 
 -- the next word is below 64
@@ -80,7 +79,7 @@ add-move-terms : tie.Need-add-move-terms Inv-loop μ-loop
 add-move-terms c = omega (arith, small c)
 
 move-terms-requires : tie.Need-move-terms-requires Inv-loop μ-loop
-move-terms-requires c κs = (c .before .before .before .before .before .before .before .pre .0 .variables, c .before .before .before .loop .inv .1)
+move-terms-requires c κs = (c .before .before .before .before .before .before .before .pre .0 .variables, c .move-terms-arg .given .0 .1)
 
 element-copy-out-section-word : tie.Need-element-copy-out-section-word Inv-loop μ-loop
 element-copy-out-section-word c = omega arith
@@ -94,7 +93,7 @@ element-copy-out-take-all c = omega arith
 take-all-requires : tie.Need-take-all-requires Inv-loop μ-loop
 take-all-requires c κs =
     let p = c .before .before .before .before .before .before .before .before .before .before .before .before .before .before .pre in
-    ((omega (arith, p .0 .few), omega (arith, c .before .before .before .before .before .before .before .before .before .before .loop .inv .2, p .1 .1)), p .0 .second-disequation)
+    ((omega (arith, p .0 .few), omega (arith, c .before .before .before .before .before .before .before .before .before .before .loop .inv .1, p .1 .1)), p .0 .second-disequation)
 
 add-o : tie.Need-add-o Inv-loop μ-loop
 add-o c = omega (arith, c .before .before .before .before .before .before .before .before .before .before .before .before .loop-test .taken)
@@ -110,31 +109,30 @@ loop-again c =
     let l = c .before .before .before .before .before .before .before .before .before .before .before .before .before .loop in
     let moved = c .before .before .before .before .before .before .before .before .before .move-terms in
     let y = c .before .before .before .before .before .before .section-word in
-    let taken = c .before .before .take-all in
-    let here : l .o * words .result + a .w ≡ l .o * wordCount (a .t3 .free) + a .w = ap (λ k. l .o * k + a .w) (words .ensures) in (
-      c .before .before .before .before .before .before .before .before .before .before .before .before .loop-test .taken,
-      moved .kept .1 .1 .1 .0 ∙ l .inv .1,
-      taken .kept .1 .1 .1 .1 .1 .0 ∙ l .inv .2,
-      emptied-more _ _ (a .wanted) (l .going) (taken .result) (l .left) _ (taken .ensures) (l .inv .3),
-      λ k h. taken .ensures .left-kept k (λ m. absurd (omega (arith, s .pre .0 .few))) ∙ l .inv .4 k h,
+    let taken = c .before .before .take-all in (
+      omega (arith, c .before .before .before .before .before .before .before .before .before .before .before .before .loop-test .taken),
+      taken .kept .1 .1 .1 .1 .1 .0 ∙ l .inv .1,
+      emptied-more _ _ (a .wanted) (l .going) (taken .result) (l .left) _ (taken .ensures) (l .inv .2),
+      λ k h. taken .ensures .left-kept k (λ m. absurd (omega (arith, s .pre .0 .few))) ∙ l .inv .3 k h,
       λ values t.
-          let S = l .inv .5 values t in
+          let S = l .inv .4 values t in
           swept-more (a .clauses .now) (a .t3 .counts) (a .t3 .free) (a .t3 .own) values (a .w) (a .x) (a .wanted) (l .o) (l .none) (l .going) (y .result) _ (taken .result)
-          (l .terms) _ (l .left) _ (s .pre .0) (subst (λ v. Terms (a .t3 .free) (a .t3 .own) values v _) here (moved .ensures values (S .at) (S .table)))
+          (l .terms) _ (l .left) _ (s .pre .0) (l .o * words .result + a .w) (ap (λ k. l .o * k + a .w) (words .ensures))
+          (moved .ensures values (S .at) (S .table))
           (y .ensures) (λ i h. bit-and (l .none) _ i ∙ ap (_&&_ (bit (l .none) i)) (not-bits (y .result) i (bit (y .result) i) (y .ok) h refl))
-          (taken .ensures) (l .inv .3) S,
+          (taken .ensures) (l .inv .2) S,
     )
 
 same-length-2 : tie.Need-same-length-2 Inv-loop μ-loop
-same-length-2 c = c .before .loop .inv .2
+same-length-2 c = c .before .loop .inv .1
 
 returns-2 : tie.Need-returns-2 Inv-loop μ-loop
 returns-2 c =
     let l = c .before .loop in
     let total = c .before .before .own-words in
     let e : l .o ≡ total .result = omega (arith, c .loop-test .left) in (
-      λ values t. record { words = total .result; enough = total .ensures; swept = rw e at (l .inv .5 values t) },
-      l .inv .4,
+      λ values t. record { words = total .result; enough = total .ensures; swept = rw e at (l .inv .4 values t) },
+      l .inv .3,
     )
 
 pub sweep-spec : {M : Type 1} → statement M
