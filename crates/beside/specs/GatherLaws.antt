@@ -2,22 +2,18 @@
 -- Assumes nothing.
 use mathlib.Core.Path.{_≡_, sym, ap, ap₂, _∙_, subst}
 use mathlib.Core.Logic.{_↔_}
-use mathlib.Core.Bool.{Bool, not, _&&_, _||_, or-false, Bool·not-not}
+use mathlib.Core.Bool.{Bool, not, _&&_, Bool·not-not}
 use Prim.Native.Nat.{ℕ, _+_, _-_, _*_, _/_, _%_, _^_, _≤_, _<_}
-use native.Mathlib.Nat.{zero-add, add-zero, zero-mul, mod-lt, mod-one, mod-eq-of-lt, add-comm, lt-of-lt-of-le}
-use native.Mathlib.Decide.{decLt, decLe, ℕ-discrete}
-use native.Mathlib.Numerals.{add-one}
+use native.Mathlib.Nat.{mod-lt, mod-one, mod-eq-of-lt, add-comm, lt-of-lt-of-le}
+use native.Mathlib.Decide.{decLt, decLe}
 use native.Mathlib.Omega.{arith}
 use lib.Arith.{digits-lt, lt-one}
-use lib.Bits.{bitAnd, and-mask}
 use lib.Dec.{T, T-not, eqb, eqb→eq, eqb-refl}
 use lib.Pow.{pow-pos, pow-mono, pow-add, shr-lt, low, mod-pow-add, mod-mod-pow}
-use borrow.Author.Tests.{eq-eqb, ne-eqb}
-use Rattle.shares.specs.Test.{same-test, of-true, and-intro, and-left, and-right}
+use Rattle.shares.specs.Test.{same-test, and-intro, and-left, and-right}
 use Rattle.shares.specs.Below.{someBelow, firstBelow}
-use Rattle.shares.specs.BelowLaws.{some-found, some-intro, some-more, first-longer, first-passes, first-some, first-not-some}
+use Rattle.shares.specs.BelowLaws.{some-found, some-intro, first-longer, first-passes, first-some, first-not-some}
 use Rattle.shares.specs.Constant.{bit}
-use Rattle.shares.specs.BitLaws.{bit-zero}
 use Rattle.words.specs.Choices.{wordCount, someOwn, Periodic}
 use Rattle.beside.specs.Beside.{Merged, Shared}
 
@@ -53,11 +49,6 @@ words-pos n = pow-pos (n - 6)
 pub words-le : (n : ℕ) → n ≤ 12 → wordCount n ≤ 64
 unfolding wordCount
 words-le n h = pow-mono {j = 6} (omega arith)
-
--- the remainder by a count of words is a mask
-pub word-free : (v n : ℕ) → bitAnd v (wordCount n - 1) ≡ v % wordCount n
-unfolding wordCount
-word-free v n = and-mask v (n - 6)
 
 -- bits i of word w and j of word u are the same free choice
 pub same-free : (n u w i j : ℕ) → w < wordCount n → i < 64 → j < 64
@@ -115,14 +106,6 @@ module _ (n m : ℕ) (p : ℕ → Bool) (periodic : Periodic (n + m) p) where
     λ (u, j, hu, hj, e, f, v).
         subst (λ x. T (someOwn n m p x)) (same-free n u w i j hw hi hj .1 (e, f)) (own-intro (64 * u + j) v),
   )
-
--- without own variables a free choice is the whole choice
-pub own-none : (n : ℕ) (p : ℕ → Bool) → Periodic (n + 0) p → (z : ℕ) → someOwn n 0 p (z % 2 ^ n) ≡ p z
-unfolding someOwn someBelow
-own-none n p periodic z =
-    let e : 0 * 2 ^ n + z % 2 ^ n ≡ z % 2 ^ (n + 0) =
-    ap (λ k. k + z % 2 ^ n) (zero-mul (2 ^ n)) ∙ zero-add (z % 2 ^ n) ∙ ap (λ k. z % 2 ^ k) (sym (add-zero n)) in
-    or-false (p (0 * 2 ^ n + z % 2 ^ n)) ∙ ap p e ∙ sym (periodic z)
 
 -- where all six digits of a bit's number are free, no other bit has the same
 alone : (n : ℕ) (f : ℕ → Bool) → 6 ≤ n → (i : ℕ) → i < 64 → f i ≡ someBelow 64 (λ j. eqb (j % 2 ^ n) (i % 2 ^ n) && f j)

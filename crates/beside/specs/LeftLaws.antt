@@ -2,13 +2,13 @@
 use mathlib.Core.Path.{_≡_, refl, sym, ap, _∙_, subst}
 use mathlib.Core.Bool.{Bool, true, false, not, _&&_, _||_, and-true, true≢false}
 use Prim.Native.Nat.{ℕ, _+_, _*_, _/_, _%_, _^_, _≤_, _<_}
-use native.Mathlib.Nat.{mod-lt, div-add-mod', div-lt-iff-lt-mul, mul-comm}
+use native.Mathlib.Nat.{div-add-mod', div-lt-iff-lt-mul}
 use native.Mathlib.Numerals.{add-one}
 use native.Mathlib.Omega.{arith}
 use lib.Arith.{digits-lt, digits-mod}
-use lib.Dec.{T, T-not, not-T, eqb, eqb→eq, eqb-refl}
+use lib.Dec.{T, T-not, not-T, eqb, eqb→eq}
 use borrow.Author.Tests.{eq-eqb}
-use Rattle.shares.specs.Test.{same-test, of-true, is-true, holds, and-intro, and-left, and-right}
+use Rattle.shares.specs.Test.{same-test, of-true, holds, and-intro, and-left, and-right}
 use Rattle.shares.specs.Below.{someBelow}
 use Rattle.shares.specs.BelowLaws.{some-found, some-intro, some-more}
 use Rattle.shares.specs.Constant.{bit}
@@ -89,9 +89,9 @@ module _ (n m w words : ℕ) (p : ℕ → Bool) (periodic : Periodic (n + m) p) 
       there t =
           let set : (j : ℕ) → j < 64 → j % 2 ^ n ≡ i % 2 ^ n → T (bit x j && not (besideWords (wordCount n) w words p j)) =
           λ j l e.
-              subst T (f j l)
-              (holds (bit r j) (λ u. T-not (someBelow 64 fails) t
-              (some-intro 64 fails j l (and-intro (eqb (j % 2 ^ n) (i % 2 ^ n)) (not (bit r j)) (of-true (eq-eqb (j % 2 ^ n) (i % 2 ^ n) e)) u)))) in
+          subst T (f j l)
+          (holds (bit r j) (λ u. T-not (someBelow 64 fails) t
+          (some-intro 64 fails j l (and-intro (eqb (j % 2 ^ n) (i % 2 ^ n)) (not (bit r j)) (of-true (eq-eqb (j % 2 ^ n) (i % 2 ^ n) e)) u)))) in
           and-intro (bit x i) (not (besideOwn n m w p i)) (and-left (bit x i) (not (besideWords (wordCount n) w words p i)) (set i h refl))
           (not-T (besideOwn n m w p i) (λ u.
           let (j, l, e, v) = beside-own i h u in

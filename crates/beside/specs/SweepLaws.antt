@@ -18,7 +18,18 @@ use Rattle.words.specs.Table.{Terms}
 use Rattle.words.specs.TableLaws.{table-section, table-but}
 use Rattle.words.specs.TermLaws.{pass-mod, but-mod}
 use Rattle.beside.specs.Beside.{
-  Readable, Shared, SameFree, Left, besideWords, TakenAll, Emptied, Swept, SweptAll, Missing, positivesPass, disequationPasses,
+  Readable,
+  Shared,
+  SameFree,
+  Left,
+  besideWords,
+  TakenAll,
+  Emptied,
+  Swept,
+  SweptAll,
+  Missing,
+  positivesPass,
+  disequationPasses,
 }
 use Rattle.beside.specs.GatherLaws.{words-le}
 use Rattle.beside.specs.LeftLaws.{left-start, left-word, left-empty, left-own}
@@ -69,44 +80,44 @@ module _ (clauses counts : List ℕ) (n m values w x wanted : ℕ) where
       (section : (i : ℕ) → i < 64 → bit y i ≡ (bit x i && allClauses clauses (λ t. bit (getD terms′ t 0) i) 384 (getD counts 2 0)))
       (fewer : Left none (bit y) none′)
       (taken : TakenAll (getD counts 3 0) (λ j i. bit y i && not (clauseTest clauses (λ t. bit (getD terms′ t 0) i) (640 + 4 * j))) going left going′ left′)
-      where
-    table : Terms n m values (o * wordCount n + w) terms′
-    table = subst (λ v. Terms n m values v terms′) next moved
+    where
+      table : Terms n m values (o * wordCount n + w) terms′
+      table = subst (λ v. Terms n m values v terms′) next moved
 
-    positives : (i : ℕ) → i < 64 → bit y i ≡ (bit x i && positivesPass clauses counts n m values (64 * (o * wordCount n + w) + i))
-    positives i l =
-        section i l
-        ∙ ap (_&&_ (bit x i)) (table-section n m values (o * wordCount n + w) terms′ clauses table 384 (getD counts 2 0) (C .second-positive) i l)
+      positives : (i : ℕ) → i < 64 → bit y i ≡ (bit x i && positivesPass clauses counts n m values (64 * (o * wordCount n + w) + i))
+      positives i l =
+          section i l
+          ∙ ap (_&&_ (bit x i)) (table-section n m values (o * wordCount n + w) terms′ clauses table 384 (getD counts 2 0) (C .second-positive) i l)
 
-    disequation : (j : ℕ) → j < getD counts 3 0 → (i : ℕ) → i < 64
-        → (bit y i && not (clauseTest clauses (λ t. bit (getD terms′ t 0) i) (640 + 4 * j)))
-        ≡ (bit x i && disequationPasses clauses counts n m values j (64 * (o * wordCount n + w) + i))
-    disequation j h i l =
-        let test = not (clauseTest clauses (λ t. bit (getD terms′ t 0) i) (640 + 4 * j)) in
-        ap (λ b. b && test) (section i l)
-        ∙ and-assoc (bit x i) (allClauses clauses (λ t. bit (getD terms′ t 0) i) 384 (getD counts 2 0)) test
-        ∙ ap (_&&_ (bit x i))
-        (table-but n m values (o * wordCount n + w) terms′ clauses table 384 (getD counts 2 0) (640 + 4 * j) (C .second-positive)
-        (clauses-at (C .second-disequation) j h) i l)
+      disequation : (j : ℕ) → j < getD counts 3 0 → (i : ℕ) → i < 64
+          → (bit y i && not (clauseTest clauses (λ t. bit (getD terms′ t 0) i) (640 + 4 * j)))
+          ≡ (bit x i && disequationPasses clauses counts n m values j (64 * (o * wordCount n + w) + i))
+      disequation j h i l =
+          let test = not (clauseTest clauses (λ t. bit (getD terms′ t 0) i) (640 + 4 * j)) in
+          ap (λ b. b && test) (section i l)
+          ∙ and-assoc (bit x i) (allClauses clauses (λ t. bit (getD terms′ t 0) i) 384 (getD counts 2 0)) test
+          ∙ ap (_&&_ (bit x i))
+          (table-but n m values (o * wordCount n + w) terms′ clauses table 384 (getD counts 2 0) (640 + 4 * j) (C .second-positive)
+          (clauses-at (C .second-disequation) j h) i l)
 
-    pub swept-more : Emptied (getD counts 3 0) wanted going left → Swept clauses counts n m values w x wanted o none terms left
-        → Swept clauses counts n m values w x wanted (o + 1) none′ terms′ left′
-    swept-more empty S = record {
-      rest = left-word (wordCount n) w o x none none′ (positivesPass clauses counts n m values) (S .rest)
-          (λ i l. fewer i l ∙ ap (λ b. bit none i && not b) (positives i l));
-      each = λ j h t. each j h t (passes (bit going j));
-      at = o * wordCount n + w;
-      table = table;
-    }
-      where
-        each : (j : ℕ) → j < getD counts 3 0 → T (bit wanted j) → T (bit going j) ⊎ T (not (bit going j))
-            → Left x (besideWords (wordCount n) w (o + 1) (disequationPasses clauses counts n m values j)) (getD left′ j 0)
-        each j h t (inl u) =
-            left-word (wordCount n) w o x (getD left j 0) (getD left′ j 0) (disequationPasses clauses counts n m values j) (S .each j h t)
-            (λ i l. taken .word j h u i l ∙ ap (λ b. bit (getD left j 0) i && not b) (disequation j h i l))
-        each j h t (inr u) =
-            subst (Left x (besideWords (wordCount n) w (o + 1) (disequationPasses clauses counts n m values j))) (sym (taken .left-kept j (λ l. u)))
-            (left-empty (wordCount n) w o (o + 1) x (getD left j 0) (disequationPasses clauses counts n m values j) (omega arith) (empty j h t u) (S .each j h t))
+      pub swept-more : Emptied (getD counts 3 0) wanted going left → Swept clauses counts n m values w x wanted o none terms left
+          → Swept clauses counts n m values w x wanted (o + 1) none′ terms′ left′
+      swept-more empty S = record {
+        rest = left-word (wordCount n) w o x none none′ (positivesPass clauses counts n m values) (S .rest)
+            (λ i l. fewer i l ∙ ap (λ b. bit none i && not b) (positives i l));
+        each = λ j h t. each j h t (passes (bit going j));
+        at = o * wordCount n + w;
+        table = table;
+      }
+        where
+          each : (j : ℕ) → j < getD counts 3 0 → T (bit wanted j) → T (bit going j) ⊎ T (not (bit going j))
+              → Left x (besideWords (wordCount n) w (o + 1) (disequationPasses clauses counts n m values j)) (getD left′ j 0)
+          each j h t (inl u) =
+              left-word (wordCount n) w o x (getD left j 0) (getD left′ j 0) (disequationPasses clauses counts n m values j) (S .each j h t)
+              (λ i l. taken .word j h u i l ∙ ap (λ b. bit (getD left j 0) i && not b) (disequation j h i l))
+          each j h t (inr u) =
+              subst (Left x (besideWords (wordCount n) w (o + 1) (disequationPasses clauses counts n m values j))) (sym (taken .left-kept j (λ l. u)))
+              (left-empty (wordCount n) w o (o + 1) x (getD left j 0) (disequationPasses clauses counts n m values j) (omega arith) (empty j h t u) (S .each j h t))
 
   -- after all words, shared among the bits with the same free digits
   pub swept-missing : (none r : ℕ) (terms left left′ : List ℕ) → w < wordCount n → SameFree n x → Shared n none r

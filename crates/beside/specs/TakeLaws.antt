@@ -2,8 +2,8 @@
 use mathlib.Core.Path.{_≡_, refl, sym, ap, _∙_, subst}
 use mathlib.Core.Bool.{Bool, false, not, _&&_, and-true}
 use mathlib.Core.List.{List}
-use Prim.Native.Nat.{ℕ, _+_, _-_, _*_, _%_, _^_, _≤_, _<_}
-use native.Mathlib.Decide.{decLt, ℕ-discrete}
+use Prim.Native.Nat.{ℕ, _+_, _-_, _*_, _%_, _^_, _<_}
+use native.Mathlib.Decide.{decLt}
 use native.Mathlib.Omega.{arith}
 use lib.Bits.{bitAnd}
 use lib.Dec.{T, T-not, lit<}
@@ -14,8 +14,13 @@ use borrow.Author.Tests.{ne-eqb}
 use Rattle.shares.specs.Constant.{bit}
 use Rattle.shares.specs.BitLaws.{bit-and}
 use Rattle.shares.specs.BitParts.{bit-not, bit-digit}
+use Rattle.words.specs.ClauseLaws.{not-bits}
 use Rattle.words.specs.Shifts.{power-shift}
 use Rattle.beside.specs.Beside.{Left, Taken, TakenAll}
+
+-- the bits of y taken out of x
+pub taken-out : (x y : ℕ) (s : ℕ → Bool) → y < 2 ^ 64 → ((i : ℕ) → i < 64 → bit y i ≡ s i) → Left x s (bitAnd x ((2 ^ 64 - 1) - y))
+taken-out x y s l e i h = bit-and x ((2 ^ 64 - 1) - y) i ∙ ap (_&&_ (bit x i)) (not-bits y i (s i) l h (e i h))
 
 -- bit j taken out of a word: every other bit stays
 pub other-bits : (x j k : ℕ) → j < 64 → k < 64 → (k ≡ j → ⊥) → bit (bitAnd x ((2 ^ 64 - 1) - (1 * 2 ^ j) % 2 ^ 64)) k ≡ bit x k

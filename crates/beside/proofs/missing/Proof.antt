@@ -5,13 +5,6 @@ use Rattle.beside.specs.SweepLaws.{swept-missing}
 use borrow.Author.Needs.{needs}
 use Rattle.beside.proofs.missing.Statement.{statement}
 use Rattle.beside.proofs.missing.Tie as tie
-use Rattle.beside.proofs.missing.Reads as reads
-use Rattle.beside.proofs.missing.Lts as lts
-use Rattle.beside.proofs.put_all.Reads as put-all-reads
-use Rattle.beside.proofs.share_word.Reads as share-word-reads
-use Rattle.beside.proofs.share_words.Reads as share-words-reads
-use Rattle.beside.proofs.sweep.Reads as sweep-reads
-use Rattle.words.proofs.move_terms.Reads as move-terms-reads
 
 element-copy-out-count : tie.Need-element-copy-out-count
 element-copy-out-count c = search needs

@@ -1,5 +1,5 @@
 -- `beside::own_words` meets its contract. Assumes nothing.
-use mathlib.Core.Path.{_≡_, sym, ap, ap₂, _∙_}
+use mathlib.Core.Path.{_≡_, sym, ap, _∙_}
 use Prim.Native.Nat.{_+_, _-_, _*_, _^_}
 use native.Mathlib.Nat.{mul-one}
 use native.Mathlib.Omega.{arith}
@@ -8,10 +8,6 @@ use lib.Pow.{pow-add}
 use Rattle.words.specs.Choices.{wordCount}
 use Rattle.beside.proofs.own_words.Statement.{statement}
 use Rattle.beside.proofs.own_words.Tie as tie
-use Rattle.beside.proofs.own_words.Reads as reads
-use Rattle.beside.proofs.own_words.Lts as lts
-use Rattle.basics.proofs.power.Reads as power-reads
-use Rattle.words.proofs.word_count.Reads as word-count-reads
 
 add-word-count : tie.Need-add-word-count
 add-word-count c = search needs

@@ -10,9 +10,6 @@ use Rattle.shares.specs.BitParts.{bit-not}
 use Rattle.words.specs.ClauseLaws.{not-bits}
 use Rattle.beside.proofs.share_word.Statement.{statement}
 use Rattle.beside.proofs.share_word.Tie as tie
-use Rattle.beside.proofs.share_word.Reads as reads
-use Rattle.beside.proofs.share_word.Lts as lts
-use Rattle.beside.proofs.merge_word.Reads as merge-word-reads
 
 merge-word-requires : tie.Need-merge-word-requires
 merge-word-requires c κs = search needs

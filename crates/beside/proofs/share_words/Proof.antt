@@ -1,5 +1,5 @@
 -- `beside::share_words` meets its contract. The loop's invariant: the first j words are shared, and the others are as they were. Assumes nothing.
-use mathlib.Core.Path.{_≡_, refl, ap, _∙_, subst}
+use mathlib.Core.Path.{_≡_, refl, subst}
 use Prim.Native.Nat.{ℕ, _-_, _≤_, _<_}
 use native.Mathlib.Omega.{arith}
 use lib.ListN.{length, getD, length-set}
@@ -8,9 +8,6 @@ use Rattle.beside.specs.GatherLaws.{shared-same}
 use Rattle.beside.specs.StoreLaws.{stored-more, kept-more}
 use Rattle.beside.proofs.share_words.Statement.{statement}
 use Rattle.beside.proofs.share_words.Tie as tie
-use Rattle.beside.proofs.share_words.Reads as reads
-use Rattle.beside.proofs.share_words.Lts as lts
-use Rattle.beside.proofs.share_word.Reads as share-word-reads
 
 abbrev Inv-loop : tie.InvT-loop
 Inv-loop words₀ count n j₀ words j =

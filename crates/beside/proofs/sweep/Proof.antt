@@ -1,26 +1,16 @@
 -- `beside::sweep` meets its contract. The loop's invariant: what is left after o words, and what is no longer wanted is empty. Assumes nothing.
-use mathlib.Core.Path.{_≡_, refl, sym, ap, _∙_, subst}
-use mathlib.Core.Bool.{_&&_}
+use mathlib.Core.Path.{_≡_, refl, ap, _∙_}
 use Prim.Native.Nat.{ℕ, _+_, _*_, _-_, _≤_, _<_}
 use native.Mathlib.Omega.{arith}
-use lib.Dec.{T, T-not}
+use lib.Dec.{T-not}
 use lib.ListN.{length, getD}
 use Rattle.shares.specs.Constant.{bit}
-use Rattle.shares.specs.BitLaws.{bit-and}
-use Rattle.words.specs.ClauseLaws.{not-bits}
-use Rattle.words.specs.Choices.{wordCount}
 use Rattle.words.specs.Table.{Terms}
 use Rattle.beside.specs.Beside.{Emptied, Swept}
+use Rattle.beside.specs.TakeLaws.{taken-out}
 use Rattle.beside.specs.SweepLaws.{word-small, emptied-more, swept-start, swept-stop, swept-more}
 use Rattle.beside.proofs.sweep.Statement.{statement}
 use Rattle.beside.proofs.sweep.Tie as tie
-use Rattle.beside.proofs.sweep.Reads as reads
-use Rattle.beside.proofs.sweep.Lts as lts
-use Rattle.beside.proofs.own_words.Reads as own-words-reads
-use Rattle.beside.proofs.take_all.Reads as take-all-reads
-use Rattle.words.proofs.move_terms.Reads as move-terms-reads
-use Rattle.words.proofs.section_word.Reads as section-word-reads
-use Rattle.words.proofs.word_count.Reads as word-count-reads
 
 abbrev Inv-loop : tie.InvT-loop
 Inv-loop terms₀ clauses w x wanted left₀ sizes words total none₀ going₀ o₀ terms left none going o =
@@ -119,7 +109,7 @@ loop-again c =
           swept-more (a .clauses .now) (a .t3 .counts) (a .t3 .free) (a .t3 .own) values (a .w) (a .x) (a .wanted) (l .o) (l .none) (l .going) (y .result) _ (taken .result)
           (l .terms) _ (l .left) _ (s .pre .0) (l .o * words .result + a .w) (ap (λ k. l .o * k + a .w) (words .ensures))
           (moved .ensures values (S .at) (S .table))
-          (y .ensures) (λ i h. bit-and (l .none) _ i ∙ ap (_&&_ (bit (l .none) i)) (not-bits (y .result) i (bit (y .result) i) (y .ok) h refl))
+          (y .ensures) (taken-out (l .none) (y .result) (bit (y .result)) (y .ok) (λ i h. refl))
           (taken .ensures) (l .inv .2) S,
     )
 

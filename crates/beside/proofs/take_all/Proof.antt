@@ -12,9 +12,6 @@ use Rattle.beside.specs.Beside.{TakenAll}
 use Rattle.beside.specs.TakeLaws.{taken-nothing, taken-start, taken-more}
 use Rattle.beside.proofs.take_all.Statement.{statement}
 use Rattle.beside.proofs.take_all.Tie as tie
-use Rattle.beside.proofs.take_all.Reads as reads
-use Rattle.beside.proofs.take_all.Lts as lts
-use Rattle.beside.proofs.take_one.Reads as take-one-reads
 
 abbrev Inv-loop : tie.InvT-loop
 Inv-loop terms clauses count y wanted left₀ r₀ j₀ left r j =

@@ -1,22 +1,15 @@
 -- `beside::take_one` meets its contract. Assumes nothing.
-use mathlib.Core.Path.{_≡_, refl, ap, _∙_, subst}
-use mathlib.Core.Bool.{Bool, true, false, not, _&&_}
+use mathlib.Core.Path.{_≡_, refl, subst}
+use mathlib.Core.Bool.{Bool, false, not}
 use native.Mathlib.Omega.{arith}
 use lib.Dec.{T, T-not}
 use lib.ListN.{getD}
 use Rattle.shares.specs.Test.{of-true, of-false, holds}
 use Rattle.shares.specs.Constant.{bit}
-use Rattle.shares.specs.BitLaws.{bit-and}
-use Rattle.words.specs.ClauseLaws.{not-bits}
-use Rattle.beside.specs.Beside.{Left}
-use Rattle.beside.specs.TakeLaws.{other-bits, taken-not, taken-set}
+use Rattle.beside.specs.TakeLaws.{taken-out, other-bits, taken-not, taken-set}
 use borrow.Author.Needs.{needs}
 use Rattle.beside.proofs.take_one.Statement.{statement}
 use Rattle.beside.proofs.take_one.Tie as tie
-use Rattle.beside.proofs.take_one.Reads as reads
-use Rattle.beside.proofs.take_one.Lts as lts
-use Rattle.basics.proofs.digit.Reads as digit-reads
-use Rattle.words.proofs.failing_word.Reads as failing-word-reads
 
 digit-requires : tie.Need-digit-requires
 digit-requires c κs = search needs
@@ -57,7 +50,7 @@ returns-2 c =
     let d = c .before .before .before .before .digit in
     let f = c .before .failing-word in
     taken-set (a .j) _ (a .wanted) (a .left .now) _ _ (omega arith) (wanted-here (d .result) _ (d .ensures) (c .before .before .before .if1 .left))
-    (λ i h. bit-and _ _ i ∙ ap (_&&_ (bit (getD (a .left .now) (a .j) 0) i)) (not-bits (f .result) i _ (f .ok) h (f .ensures i h)))
+    (taken-out (getD (a .left .now) (a .j) 0) (f .result) _ (f .ok) (f .ensures))
     (λ u. c .if2 .taken) (λ k h n. other-bits (a .wanted) (a .j) k (omega arith) h n)
 
 same-length-2 : tie.Need-same-length-2
@@ -70,7 +63,7 @@ returns-3 c =
     let f = c .before .failing-word in
     let t = wanted-here (d .result) (bit (a .wanted) (a .j)) (d .ensures) (c .before .before .before .if1 .left) in
     taken-set (a .j) _ (a .wanted) (a .left .now) (a .wanted) _ (omega arith) t
-    (λ i h. bit-and _ _ i ∙ ap (_&&_ (bit (getD (a .left .now) (a .j) 0) i)) (not-bits (f .result) i _ (f .ok) h (f .ensures i h)))
+    (taken-out (getD (a .left .now) (a .j) 0) (f .result) _ (f .ok) (f .ensures))
     (λ u. absurd (T-not (bit (a .wanted) (a .j)) u t)) (λ k h n. refl)
 
 pub take-one-spec : {M : Type 1} → statement M
