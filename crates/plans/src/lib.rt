@@ -4,7 +4,6 @@ ghost use Prim.Native.Nat.{ℕ, _+_, _*_, _/_, _%_, _^_, _<_, _≤_};
 ghost use lib.ListN.{length, getD, set};
 ghost use Rattle.leaves.specs.Heights.{c};
 ghost use Rattle.leaves.specs.Problem.{Problem};
-ghost use Rattle.words.specs.Choices.{wordCount};
 ghost use Rattle.plans.specs.Pairs.{leafWidth, slotOf, Fitting, PairsOf, Filled, Made};
 
 // Which choice of values stands at each sub-leaf of a shown solution. The value of a variable is one binary digit of a choice.
@@ -103,7 +102,7 @@ fn sub_leaf(leaf: usize, splits: usize, rank: usize) -> u16
 // Takes the next sub-leaf of a leaf: its rank is how many were taken there before.
 fn take_rank(taken: &mut [usize], leaf: usize) -> usize
     requires { ⌜ (leaf < length (now taken)) × (getD (now taken) leaf 0 < 32) ⌝ }
-    ensures { λ r. ⌜ (r ≡ getD (now (taken .entry)) leaf 0) × (now (taken .exit) ≡ set (now (taken .entry)) leaf (r + 1)) ⌝ }
+    ensures { λ r. ⌜ (r ≡ getD (now (taken .entry)) leaf 0) × (r < 32) × (now (taken .exit) ≡ set (now (taken .entry)) leaf (r + 1)) ⌝ }
 {
     let rank = taken[leaf];
     taken[leaf] = rank + 1;

@@ -1,20 +1,13 @@
 -- `plans::fill_entries` meets its contract. The loop's invariant: the first e disequations have their sub-leaves and choices. Assumes nothing.
-use mathlib.Core.Path.{_≡_, refl, sym, ap, _∙_}
-use Prim.Native.Nat.{ℕ, _+_, _-_, _/_, _%_, _≤_, _<_}
+use mathlib.Core.Path.{_≡_, refl, ap, _∙_}
+use Prim.Native.Nat.{_+_, _-_, _/_, _%_, _≤_, _<_}
 use native.Mathlib.Omega.{arith}
-use lib.ListN.{length, getD, length-set}
+use lib.ListN.{length, length-set}
 use borrow.Author.Needs.{needs}
 use Rattle.plans.specs.Pairs.{Filled, leafWidth, pairLeaf}
 use Rattle.plans.specs.PairLaws.{Taken, pair-lt, pair-leaf-lt, filled-none, taken-none, rank-le, taken-more, sub-leaf-is, filled-more}
 use Rattle.plans.proofs.fill_entries.Statement.{statement}
 use Rattle.plans.proofs.fill_entries.Tie as tie
-use Rattle.plans.proofs.fill_entries.Reads as reads
-use Rattle.plans.proofs.fill_entries.Lts as lts
-use Rattle.plans.proofs.pair_at.Reads as pair-at-reads
-use Rattle.plans.proofs.pair_choice.Reads as pair-choice-reads
-use Rattle.plans.proofs.pair_leaf.Reads as pair-leaf-reads
-use Rattle.plans.proofs.sub_leaf.Reads as sub-leaf-reads
-use Rattle.plans.proofs.take_rank.Reads as take-rank-reads
 
 abbrev Inv-loop : tie.InvT-loop
 Inv-loop pairs outline subleaf₀ choice₀ taken₀ e₀ subleaf choice taken e = (e ≤ outline .extra + outline .count) × (length subleaf ≡ 32) × (length choice ≡ 32)
@@ -23,33 +16,29 @@ Inv-loop pairs outline subleaf₀ choice₀ taken₀ e₀ subleaf choice taken e
 abbrev μ-loop : tie.MeasureT-loop
 μ-loop pairs outline subleaf₀ choice₀ taken₀ e₀ subleaf choice taken e = outline .extra + outline .count - e
 
--- src/lib.rt:133:5
 loop-holds : tie.Need-loop-holds Inv-loop μ-loop
 loop-holds c =
     let s = c .before .before in
     (omega arith, s .pre .1 .0, s .pre .1 .1, refl, taken-none (s .args .outline) (s .args .pairs .now), filled-none (s .args .outline) (s .args .pairs .now) _ _)
 
--- src/lib.rt:133:15
 add-if1 : tie.Need-add-if1 Inv-loop μ-loop
 add-if1 c = omega arith
 
--- src/lib.rt:134:13
 pair-at-requires : tie.Need-pair-at-requires Inv-loop μ-loop
 pair-at-requires c κs =
     let s = c .before .before .before .before .before in
     let few = s .pre .0 in
     ((few .extra, omega (arith, few .extra, few .few)), pair-lt (s .args .outline) (s .args .pairs .now) few (c .before .before .loop .e) (c .if1 .taken))
 
--- src/lib.rt:135:13
 pair-leaf-requires : tie.Need-pair-leaf-requires Inv-loop μ-loop
 pair-leaf-requires c κs = search needs
 
--- src/lib.rt:136:30
 slice-aggregate-take-rank : tie.Need-slice-aggregate-take-rank Inv-loop μ-loop
 slice-aggregate-take-rank c = search needs
 
 -- the leaf of the pair at hand
-at-leaf : (c : tie.After-pair-leaf Inv-loop μ-loop) → (let s = c .before .before .before .before .before .before .before in
+at-leaf : (c : tie.After-pair-leaf Inv-loop μ-loop) → (
+    let s = c .before .before .before .before .before .before .before in
     c .pair-leaf .result ≡ pairLeaf (s .args .outline) (s .args .pairs .now) (c .before .before .before .before .loop .e))
 at-leaf c =
     let s = c .before .before .before .before .before .before .before in
@@ -64,55 +53,37 @@ take-rank-requires : tie.Need-take-rank-requires Inv-loop μ-loop
 take-rank-requires c κs =
     let l = c .before .before .before .before .before .loop in
     let s = c .before .before .before .before .before .before .before .before in
-    let within = leaf-lt (c .before) in
-    (
+    let within = leaf-lt (c .before) in (
       omega (arith, within, l .inv .3),
       omega (arith, s .pre .0 .extra, s .pre .0 .few, rank-le (s .args .outline) (s .args .pairs .now) (l .e) (c .before .pair-leaf .result) _ (l .taken) (at-leaf (c .before)) within refl (l .inv .4)),
     )
 
-
--- src/lib.rt:137:22
 sub-leaf-requires : tie.Need-sub-leaf-requires Inv-loop μ-loop
 sub-leaf-requires c κs =
-    let l = c .before .before .before .before .before .before .before .loop in
     let s = c .before .before .before .before .before .before .before .before .before .before in
-    let leaf = c .before .before .before in
-    (
-      leaf-lt leaf,
-      s .pre .0 .splits,
-      omega (arith, s .pre .0 .extra, s .pre .0 .few, c .before .before .before .before .before .if1 .taken,
-      rank-le (s .args .outline) (s .args .pairs .now) (l .e) (leaf .pair-leaf .result) (c .before .take-rank .result) (l .taken) (at-leaf leaf) (leaf-lt leaf) (c .before .take-rank .ensures .0) (l .inv .4)),
-    )
+    (leaf-lt (c .before .before .before), s .pre .0 .splits, omega (arith, c .before .take-rank .ensures .1))
 
--- src/lib.rt:137:9
 mul-subleaf : tie.Need-mul-subleaf Inv-loop μ-loop
 mul-subleaf c = omega arith
 
--- src/lib.rt:137:9
 slice-write-subleaf : tie.Need-slice-write-subleaf Inv-loop μ-loop
 slice-write-subleaf c = omega arith
 
--- src/lib.rt:138:21
 pair-choice-requires : tie.Need-pair-choice-requires Inv-loop μ-loop
 pair-choice-requires c κs = search needs
 
--- src/lib.rt:138:9
 mul-choice : tie.Need-mul-choice Inv-loop μ-loop
 mul-choice c = omega arith
 
--- src/lib.rt:138:9
 slice-write-choice : tie.Need-slice-write-choice Inv-loop μ-loop
 slice-write-choice c = omega arith
 
--- src/lib.rt:139:9
 add-e : tie.Need-add-e Inv-loop μ-loop
 add-e c = omega arith
 
--- src/lib.rt:133:5
 loop-less : tie.Need-loop-less Inv-loop μ-loop
 loop-less c = omega arith
 
--- src/lib.rt:133:5
 loop-again : tie.Need-loop-again Inv-loop μ-loop
 loop-again c =
     let l = c .before .before .before .before .before .before .before .before .before .loop in
@@ -125,23 +96,20 @@ loop-again c =
       omega arith,
       simp length-set (l .inv .1),
       simp length-set (l .inv .2),
-      ap length (taking .ensures .1) ∙ simp length-set (l .inv .3),
+      ap length (taking .ensures .2) ∙ simp length-set (l .inv .3),
       taken-more o pairs (l .e) b (taking .result) (l .taken) (at-leaf leaf) (leaf-lt leaf) (taking .ensures .0) (l .inv .4) (taking .last .0)
-          (omega (arith, leaf-lt leaf, l .inv .3)) (taking .ensures .1),
+          (omega (arith, leaf-lt leaf, l .inv .3)) (taking .ensures .2),
       filled-more o pairs (l .e) (c .before .sub-leaf .result) (c .pair-choice .result) (l .subleaf) (l .choice) (omega arith) (omega arith)
           (c .before .sub-leaf .ensures ∙ sub-leaf-is o pairs (l .e) b (taking .result) (l .taken) (at-leaf leaf) (leaf-lt leaf) (taking .ensures .0) (l .inv .4))
           (c .pair-choice .ensures ∙ ap (λ x. x % leafWidth (o .free)) (leaf .before .pair-at .ensures)) (l .inv .5),
     )
 
--- src/lib.rt:126:1
 same-length : tie.Need-same-length Inv-loop μ-loop
 same-length c = omega arith
 
--- src/lib.rt:126:1
 same-length-2 : tie.Need-same-length-2 Inv-loop μ-loop
 same-length-2 c = omega arith
 
--- src/lib.rt:126:1
 returns : tie.Need-returns Inv-loop μ-loop
 returns c =
     let l = c .before .before .loop in

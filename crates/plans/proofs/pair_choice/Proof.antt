@@ -19,11 +19,12 @@ sub-result c = omega (arith, c .power .ensures, pow-pos (c .before .choice-digit
 
 cast-result : tie.Need-cast-result
 cast-result c =
-    omega
-    (arith,
-    and-le-r (c .before .before .args .pair) (c .power .result - 1),
-    c .power .ensures,
-    pow-mono {j = 12} (c .before .choice-digits .ensures .1))
+    omega (
+      arith,
+      and-le-r (c .before .before .args .pair) (c .power .result - 1),
+      c .power .ensures,
+      pow-mono {j = 12} (c .before .choice-digits .ensures .1),
+    )
 
 returns : tie.Need-returns
 returns c =
