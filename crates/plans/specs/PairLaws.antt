@@ -2,7 +2,7 @@
 use mathlib.Core.Path.{_≡_, refl, sym, ap, ap₂, _∙_}
 use mathlib.Core.List.{List}
 use Prim.Native.Nat.{ℕ, suc, _+_, _-_, _*_, _/_, _%_, _^_, _≤_, _<_}
-use native.Mathlib.Nat.{div-lt-iff-lt-mul, mul-le-mul, add-zero}
+use native.Mathlib.Nat.{div-lt-iff-lt-mul, add-zero}
 use native.Mathlib.Numerals.{add-one}
 use native.Mathlib.Decide.{decLt}
 use native.Mathlib.Omega.{arith}
@@ -35,10 +35,6 @@ pub width-pos : (n : ℕ) → 0 < leafWidth n
 unfolding wordCount
 width-pos n = omega (arith, pow-pos (n - 6))
 
-pub width-le : (n : ℕ) → n ≤ 12 → leafWidth n ≤ 4096
-unfolding wordCount
-width-le n h = let m : 2 ^ (n - 6) ≤ 2 ^ 6 = pow-mono {j = 6} (omega arith) in omega arith
-
 -- ---- the pairs of a table that fits
 
 pub slot-lt : (extra e : ℕ) → e < 64 → slotOf extra e < 64
@@ -51,9 +47,6 @@ slot-lt extra e h = go (decLt e extra)
 module _ (o : Outline) (pairs : List ℕ) (fits : Fitting o pairs) where
   pub leaves-le : 2 ^ o .height ≤ 32
   leaves-le = pow-mono {j = 5} (fits .low)
-
-  pub pair-lt : (e : ℕ) → e < o .extra + o .count → getD pairs (slotOf (o .extra) e) 0 < 131072
-  pair-lt e l = omega (arith, fits .entries e l, mul-le-mul leaves-le (width-le (o .free) (fits .variables)))
 
   pub pair-leaf-lt : (e : ℕ) → e < o .extra + o .count → pairLeaf o pairs e < 32
   pair-leaf-lt e l = omega (arith, leaves-le, div-lt-iff-lt-mul (width-pos (o .free)) .1 (fits .entries e l))

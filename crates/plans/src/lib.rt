@@ -67,28 +67,27 @@ fn choice_digits(n: usize) -> usize
 }
 
 // The pair of disequation e.
-fn pair_at(pairs: &[u32; 64], extra: usize, e: usize) -> usize
+fn pair_at(pairs: &[u32; 64], extra: usize, e: usize) -> u32
     requires { ⌜ (extra ≤ 1) × (e < 64) ⌝ }
-    requires { ⌜ getD (now pairs) (slotOf extra e) 0 < 131072 ⌝ }
     ensures { λ r. ⌜ r ≡ getD (now (pairs .entry)) (slotOf extra e) 0 ⌝ }
 {
-    pairs[slot_of(extra, e)] as usize
+    pairs[slot_of(extra, e)]
 }
 
 // The leaf of a pair.
-fn pair_leaf(pair: usize, free: usize) -> usize
+fn pair_leaf(pair: u32, free: usize) -> usize
     requires { ⌜ free ≤ 12 ⌝ }
     ensures { λ r. ⌜ r ≡ pair / leafWidth free ⌝ }
 {
-    pair >> choice_digits(free)
+    (pair as usize) >> choice_digits(free)
 }
 
 // The choice of a pair.
-fn pair_choice(pair: usize, free: usize) -> u16
+fn pair_choice(pair: u32, free: usize) -> u16
     requires { ⌜ free ≤ 12 ⌝ }
     ensures { λ r. ⌜ r ≡ pair % leafWidth free ⌝ }
 {
-    (pair & (basics::power(choice_digits(free)) - 1)) as u16
+    ((pair as usize) & (basics::power(choice_digits(free)) - 1)) as u16
 }
 
 // The number of a leaf's sub-leaf with this rank.

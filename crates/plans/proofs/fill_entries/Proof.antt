@@ -5,7 +5,7 @@ use native.Mathlib.Omega.{arith}
 use lib.ListN.{length, length-set}
 use borrow.Author.Needs.{needs}
 use Rattle.plans.specs.Pairs.{Filled, leafWidth, pairLeaf}
-use Rattle.plans.specs.PairLaws.{Taken, pair-lt, pair-leaf-lt, filled-none, taken-none, rank-le, taken-more, sub-leaf-is, filled-more}
+use Rattle.plans.specs.PairLaws.{Taken, pair-leaf-lt, filled-none, taken-none, rank-le, taken-more, sub-leaf-is, filled-more}
 use Rattle.plans.proofs.fill_entries.Statement.{statement}
 use Rattle.plans.proofs.fill_entries.Tie as tie
 
@@ -26,9 +26,8 @@ add-if1 c = omega arith
 
 pair-at-requires : tie.Need-pair-at-requires Inv-loop μ-loop
 pair-at-requires c κs =
-    let s = c .before .before .before .before .before in
-    let few = s .pre .0 in
-    ((few .extra, omega (arith, few .extra, few .few)), pair-lt (s .args .outline) (s .args .pairs .now) few (c .before .before .loop .e) (c .if1 .taken))
+    let fits = c .before .before .before .before .before .pre .0 in
+    (fits .extra, omega (arith, fits .extra, fits .few))
 
 pair-leaf-requires : tie.Need-pair-leaf-requires Inv-loop μ-loop
 pair-leaf-requires c κs = search needs

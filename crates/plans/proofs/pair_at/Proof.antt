@@ -1,5 +1,5 @@
 -- `plans::pair_at` meets its contract. Assumes nothing.
-use mathlib.Core.Path.{_≡_, ap}
+use mathlib.Core.Path.{ap}
 use native.Mathlib.Omega.{arith}
 use lib.ListN.{getD}
 use borrow.Author.Needs.{needs}
@@ -11,17 +11,14 @@ slot-of-requires : tie.Need-slot-of-requires
 slot-of-requires c κs = search needs
 
 mul-result : tie.Need-mul-result
-mul-result c = let s = c .before in omega (arith, c .slot-of .ensures, slot-lt (s .args .extra) (s .args .e) (s .pre .0 .1))
+mul-result c = let s = c .before in omega (arith, c .slot-of .ensures, slot-lt (s .args .extra) (s .args .e) (s .pre .1))
 
 element-copy-out-result : tie.Need-element-copy-out-result
-element-copy-out-result c = let s = c .before in omega (arith, c .slot-of .ensures, slot-lt (s .args .extra) (s .args .e) (s .pre .0 .1))
-
-cast-result : tie.Need-cast-result
-cast-result c = let e = ap (λ t. getD (c .before .before .args .pairs .now) t 0) (c .before .slot-of .ensures) in omega (arith, e, c .before .before .pre .1)
+element-copy-out-result c = let s = c .before in omega (arith, c .slot-of .ensures, slot-lt (s .args .extra) (s .args .e) (s .pre .1))
 
 returns : tie.Need-returns
 returns c = ap (λ t. getD (c .before .before .args .pairs .now) t 0) (c .before .slot-of .ensures)
 
 pub pair-at-spec : {M : Type 1} → statement M
 pair-at-spec =
-    tie.close (tie.spec slot-of-requires mul-result element-copy-out-result cast-result returns)
+    tie.close (tie.spec slot-of-requires mul-result element-copy-out-result returns)
