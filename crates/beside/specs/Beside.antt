@@ -64,7 +64,6 @@ besideOwn n m w p i = someOwn n m p ((64 * w + i) % 2 ^ n)
 -- the bits at which s passes are taken out of word j, if bit j of `wanted` is set, which stays set only if some bit is left. Nothing else changes
 pub record Taken (j : ℕ) (s : ℕ → Bool) (wanted : ℕ) (left : List ℕ) (wanted′ : ℕ) (left′ : List ℕ) : Type 0 where
   pub word : T (bit wanted j) → Left (getD left j 0) s (getD left′ j 0)
-  pub stays : T (bit wanted′ j) → T (bit wanted j)
   pub empty : T (bit wanted j) → T (not (bit wanted′ j)) → getD left′ j 0 ≡ 0
   pub wanted-kept : (k : ℕ) → k < 64 → (k ≡ j → ⊥) → bit wanted′ k ≡ bit wanted k
   pub left-kept : (k : ℕ) → (k ≡ j → T (not (bit wanted j))) → getD left′ k 0 ≡ getD left k 0
@@ -72,10 +71,13 @@ pub record Taken (j : ℕ) (s : ℕ → Bool) (wanted : ℕ) (left : List ℕ) (
 -- the same of each of the first `count` words
 pub record TakenAll (count : ℕ) (s : ℕ → ℕ → Bool) (wanted : ℕ) (left : List ℕ) (wanted′ : ℕ) (left′ : List ℕ) : Type 0 where
   pub word : (j : ℕ) → j < count → T (bit wanted j) → Left (getD left j 0) (s j) (getD left′ j 0)
-  pub stays : (j : ℕ) → j < count → T (bit wanted′ j) → T (bit wanted j)
   pub empty : (j : ℕ) → j < count → T (bit wanted j) → T (not (bit wanted′ j)) → getD left′ j 0 ≡ 0
   pub wanted-kept : (k : ℕ) → count ≤ k → k < 64 → bit wanted′ k ≡ bit wanted k
   pub left-kept : (k : ℕ) → (k < count → T (not (bit wanted k))) → getD left′ k 0 ≡ getD left k 0
+
+-- a word that was wanted and no longer is has nothing left
+abbrev pub Emptied : ℕ → ℕ → ℕ → List ℕ → Type 0
+Emptied count wanted going left = (j : ℕ) → j < count → T (bit wanted j) → T (not (bit going j)) → getD left j 0 ≡ 0
 
 -- the second system's positive clauses hold in a choice; and its disequation j too
 abbrev pub positivesPass : List ℕ → List ℕ → ℕ → ℕ → ℕ → ℕ → Bool
@@ -84,15 +86,19 @@ positivesPass clauses counts n m values = allPass clauses 384 (getD counts 2 0) 
 abbrev pub disequationPasses : List ℕ → List ℕ → ℕ → ℕ → ℕ → ℕ → ℕ → Bool
 disequationPasses clauses counts n m values j = allPassBut clauses 384 (getD counts 2 0) (640 + 4 * j) n m values
 
--- after all words beside word w: what is left of x, with the table of terms at some word
-pub record Swept (clauses counts : List ℕ) (n m values w x wanted r : ℕ) (terms left : List ℕ) : Type 0 where
-  pub words : ℕ
-  pub enough : words * wordCount n ≡ wordCount (n + m)
-  pub none : Left x (besideWords (wordCount n) w words (positivesPass clauses counts n m values)) r
+-- after the first o words beside word w: what is left of x, with the table of terms at some word
+pub record Swept (clauses counts : List ℕ) (n m values w x wanted o none : ℕ) (terms left : List ℕ) : Type 0 where
+  pub rest : Left x (besideWords (wordCount n) w o (positivesPass clauses counts n m values)) none
   pub each : (j : ℕ) → j < getD counts 3 0 → T (bit wanted j)
-      → Left x (besideWords (wordCount n) w words (disequationPasses clauses counts n m values j)) (getD left j 0)
+      → Left x (besideWords (wordCount n) w o (disequationPasses clauses counts n m values j)) (getD left j 0)
   pub at : ℕ
   pub table : Terms n m values at terms
+
+-- after all of them
+pub record SweptAll (clauses counts : List ℕ) (n m values w x wanted none : ℕ) (terms left : List ℕ) : Type 0 where
+  pub words : ℕ
+  pub enough : words * wordCount n ≡ wordCount (n + m)
+  pub swept : Swept clauses counts n m values w x wanted words none terms left
 
 -- what is left of x beside all own choices
 pub record Missing (clauses counts : List ℕ) (n m values w x wanted r : ℕ) (left : List ℕ) : Type 0 where

@@ -2,24 +2,20 @@
 -- Assumes nothing.
 use mathlib.Core.Path.{_≡_, sym, ap, ap₂, _∙_, subst}
 use mathlib.Core.Logic.{_↔_}
-use mathlib.Core.Bool.{Bool, _&&_, _||_, or-false}
+use mathlib.Core.Bool.{Bool, not, _&&_, Bool·not-not}
 use Prim.Native.Nat.{ℕ, _+_, _-_, _*_, _/_, _%_, _^_, _≤_, _<_}
-use native.Mathlib.Nat.{zero-add, add-zero, zero-mul, mod-lt, mod-one, mod-eq-of-lt, add-comm, lt-of-lt-of-le}
-use native.Mathlib.Decide.{decLt, decLe, ℕ-discrete}
-use native.Mathlib.Numerals.{add-one}
+use native.Mathlib.Nat.{mod-lt, mod-one, mod-eq-of-lt, add-comm, lt-of-lt-of-le}
+use native.Mathlib.Decide.{decLt, decLe}
 use native.Mathlib.Omega.{arith}
 use lib.Arith.{digits-lt, lt-one}
-use lib.Bits.{bitAnd, and-mask}
 use lib.Dec.{T, T-not, eqb, eqb→eq, eqb-refl}
 use lib.Pow.{pow-pos, pow-mono, pow-add, shr-lt, low, mod-pow-add, mod-mod-pow}
-use borrow.Author.Tests.{eq-eqb, ne-eqb}
-use Rattle.shares.specs.Test.{same-test, of-true, and-intro, and-left, and-right}
+use Rattle.shares.specs.Test.{same-test, and-intro, and-left, and-right}
 use Rattle.shares.specs.Below.{someBelow, firstBelow}
-use Rattle.shares.specs.BelowLaws.{some-found, some-intro, some-more, first-longer, first-passes, first-some, first-not-some}
+use Rattle.shares.specs.BelowLaws.{some-found, some-intro, first-longer, first-passes, first-some, first-not-some}
 use Rattle.shares.specs.Constant.{bit}
-use Rattle.shares.specs.BitLaws.{bit-zero}
 use Rattle.words.specs.Choices.{wordCount, someOwn, Periodic}
-use Rattle.beside.specs.Beside.{Merged}
+use Rattle.beside.specs.Beside.{Merged, Shared}
 
 -- ---- a free choice in a word
 
@@ -53,11 +49,6 @@ words-pos n = pow-pos (n - 6)
 pub words-le : (n : ℕ) → n ≤ 12 → wordCount n ≤ 64
 unfolding wordCount
 words-le n h = pow-mono {j = 6} (omega arith)
-
--- the remainder by a count of words is a mask
-pub word-free : (v n : ℕ) → bitAnd v (wordCount n - 1) ≡ v % wordCount n
-unfolding wordCount
-word-free v n = and-mask v (n - 6)
 
 -- bits i of word w and j of word u are the same free choice
 pub same-free : (n u w i j : ℕ) → w < wordCount n → i < 64 → j < 64
@@ -116,26 +107,25 @@ module _ (n m : ℕ) (p : ℕ → Bool) (periodic : Periodic (n + m) p) where
         subst (λ x. T (someOwn n m p x)) (same-free n u w i j hw hi hj .1 (e, f)) (own-intro (64 * u + j) v),
   )
 
--- without own variables a free choice is the whole choice
-pub own-none : (n : ℕ) (p : ℕ → Bool) → Periodic (n + 0) p → (z : ℕ) → someOwn n 0 p (z % 2 ^ n) ≡ p z
-unfolding someOwn someBelow
-own-none n p periodic z =
-    let e : 0 * 2 ^ n + z % 2 ^ n ≡ z % 2 ^ (n + 0) =
-    ap (λ k. k + z % 2 ^ n) (zero-mul (2 ^ n)) ∙ zero-add (z % 2 ^ n) ∙ ap (λ k. z % 2 ^ k) (sym (add-zero n)) in
-    or-false (p (0 * 2 ^ n + z % 2 ^ n)) ∙ ap p e ∙ sym (periodic z)
-
--- merging changes nothing in a word whose six digits are all free
-pub merged-same : (n x : ℕ) → 6 ≤ n → Merged n x x
-merged-same n x h i l =
-    same-test (bit x i) (someBelow 64 same) (λ t. some-intro 64 same i l (and-intro (eqb (i % 2 ^ n) (i % 2 ^ n)) (bit x i) (eqb-refl (i % 2 ^ n)) t))
+-- where all six digits of a bit's number are free, no other bit has the same
+alone : (n : ℕ) (f : ℕ → Bool) → 6 ≤ n → (i : ℕ) → i < 64 → f i ≡ someBelow 64 (λ j. eqb (j % 2 ^ n) (i % 2 ^ n) && f j)
+alone n f h i l =
+    same-test (f i) (someBelow 64 same) (λ t. some-intro 64 same i l (and-intro (eqb (i % 2 ^ n) (i % 2 ^ n)) (f i) (eqb-refl (i % 2 ^ n)) t))
     (λ t.
     let (j, b, s) = some-found 64 same t in
-    let f = eqb→eq (j % 2 ^ n) (i % 2 ^ n) (and-left (eqb (j % 2 ^ n) (i % 2 ^ n)) (bit x j) s) in
-    let q : j ≡ i = sym (mod-small n j h b) ∙ f ∙ mod-small n i h l in
-    subst (λ k. T (bit x k)) q (and-right (eqb (j % 2 ^ n) (i % 2 ^ n)) (bit x j) s))
+    let g = eqb→eq (j % 2 ^ n) (i % 2 ^ n) (and-left (eqb (j % 2 ^ n) (i % 2 ^ n)) (f j) s) in
+    let q : j ≡ i = sym (mod-small n j h b) ∙ g ∙ mod-small n i h l in
+    subst (λ k. T (f k)) q (and-right (eqb (j % 2 ^ n) (i % 2 ^ n)) (f j) s))
   where
     same : ℕ → Bool
-    same j = eqb (j % 2 ^ n) (i % 2 ^ n) && bit x j
+    same j = eqb (j % 2 ^ n) (i % 2 ^ n) && f j
+
+-- merging and sharing change nothing in such a word
+pub merged-same : (n x : ℕ) → 6 ≤ n → Merged n x x
+merged-same n x h = alone n (bit x) h
+
+pub shared-same : (n x : ℕ) → 6 ≤ n → Shared n x x
+shared-same n x h i l = sym (Bool·not-not (bit x i)) ∙ ap not (alone n (λ j. not (bit x j)) h i l)
 
 -- ---- a test that counts n digits alone
 

@@ -2,3 +2,7 @@ pub mod Beside
 pub mod SearchLaws
 pub mod GatherLaws
 pub mod MergeLaws
+pub mod StoreLaws
+pub mod TakeLaws
+pub mod LeftLaws
+pub mod SweepLaws

@@ -8,7 +8,7 @@ ghost use Rattle.shares.specs.Constant.{bit};
 ghost use Rattle.words.specs.Clause.{clauseTest, Clauses};
 ghost use Rattle.words.specs.Choices.{wordCount};
 ghost use Rattle.words.specs.Table.{Terms};
-ghost use Rattle.beside.specs.Beside.{Merged, Shared, SameFree, Taken, TakenAll, Swept, Missing, Readable};
+ghost use Rattle.beside.specs.Beside.{Merged, Shared, SameFree, Taken, TakenAll, SweptAll, Missing, Readable};
 
 // The numbers of a question.
 pub struct Sizes {
@@ -158,7 +158,7 @@ fn sweep(
 ) -> u64
     requires { ⌜ Readable (now clauses) (sizes .counts) (sizes .free) (sizes .own) ⌝ }
     requires { ⌜ (w < wordCount (sizes .free)) × (32 ≤ length (now left)) × ((j : ℕ) → j < getD (sizes .counts) 3 0 → getD (now left) j 0 ≡ x) ⌝ }
-    ensures { λ r. ⌜ ((values : ℕ) → Terms (sizes .free) (sizes .own) values w (now (terms .entry)) → Swept (now (clauses .entry)) (sizes .counts) (sizes .free) (sizes .own) values w x wanted r (now (terms .exit)) (now (left .exit))) ⌝ }
+    ensures { λ r. ⌜ ((values : ℕ) → Terms (sizes .free) (sizes .own) values w (now (terms .entry)) → SweptAll (now (clauses .entry)) (sizes .counts) (sizes .free) (sizes .own) values w x wanted r (now (terms .exit)) (now (left .exit))) ⌝ }
     ensures { λ r. ⌜ ((k : ℕ) → 32 ≤ k → getD (now (left .exit)) k 0 ≡ getD (now (left .entry)) k 0) ⌝ }
 {
     let words = words::word_count(sizes.free);

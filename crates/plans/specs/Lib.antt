@@ -1,3 +1,4 @@
+pub mod PairLaws
 pub mod Pairs
 pub mod Shown
 pub mod ShownLaws

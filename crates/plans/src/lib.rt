@@ -1,10 +1,9 @@
 // The plan of a solution that was found: which choice stands at each leaf, and at which sub-leaf each disequation stands with its own.
 ghost use mathlib.Core.Path.{_≡_};
 ghost use Prim.Native.Nat.{ℕ, _+_, _*_, _/_, _%_, _^_, _<_, _≤_};
-ghost use lib.ListN.{length, getD};
+ghost use lib.ListN.{length, getD, set};
 ghost use Rattle.leaves.specs.Heights.{c};
 ghost use Rattle.leaves.specs.Problem.{Problem};
-ghost use Rattle.words.specs.Choices.{wordCount};
 ghost use Rattle.plans.specs.Pairs.{leafWidth, slotOf, Fitting, PairsOf, Filled, Made};
 
 // Which choice of values stands at each sub-leaf of a shown solution. The value of a variable is one binary digit of a choice.
@@ -67,6 +66,48 @@ fn choice_digits(n: usize) -> usize
     n
 }
 
+// The pair of disequation e.
+fn pair_at(pairs: &[u32; 64], extra: usize, e: usize) -> u32
+    requires { ⌜ (extra ≤ 1) × (e < 64) ⌝ }
+    ensures { λ r. ⌜ r ≡ getD (now (pairs .entry)) (slotOf extra e) 0 ⌝ }
+{
+    pairs[slot_of(extra, e)]
+}
+
+// The leaf of a pair.
+fn pair_leaf(pair: u32, free: usize) -> usize
+    requires { ⌜ free ≤ 12 ⌝ }
+    ensures { λ r. ⌜ r ≡ pair / leafWidth free ⌝ }
+{
+    (pair as usize) >> choice_digits(free)
+}
+
+// The choice of a pair.
+fn pair_choice(pair: u32, free: usize) -> u16
+    requires { ⌜ free ≤ 12 ⌝ }
+    ensures { λ r. ⌜ r ≡ pair % leafWidth free ⌝ }
+{
+    ((pair as usize) & (basics::power(choice_digits(free)) - 1)) as u16
+}
+
+// The number of a leaf's sub-leaf with this rank.
+fn sub_leaf(leaf: usize, splits: usize, rank: usize) -> u16
+    requires { ⌜ (leaf < 32) × (splits ≤ 5) × (rank ≤ 32) ⌝ }
+    ensures { λ r. ⌜ r ≡ leaf * 2 ^ splits + rank ⌝ }
+{
+    ((leaf << splits) + rank) as u16
+}
+
+// Takes the next sub-leaf of a leaf: its rank is how many were taken there before.
+fn take_rank(taken: &mut [usize], leaf: usize) -> usize
+    requires { ⌜ (leaf < length (now taken)) × (getD (now taken) leaf 0 < 32) ⌝ }
+    ensures { λ r. ⌜ (r ≡ getD (now (taken .entry)) leaf 0) × (r < 32) × (now (taken .exit) ≡ set (now (taken .entry)) leaf (r + 1)) ⌝ }
+{
+    let rank = taken[leaf];
+    taken[leaf] = rank + 1;
+    rank
+}
+
 // Puts the least choices of the leaves into the plan.
 fn fill_plain(pairs: &[u32; 64], leaves: usize, plain: &mut [u16])
     requires { ⌜ (leaves ≤ 32) × (length (now plain) ≡ 64) × ((b : ℕ) → b < leaves → getD (now pairs) (32 + b) 0 < 4096) ⌝ }
@@ -85,18 +126,14 @@ fn fill_entries(pairs: &[u32; 64], outline: Outline, subleaf: &mut [u16], choice
     requires { ⌜ (length (now subleaf) ≡ 32) × (length (now choice) ≡ 32) ⌝ }
     ensures { λ _. ⌜ Filled outline (now (pairs .entry)) (outline .extra + outline .count) (now (subleaf .exit)) (now (choice .exit)) ⌝ }
 {
-    let digits = choice_digits(outline.free);
     let mut taken = [0usize; 32];
-    let entries = outline.extra + outline.count;
     let mut e: usize = 0;
-    while e < entries {
-        let i = slot_of(outline.extra, e);
-        let pair = pairs[i] as usize;
-        let leaf = pair >> digits;
-        let rank = taken[leaf];
-        subleaf[e] = ((leaf << outline.splits) + rank) as u16;
-        choice[e] = (pair & ((1 << digits) - 1)) as u16;
-        taken[leaf] = rank + 1;
+    while e < outline.extra + outline.count {
+        let pair = pair_at(pairs, outline.extra, e);
+        let leaf = pair_leaf(pair, outline.free);
+        let rank = take_rank(&mut taken, leaf);
+        subleaf[e] = sub_leaf(leaf, outline.splits, rank);
+        choice[e] = pair_choice(pair, outline.free);
         e += 1;
     }
 }

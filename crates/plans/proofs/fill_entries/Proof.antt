@@ -1,0 +1,142 @@
+-- `plans::fill_entries` meets its contract. The loop's invariant: the first e disequations have their sub-leaves and choices. Assumes nothing.
+use mathlib.Core.Path.{_≡_, refl, ap, _∙_}
+use Prim.Native.Nat.{_+_, _-_, _/_, _%_, _≤_, _<_}
+use native.Mathlib.Omega.{arith}
+use lib.ListN.{length, length-set}
+use borrow.Author.Needs.{needs}
+use Rattle.plans.specs.Pairs.{Filled, leafWidth, pairLeaf}
+use Rattle.plans.specs.PairLaws.{Taken, pair-leaf-lt, filled-none, taken-none, rank-le, taken-more, sub-leaf-is, filled-more}
+use Rattle.plans.proofs.fill_entries.Statement.{statement}
+use Rattle.plans.proofs.fill_entries.Tie as tie
+
+abbrev Inv-loop : tie.InvT-loop
+Inv-loop pairs outline subleaf₀ choice₀ taken₀ e₀ subleaf choice taken e = (e ≤ outline .extra + outline .count) × (length subleaf ≡ 32) × (length choice ≡ 32)
+    × (length taken ≡ 32) × Taken outline pairs e taken × Filled outline pairs e subleaf choice
+
+abbrev μ-loop : tie.MeasureT-loop
+μ-loop pairs outline subleaf₀ choice₀ taken₀ e₀ subleaf choice taken e = outline .extra + outline .count - e
+
+loop-holds : tie.Need-loop-holds Inv-loop μ-loop
+loop-holds c =
+    let s = c .before .before in
+    (omega arith, s .pre .1 .0, s .pre .1 .1, refl, taken-none (s .args .outline) (s .args .pairs .now), filled-none (s .args .outline) (s .args .pairs .now) _ _)
+
+add-if1 : tie.Need-add-if1 Inv-loop μ-loop
+add-if1 c = omega arith
+
+pair-at-requires : tie.Need-pair-at-requires Inv-loop μ-loop
+pair-at-requires c κs =
+    let fits = c .before .before .before .before .before .pre .0 in
+    (fits .extra, omega (arith, fits .extra, fits .few))
+
+pair-leaf-requires : tie.Need-pair-leaf-requires Inv-loop μ-loop
+pair-leaf-requires c κs = search needs
+
+slice-aggregate-take-rank : tie.Need-slice-aggregate-take-rank Inv-loop μ-loop
+slice-aggregate-take-rank c = search needs
+
+-- the leaf of the pair at hand
+at-leaf : (c : tie.After-pair-leaf Inv-loop μ-loop) → (
+    let s = c .before .before .before .before .before .before .before in
+    c .pair-leaf .result ≡ pairLeaf (s .args .outline) (s .args .pairs .now) (c .before .before .before .before .loop .e))
+at-leaf c =
+    let s = c .before .before .before .before .before .before .before in
+    c .pair-leaf .ensures ∙ ap (λ x. x / leafWidth (s .args .outline .free)) (c .before .pair-at .ensures)
+
+leaf-lt : (c : tie.After-pair-leaf Inv-loop μ-loop) → c .pair-leaf .result < 32
+leaf-lt c =
+    let s = c .before .before .before .before .before .before .before in
+    omega (arith, at-leaf c, pair-leaf-lt (s .args .outline) (s .args .pairs .now) (s .pre .0) (c .before .before .before .before .loop .e) (c .before .before .if1 .taken))
+
+take-rank-requires : tie.Need-take-rank-requires Inv-loop μ-loop
+take-rank-requires c κs =
+    let l = c .before .before .before .before .before .loop in
+    let s = c .before .before .before .before .before .before .before .before in
+    let within = leaf-lt (c .before) in (
+      omega (arith, within, l .inv .3),
+      omega (arith, s .pre .0 .extra, s .pre .0 .few, rank-le (s .args .outline) (s .args .pairs .now) (l .e) (c .before .pair-leaf .result) _ (l .taken) (at-leaf (c .before)) within refl (l .inv .4)),
+    )
+
+sub-leaf-requires : tie.Need-sub-leaf-requires Inv-loop μ-loop
+sub-leaf-requires c κs =
+    let s = c .before .before .before .before .before .before .before .before .before .before in
+    (leaf-lt (c .before .before .before), s .pre .0 .splits, omega (arith, c .before .take-rank .ensures .1))
+
+mul-subleaf : tie.Need-mul-subleaf Inv-loop μ-loop
+mul-subleaf c = omega arith
+
+slice-write-subleaf : tie.Need-slice-write-subleaf Inv-loop μ-loop
+slice-write-subleaf c = omega arith
+
+pair-choice-requires : tie.Need-pair-choice-requires Inv-loop μ-loop
+pair-choice-requires c κs = search needs
+
+mul-choice : tie.Need-mul-choice Inv-loop μ-loop
+mul-choice c = omega arith
+
+slice-write-choice : tie.Need-slice-write-choice Inv-loop μ-loop
+slice-write-choice c = omega arith
+
+add-e : tie.Need-add-e Inv-loop μ-loop
+add-e c = omega arith
+
+loop-less : tie.Need-loop-less Inv-loop μ-loop
+loop-less c = omega arith
+
+loop-again : tie.Need-loop-again Inv-loop μ-loop
+loop-again c =
+    let l = c .before .before .before .before .before .before .before .before .before .loop in
+    let s = c .before .before .before .before .before .before .before .before .before .before .before .before in
+    let o = s .args .outline in
+    let pairs = s .args .pairs .now in
+    let leaf = c .before .before .before .before .before in
+    let taking = c .before .before .before .take-rank in
+    let b = leaf .pair-leaf .result in (
+      omega arith,
+      simp length-set (l .inv .1),
+      simp length-set (l .inv .2),
+      ap length (taking .ensures .2) ∙ simp length-set (l .inv .3),
+      taken-more o pairs (l .e) b (taking .result) (l .taken) (at-leaf leaf) (leaf-lt leaf) (taking .ensures .0) (l .inv .4) (taking .last .0)
+          (omega (arith, leaf-lt leaf, l .inv .3)) (taking .ensures .2),
+      filled-more o pairs (l .e) (c .before .sub-leaf .result) (c .pair-choice .result) (l .subleaf) (l .choice) (omega arith) (omega arith)
+          (c .before .sub-leaf .ensures ∙ sub-leaf-is o pairs (l .e) b (taking .result) (l .taken) (at-leaf leaf) (leaf-lt leaf) (taking .ensures .0) (l .inv .4))
+          (c .pair-choice .ensures ∙ ap (λ x. x % leafWidth (o .free)) (leaf .before .pair-at .ensures)) (l .inv .5),
+    )
+
+same-length : tie.Need-same-length Inv-loop μ-loop
+same-length c = omega arith
+
+same-length-2 : tie.Need-same-length-2 Inv-loop μ-loop
+same-length-2 c = omega arith
+
+returns : tie.Need-returns Inv-loop μ-loop
+returns c =
+    let l = c .before .before .loop in
+    let s = c .before .before .before .before .before in
+    let e : l .e ≡ s .args .outline .extra + s .args .outline .count = omega arith in
+    rw e at (l .inv .5)
+
+pub fill-entries-spec : {M : Type 1} → statement M
+fill-entries-spec =
+    tie.close
+    (tie.spec
+    Inv-loop
+    μ-loop
+    loop-holds
+    add-if1
+    pair-at-requires
+    pair-leaf-requires
+    slice-aggregate-take-rank
+    take-rank-requires
+    sub-leaf-requires
+    mul-subleaf
+    slice-write-subleaf
+    pair-choice-requires
+    mul-choice
+    slice-write-choice
+    add-e
+    loop-less
+    loop-again
+    same-length
+    same-length-2
+    returns)

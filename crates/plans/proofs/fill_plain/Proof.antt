@@ -1,0 +1,76 @@
+-- `plans::fill_plain` meets its contract. The loop's invariant: the first b leaves have their choices. Assumes nothing.
+use mathlib.Core.Path.{_≡_, refl}
+use Prim.Native.Nat.{ℕ, _+_, _-_, _≤_, _<_}
+use native.Mathlib.Omega.{arith}
+use lib.ListN.{length, getD, length-set}
+use Rattle.words.specs.Stores.{store-law}
+use Rattle.plans.proofs.fill_plain.Statement.{statement}
+use Rattle.plans.proofs.fill_plain.Tie as tie
+
+abbrev Inv-loop : tie.InvT-loop
+Inv-loop pairs leaves plain₀ b₀ plain b = (b ≤ leaves) × (length plain ≡ 64) × ((i : ℕ) → i < b → getD plain i 0 ≡ getD pairs (32 + i) 0)
+
+abbrev μ-loop : tie.MeasureT-loop
+μ-loop pairs leaves plain₀ b₀ plain b = leaves - b
+
+loop-holds : tie.Need-loop-holds Inv-loop μ-loop
+loop-holds c = (omega arith, c .pre .1, λ i l. absurd (omega arith))
+
+add-plain : tie.Need-add-plain Inv-loop μ-loop
+add-plain c = omega arith
+
+mul-plain : tie.Need-mul-plain Inv-loop μ-loop
+mul-plain c = omega arith
+
+element-copy-out-plain : tie.Need-element-copy-out-plain Inv-loop μ-loop
+element-copy-out-plain c = omega arith
+
+cast-plain : tie.Need-cast-plain Inv-loop μ-loop
+cast-plain c = omega (arith, c .before .before .before .pre .2 (c .before .before .loop .b) (c .before .loop-test .taken))
+
+mul-plain-2 : tie.Need-mul-plain-2 Inv-loop μ-loop
+mul-plain-2 c = omega arith
+
+slice-write-plain : tie.Need-slice-write-plain Inv-loop μ-loop
+slice-write-plain c = omega arith
+
+add-b : tie.Need-add-b Inv-loop μ-loop
+add-b c = omega arith
+
+loop-less : tie.Need-loop-less Inv-loop μ-loop
+loop-less c = omega arith
+
+loop-again : tie.Need-loop-again Inv-loop μ-loop
+loop-again c =
+    let l = c .before .before .loop in
+    let pairs = c .before .before .before .args .pairs .now in (
+      omega arith,
+      simp length-set (l .inv .1),
+      store-law (λ i x. i < l .b + 1 → x ≡ getD pairs (32 + i) 0) (l .plain) (l .b) (getD pairs (32 + l .b) 0) (omega arith)
+          (λ i n h. l .inv .2 i (omega arith)) (λ h. refl),
+    )
+
+same-length : tie.Need-same-length Inv-loop μ-loop
+same-length c = omega arith
+
+returns : tie.Need-returns Inv-loop μ-loop
+returns c b l = c .before .loop .inv .2 b (omega arith)
+
+pub fill-plain-spec : {M : Type 1} → statement M
+fill-plain-spec =
+    tie.close
+    (tie.spec
+    Inv-loop
+    μ-loop
+    loop-holds
+    add-plain
+    mul-plain
+    element-copy-out-plain
+    cast-plain
+    mul-plain-2
+    slice-write-plain
+    add-b
+    loop-less
+    loop-again
+    same-length
+    returns)
