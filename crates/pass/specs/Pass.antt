@@ -8,19 +8,15 @@ use lib.Dec.{T}
 use lib.ListN.{getD}
 use Rattle.shares.specs.Below.{everyBelow, someBelow, firstBelow}
 use Rattle.shares.specs.Constant.{bit}
-use Rattle.leaves.specs.Choices.{least}
-use Rattle.leaves.specs.Problem.{solvable}
-use Rattle.leaves.specs.Numbers.{numbered}
 use Rattle.questions.specs.Stored.{Stored, stored}
 use Rattle.words.specs.Choices.{wordCount}
 use Rattle.beside.specs.declared.Sizes.{Sizes}
 use Rattle.entries.specs.Entry.{Entry}
-use Rattle.plans.specs.Pairs.{leafWidth, PairsOf}
-use Rattle.pass.specs.Tests.{leafValues, firstMeets, firstDiffers, secondMeets, extraOf, allowedIn, testsOf}
+use Rattle.plans.specs.Pairs.{leafWidth}
+use Rattle.pass.specs.Tests.{leafValues, firstMeets, firstDiffers, secondMeets, allowedIn}
 use Rattle.pass.specs.declared.Search.{Search}
-use Rattle.pass.specs.declared.Search.the-variants.{First, Unmet, Missed}
+use Rattle.pass.specs.declared.Search.the-variants.{Unmet, Missed}
 use Rattle.pass.specs.declared.Seen.{Seen}
-use Rattle.pass.specs.declared.Survey.{Survey}
 
 -- what is stored of a question, from its numbers, its clauses' bytes and its constants
 abbrev pub storedBy : Sizes → List ℕ → List ℕ → Stored
@@ -86,26 +82,3 @@ pub record Visited (S : Stored) (h : ℕ) (search : Search) (b : ℕ) (seen : Se
 pub record Passed (S : Stored) (h : ℕ) (search : Search) (seen : Seen) (pairs rows : List ℕ) : Type 0 where
   pub all : everyBelow (2 ^ h) (λ b. bit (seen .met) (32 + b)) ≡ everyBelow (2 ^ h) (λ b. someBelow (leafWidth (S .free)) (allowedIn S search (leafValues S h b)))
   pub after : T (everyBelow (2 ^ h) (λ b. bit (seen .met) (32 + b))) → After S h search (2 ^ h) seen pairs rows
-
--- ---- what is found
-
--- the problem of a search is solvable
-abbrev pub solvableIn : Stored → ℕ → Search → Bool
-solvableIn S h search = solvable (least (S .free)) h (numbered (S .free) (testsOf S h search))
-
--- the lowest disequation of the second system that some solution of the first cannot have, or their count
-abbrev pub lowestMissedIn : Stored → ℕ → ℕ
-lowestMissedIn S h = firstBelow (getD (S .counts) 3 0) (λ j. solvableIn S h (Missed j))
-
--- a search: whether its problem is solvable, and then the pairs of it
-pub record SolvedAs (S : Stored) (h : ℕ) (search : Search) (found : Bool) (pairs : List ℕ) : Type 0 where
-  pub found-is : found ≡ solvableIn S h search
-  pub pairs-are : T found → PairsOf (S .free) h (testsOf S h search) (extraOf search) pairs
-
--- a survey of an entailment: whether the first system has a solution; if so, whether some solution leaves the second's positive clauses unmet, and the
--- pairs of it; if none does, the lowest disequation of the second that some solution misses
-pub record SurveyedAs (S : Stored) (h : ℕ) (r : Survey) (pairs : List ℕ) : Type 0 where
-  pub solvable-is : r .solvable ≡ solvableIn S h First
-  pub unmet-is : T (r .solvable) → r .unmet ≡ solvableIn S h Unmet
-  pub pairs-are : T (r .solvable) → T (r .unmet) → PairsOf (S .free) h (testsOf S h Unmet) (extraOf Unmet) pairs
-  pub missed-is : T (r .solvable) → T (not (r .unmet)) → r .missed ≡ lowestMissedIn S h

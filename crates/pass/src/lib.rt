@@ -1,19 +1,4 @@
 // One pass over the leaves of a question, and over the words of choices of each leaf that does not look like an earlier one: no set of choices is stored.
-use beside::Sizes;
-ghost use mathlib.Core.Path.{_≡_};
-ghost use mathlib.Core.Bool.{_&&_, not};
-ghost use mathlib.Core.List.{List, []};
-ghost use Prim.Native.Nat.{ℕ, _+_, _*_, _-_, _^_, _<_, _≤_};
-ghost use lib.Dec.{T};
-ghost use lib.ListN.{length, getD};
-ghost use Rattle.shares.specs.Below.{everyBelow, firstBelow};
-ghost use Rattle.shares.specs.Constant.{bit};
-ghost use Rattle.questions.specs.Stored.{stored};
-ghost use Rattle.words.specs.Choices.{wordCount};
-ghost use Rattle.words.specs.Table.{Terms, Within};
-ghost use Rattle.beside.specs.Beside.{Readable};
-ghost use Rattle.pass.specs.Tests.{leafValues, firstMeets, secondDiffers, allowedIn, Named};
-ghost use Rattle.pass.specs.Pass.{storedBy, Amid, OthersKept, After, Visited, Passed, SolvedAs, SurveyedAs, isMissed, lookAlike};
 
 // What is searched for.
 pub enum Search {
@@ -55,21 +40,4 @@ pub struct Allowed {
     pub word: usize,
     pub turn: usize,
     pub choices: u64,
-}
-
-// Of the choices x of word w those beside which no own choice meets the second system's positive clauses and its disequation j.
-fn missed_word(
-    terms: &mut [u64; 64],
-    clauses: &[u8; 768],
-    sizes: Sizes,
-    j: usize,
-    w: usize,
-    x: u64,
-    rows: &mut [u64; 96],
-) -> u64
-    requires { ⌜ Readable (now clauses) (sizes .counts) (sizes .free) (sizes .own) × (w < wordCount (sizes .free)) × (j < getD (sizes .counts) 3 0) ⌝ }
-    ensures { λ r. ⌜ ((values : ℕ) → Terms (sizes .free) (sizes .own) values w (now (terms .entry)) → ((i : ℕ) → i < 64 → bit x i ≡ firstMeets (storedBy sizes (now (clauses .entry)) []) values (64 * w + i)) → Terms (sizes .free) (sizes .own) values w (now (terms .exit)) × ((i : ℕ) → i < 64 → bit r i ≡ allowedIn (storedBy sizes (now (clauses .entry)) []) (Search.Missed j) values (64 * w + i))) ⌝ }
-{
-    beside::missing(terms, clauses, sizes, w, x, 1 << j, rows);
-    rows[j]
 }

@@ -1,0 +1,43 @@
+-- What a search of the leaves finds: whether its problem is solvable, and the pairs of the solution. Assumes nothing.
+use mathlib.Core.Path.{_≡_}
+use mathlib.Core.Bool.{Bool, not, _&&_}
+use mathlib.Core.List.{List}
+use Prim.Native.Nat.{ℕ, _+_}
+use lib.Dec.{T}
+use lib.ListN.{getD}
+use Rattle.shares.specs.Below.{everyBelow, firstBelow}
+use Rattle.shares.specs.Constant.{bit}
+use Rattle.leaves.specs.Choices.{least}
+use Rattle.leaves.specs.Problem.{solvable}
+use Rattle.leaves.specs.Numbers.{numbered}
+use Rattle.questions.specs.Stored.{Stored}
+use Rattle.plans.specs.Pairs.{PairsOf}
+use Rattle.pass.specs.Tests.{extraOf, testsOf}
+use Rattle.pass.specs.declared.Search.{Search}
+use Rattle.pass.specs.declared.Search.the-variants.{First, Unmet, Missed}
+use Rattle.search.specs.declared.Survey.{Survey}
+
+-- the problem of a search is solvable
+abbrev pub solvableIn : Stored → ℕ → Search → Bool
+solvableIn S h search = solvable (least (S .free)) h (numbered (S .free) (testsOf S h search))
+
+-- the lowest disequation of the second system that some solution of the first cannot have, or their count
+abbrev pub lowestMissedIn : Stored → ℕ → ℕ
+lowestMissedIn S h = firstBelow (getD (S .counts) 3 0) (λ j. solvableIn S h (Missed j))
+
+-- a search: whether its problem is solvable, and then the pairs of it
+pub record SolvedAs (S : Stored) (h : ℕ) (search : Search) (found : Bool) (pairs : List ℕ) : Type 0 where
+  pub found-is : found ≡ solvableIn S h search
+  pub pairs-are : T found → PairsOf (S .free) h (testsOf S h search) (extraOf search) pairs
+
+-- a survey of an entailment: whether the first system has a solution; if so, whether some solution leaves the second's positive clauses unmet, and the
+-- pairs of it; if none does, the lowest disequation of the second that some solution misses
+pub record SurveyedAs (S : Stored) (h : ℕ) (r : Survey) (pairs : List ℕ) : Type 0 where
+  pub solvable-is : r .solvable ≡ solvableIn S h First
+  pub unmet-is : T (r .solvable) → r .unmet ≡ solvableIn S h Unmet
+  pub pairs-are : T (r .solvable) → T (r .unmet) → PairsOf (S .free) h (testsOf S h Unmet) (extraOf Unmet) pairs
+  pub missed-is : T (r .solvable) → T (not (r .unmet)) → r .missed ≡ lowestMissedIn S h
+
+-- disequation j of the second system is possible, and each of the first system's is met by a choice that misses it
+abbrev pub isMissed : ℕ → List ℕ → ℕ → ℕ → Bool
+isMissed possible rows count j = bit possible j && everyBelow count (bit (getD rows (64 + j) 0))
