@@ -1,6 +1,6 @@
 -- `plans::fill_entries` meets its contract. The loop's invariant: the first e disequations have their sub-leaves and choices. Assumes nothing.
 use mathlib.Core.Path.{_≡_, refl, ap, _∙_}
-use Prim.Native.Nat.{_+_, _-_, _/_, _%_, _≤_, _<_}
+use Prim.Native.Nat.{_+_, _-_, _*_, _/_, _%_, _^_, _≤_, _<_}
 use native.Mathlib.Omega.{arith}
 use lib.ListN.{length, length-set}
 use borrow.Author.Needs.{needs}
@@ -27,7 +27,7 @@ add-if1 c = omega arith
 pair-at-requires : tie.Need-pair-at-requires Inv-loop μ-loop
 pair-at-requires c κs =
     let fits = c .before .before .before .before .before .pre .0 in
-    (fits .extra, omega (arith, fits .extra, fits .few))
+    (omega (arith, fits .extra), omega (arith, fits .extra, fits .few))
 
 pair-leaf-requires : tie.Need-pair-leaf-requires Inv-loop μ-loop
 pair-leaf-requires c κs = search needs
@@ -91,7 +91,9 @@ loop-again c =
     let pairs = s .args .pairs .now in
     let leaf = c .before .before .before .before .before in
     let taking = c .before .before .before .take-rank in
-    let b = leaf .pair-leaf .result in (
+    let b = leaf .pair-leaf .result in
+    let stands : c .before .sub-leaf .result ≡ b * 2 ^ o .splits + taking .result = c .before .sub-leaf .ensures in
+    let chosen : c .pair-choice .result ≡ leaf .before .pair-at .result % leafWidth (o .free) = c .pair-choice .ensures in (
       omega arith,
       simp length-set (l .inv .1),
       simp length-set (l .inv .2),
@@ -99,8 +101,8 @@ loop-again c =
       taken-more o pairs (l .e) b (taking .result) (l .taken) (at-leaf leaf) (leaf-lt leaf) (taking .ensures .0) (l .inv .4) (taking .last .0)
           (omega (arith, leaf-lt leaf, l .inv .3)) (taking .ensures .2),
       filled-more o pairs (l .e) (c .before .sub-leaf .result) (c .pair-choice .result) (l .subleaf) (l .choice) (omega arith) (omega arith)
-          (c .before .sub-leaf .ensures ∙ sub-leaf-is o pairs (l .e) b (taking .result) (l .taken) (at-leaf leaf) (leaf-lt leaf) (taking .ensures .0) (l .inv .4))
-          (c .pair-choice .ensures ∙ ap (λ x. x % leafWidth (o .free)) (leaf .before .pair-at .ensures)) (l .inv .5),
+          (stands ∙ sub-leaf-is o pairs (l .e) b (taking .result) (l .taken) (at-leaf leaf) (leaf-lt leaf) (taking .ensures .0) (l .inv .4))
+          (chosen ∙ ap (λ x. x % leafWidth (o .free)) (leaf .before .pair-at .ensures)) (l .inv .5),
     )
 
 same-length : tie.Need-same-length Inv-loop μ-loop
