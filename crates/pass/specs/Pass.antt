@@ -1,7 +1,7 @@
 -- What is known in the middle of a pass: after some words of a leaf, and after some leaves. A pair of leaf b and choice z is the number
 -- b * leafWidth n + z, so that word w of leaf b is word b * wordCount n + w of all. Assumes nothing.
 use mathlib.Core.Path.{_≡_}
-use mathlib.Core.Bool.{Bool, false, not, _&&_}
+use mathlib.Core.Bool.{Bool, false, not, _&&_, _||_}
 use mathlib.Core.List.{List}
 use Prim.Native.Nat.{ℕ, _+_, _*_, _/_, _%_, _^_, _≤_, _<_}
 use lib.Dec.{T}
@@ -10,17 +10,23 @@ use Rattle.shares.specs.Below.{everyBelow, someBelow, firstBelow}
 use Rattle.shares.specs.Constant.{bit}
 use Rattle.questions.specs.Stored.{Stored, stored}
 use Rattle.words.specs.Choices.{wordCount}
+use Rattle.words.specs.Table.{Terms}
 use Rattle.beside.specs.declared.Sizes.{Sizes}
-use Rattle.entries.specs.Entry.{Entry}
+use Rattle.entries.specs.Entry.{Entry, WordOf}
 use Rattle.plans.specs.Pairs.{leafWidth}
 use Rattle.pass.specs.Tests.{leafValues, firstMeets, firstDiffers, secondMeets, allowedIn}
 use Rattle.pass.specs.declared.Search.{Search}
 use Rattle.pass.specs.declared.Search.the-variants.{Unmet, Missed}
 use Rattle.pass.specs.declared.Seen.{Seen}
+use Rattle.pass.specs.declared.Allowed.{Allowed}
 
 -- what is stored of a question, from its numbers, its clauses' bytes and its constants
 abbrev pub storedBy : Sizes → List ℕ → List ℕ → Stored
 storedBy sizes clauses constants = stored clauses (sizes .counts) constants (sizes .defined) (sizes .free) (sizes .own)
+
+-- the table of terms is at word w, for some values of the constants
+abbrev pub Tabled : ℕ → ℕ → ℕ → List ℕ → Type 0
+Tabled n m w terms = (values : ℕ) × Terms n m values w terms
 
 -- ---- tests of pairs
 
@@ -51,8 +57,20 @@ pub record Amid (S : Stored) (h : ℕ) (search : Search) (b w : ℕ) (seen : See
   pub marks : search ≡ Unmet → T (not (bit (seen .met) 31)) → (j : ℕ) → j < getD (S .counts) 3 0 → T (bit (seen .possible) j)
       → (i : ℕ) → i < getD (S .counts) 1 0 → bit (getD rows (64 + j) 0) i ≡ someBelow (64 * (b * wordCount (S .free) + w)) (onPairs S h (meetsHere S (Missed j) i))
 
--- nothing is changed of the leaves other than b, nor of what is possible
+-- what the second system says of one word, whose choices the first system allows: the search for an unmet choice has seen it and, unless there is one, each
+-- disequation of the second that is possible has its bit and its mark for it
+pub record Second (S : Stored) (values : ℕ) (at : Allowed) (seen : Seen) (pairs rows : List ℕ) (seen′ : Seen) (pairs′ rows′ : List ℕ) : Type 0 where
+  pub unmet : (p : ℕ → Bool) → WordOf (λ i. unmetHere S values (64 * at .word + i)) p (at .turn) → Entry p (at .turn) (seen .met) pairs 31
+      → Entry p (at .turn + 1) (seen′ .met) pairs′ 31
+  pub stays : T (not (bit (seen′ .met) 31)) → T (not (bit (seen .met) 31))
+  pub here : T (not (bit (seen′ .met) 31)) → (j : ℕ) → j < getD (S .counts) 3 0 → T (bit (seen .possible) j)
+      → bit (seen′ .here) j ≡ (bit (seen .here) j || someBelow 64 (λ i. allowedIn S (Missed j) values (64 * at .word + i)))
+  pub marks : T (not (bit (seen′ .met) 31)) → (j : ℕ) → j < getD (S .counts) 3 0 → T (bit (seen .possible) j) → (i : ℕ) → i < getD (S .counts) 1 0
+      → bit (getD rows′ (64 + j) 0) i ≡ (bit (getD rows (64 + j) 0) i || someBelow 64 (λ k. meetsHere S (Missed j) i values (64 * at .word + k)))
+
+-- what is possible is as it was, and so is everything about the leaves other than b
 pub record OthersKept (b : ℕ) (seen : Seen) (pairs : List ℕ) (seen′ : Seen) (pairs′ : List ℕ) : Type 0 where
+  pub possible-kept : seen′ .possible ≡ seen .possible
   pub met-kept : (k : ℕ) → 32 ≤ k → (k ≡ 32 + b → ⊥) → bit (seen′ .met) k ≡ bit (seen .met) k
   pub pairs-kept : (k : ℕ) → 32 ≤ k → (k ≡ 32 + b → ⊥) → getD pairs′ k 0 ≡ getD pairs k 0
 
