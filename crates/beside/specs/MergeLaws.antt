@@ -1,6 +1,6 @@
 -- A word turned by k bits, and a word merged: or-ed with itself, turned by every multiple of 2 ^ n. Assumes nothing.
 use mathlib.Core.Path.{_≡_, sym, ap, ap₂, _∙_, subst, fun-ext}
-use mathlib.Core.Bool.{Bool, _&&_, _||_, or-false}
+use mathlib.Core.Bool.{Bool, not, _&&_, _||_, or-false}
 use Prim.Native.Nat.{ℕ, suc, _+_, _-_, _*_, _/_, _%_, _^_, _≤_, _<_}
 use native.Mathlib.Nat.{mod-lt, mod-add-mod, add-mod-mod, add-mod-right, mod-eq-of-lt, add-assoc, add-mul, zero-mul, add-zero, pow-suc, add-mul-mod-self-right, add-mul-div-right}
 use native.Mathlib.Decide.{decLt}
@@ -11,11 +11,11 @@ use lib.Pow.{pow-pos, pow-add, shr-lt, split, mod-pow-add, mod-mod-pow}
 use borrow.Author.Tests.{eq-eqb}
 use Rattle.shares.specs.Test.{same-test, of-true, and-intro, and-left, and-right}
 use Rattle.shares.specs.Below.{someBelow}
-use Rattle.shares.specs.BelowLaws.{some-found, some-intro, some-add}
+use Rattle.shares.specs.BelowLaws.{some-found, some-intro, some-add, some-ext}
 use Rattle.shares.specs.Constant.{bit}
 use Rattle.shares.specs.BitLaws.{bit-or}
-use Rattle.shares.specs.BitParts.{bit-shift, bit-mod, bit-beyond, bit-raised-low, bit-raised}
-use Rattle.beside.specs.Beside.{Merged, MergedTo}
+use Rattle.shares.specs.BitParts.{bit-shift, bit-mod, bit-beyond, bit-raised-low, bit-raised, bit-not}
+use Rattle.beside.specs.Beside.{Merged, MergedTo, Shared}
 
 -- ---- turned by k bits
 
@@ -112,3 +112,12 @@ merge-whole n x r h f i l =
         sym (ap (λ c. (i + steps k * 2 ^ n) % 2 ^ c) six) ∙ mod-pow-add (i + steps k * 2 ^ n) (6 - n) n
         ∙ ap₂ (λ u v. u % 2 ^ (6 - n) * 2 ^ n + v) (add-mul-div-right i (steps k) (pow-pos n)) (add-mul-mod-self-right i (steps k) (2 ^ n))
         ∙ ap₂ (λ u v. u * 2 ^ n + v) (around k a) (sym e) ∙ split k n
+
+-- the bits that fail, merged, fail when shared
+pub shared-not : (n x r : ℕ) → x < 2 ^ 64 → r < 2 ^ 64 → Merged n ((2 ^ 64 - 1) - x) r → Shared n x ((2 ^ 64 - 1) - r)
+shared-not n x r hx hr f i h =
+    bit-not 64 r i hr h
+    ∙ ap not
+    (f i h
+    ∙ some-ext 64 (λ j. eqb (j % 2 ^ n) (i % 2 ^ n) && bit ((2 ^ 64 - 1) - x) j) (λ j. eqb (j % 2 ^ n) (i % 2 ^ n) && not (bit x j))
+    (λ j l. ap (_&&_ (eqb (j % 2 ^ n) (i % 2 ^ n))) (bit-not 64 x j hx l)))

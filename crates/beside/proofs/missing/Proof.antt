@@ -40,7 +40,7 @@ returns c =
       λ values t.
           let S = sweep .ensures .0 values t in (
             c .before .before .before .before .before .move-terms .ensures values (S .swept .at) (S .swept .table),
-            swept-missing (a .clauses .now) (a .t3 .counts) (a .t3 .free) (a .t3 .own) values (a .w) (a .x) (a .wanted) (sweep .result) (c .share-word .result) _ _ _
+            swept-missing (a .clauses .now) (a .t3 .counts) (a .t3 .free) (a .t3 .own) values (a .w) (a .x) (a .wanted) (sweep .result) (c .share-word .result) _ (sweep .last .1 .1 .1 .1 .1 .1 .0) (share .last .0)
                 (s .pre .1 .0) (s .pre .1 .2) (c .share-word .ensures) (share .ensures .0) S,
           ),
       λ k h. share .ensures .1 k (omega (arith, s .pre .0 .few)) ∙ sweep .ensures .1 k h ∙ put .ensures .1 k (omega (arith, s .pre .0 .few)),

@@ -102,12 +102,12 @@ loop-again c =
     let taken = c .before .before .take-all in (
       omega (arith, c .before .before .before .before .before .before .before .before .before .before .before .before .loop-test .taken),
       taken .kept .1 .1 .1 .1 .1 .0 ∙ l .inv .1,
-      emptied-more _ _ (a .wanted) (l .going) (taken .result) (l .left) _ (taken .ensures) (l .inv .2),
+      emptied-more _ _ (a .wanted) (l .going) (taken .result) (l .left) (taken .last .1 .1 .1 .1 .1 .0) (taken .ensures) (l .inv .2),
       λ k h. taken .ensures .left-kept k (λ m. absurd (omega (arith, s .pre .0 .few))) ∙ l .inv .3 k h,
       λ values t.
           let S = l .inv .4 values t in
           swept-more (a .clauses .now) (a .t3 .counts) (a .t3 .free) (a .t3 .own) values (a .w) (a .x) (a .wanted) (l .o) (l .none) (l .going) (y .result) _ (taken .result)
-          (l .terms) _ (l .left) _ (s .pre .0) (l .o * words .result + a .w) (ap (λ k. l .o * k + a .w) (words .ensures))
+          (l .terms) (moved .last .1 .1 .1 .0) (l .left) (taken .last .1 .1 .1 .1 .1 .0) (s .pre .0) (l .o * words .result + a .w) (ap (λ k. l .o * k + a .w) (words .ensures))
           (moved .ensures values (S .at) (S .table))
           (y .ensures) (taken-out (l .none) (y .result) (bit (y .result)) (y .ok) (λ i h. refl))
           (taken .ensures) (l .inv .2) S,
