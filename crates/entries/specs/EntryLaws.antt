@@ -130,3 +130,8 @@ module _ (t : ℕ) (word : ℕ → ℕ → Bool) (met : ℕ) (pairs : List ℕ) 
             found = K .met-kept i n ∙ F .found;
             stored = λ u. K .pairs-kept i n ∙ F .stored (rw (K .met-kept i n) at u);
           }
+
+-- an entry that is as it was
+pub entry-same : (p : ℕ → Bool) (t met : ℕ) (pairs : List ℕ) (met′ : ℕ) (pairs′ : List ℕ) (e : ℕ) → bit met′ e ≡ bit met e → getD pairs′ e 0 ≡ getD pairs e 0
+    → Entry p t met pairs e → Entry p t met′ pairs′ e
+entry-same p t met pairs met′ pairs′ e b v E = record { found = b ∙ E .found; stored = λ u. v ∙ E .stored (rw b at u) }

@@ -1,3 +1,5 @@
 pub mod Tests
 pub mod Pass
 pub mod TestLaws
+pub mod SecondLaws
+pub mod StepLaws

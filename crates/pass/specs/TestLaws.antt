@@ -87,3 +87,18 @@ module _ (sizes : Sizes) (clauses : List ℕ) (R : Readable clauses (sizes .coun
       ∙ R .disequation-free j k (termValue (sizes .free) (sizes .own) values (64 * w + i)) (termValue (sizes .free) 0 values (64 * w + i))
       (λ t. free-same (sizes .free) (sizes .own) values (64 * w + i) t)
       (λ t. constant-same (sizes .free) (sizes .own) values (64 * w + i) t (R .variables)))
+
+-- ---- the searches are apart
+
+number : Search → ℕ
+number First = 0
+number Unmet = 1
+number (Missed j) = 2
+
+pub first-not-unmet : First ≡ Unmet → ⊥
+unfolding number
+first-not-unmet e = let z : _≡_ {A = ℕ} 0 1 = ap number e in omega arith
+
+pub missed-not-unmet : (j : ℕ) → Missed j ≡ Unmet → ⊥
+unfolding number
+missed-not-unmet j e = let z : _≡_ {A = ℕ} 2 1 = ap number e in omega arith

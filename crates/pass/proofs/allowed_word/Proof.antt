@@ -1,42 +1,34 @@
+-- `pass::allowed_word` meets its contract, by cases on the search. Assumes nothing.
+use mathlib.Core.Path.{refl}
+use mathlib.Core.Path.{sym, _∙_}
 use borrow.Author.Needs.{needs}
+use Rattle.pass.specs.TestLaws.{first-not-unmet, missed-not-unmet}
 use Rattle.pass.proofs.allowed_word.Statement.{statement}
 use Rattle.pass.proofs.allowed_word.Tie as tie
-use Rattle.pass.proofs.allowed_word.Reads as reads
-use Rattle.pass.proofs.allowed_word.Lts as lts
-use Rattle.pass.proofs.first_word.Reads as first-word-reads
-use Rattle.pass.proofs.missed_word.Reads as missed-word-reads
 
--- src/lib.rt:100:9
 first-word-requires : tie.Need-first-word-requires
-first-word-requires c κs = search needs
+first-word-requires c κs = (c .before .pre .0, (c .before .pre .1 .0, c .before .pre .1 .2))
 
--- src/lib.rt:102:26
 enum-told : tie.Need-enum-told
 enum-told c = search needs
 
--- src/lib.rt:103:26
 enum-told-2 : tie.Need-enum-told-2
 enum-told-2 c = search needs
 
--- src/lib.rt:104:24
 enum-known-search : tie.Need-enum-known-search
 enum-known-search c = search needs
 
--- src/lib.rt:104:30
 missed-word-requires : tie.Need-missed-word-requires
-missed-word-requires c κs = ?
+missed-word-requires c κs = (c .before .before .before .before .before .before .before .pre .0, (c .before .before .before .before .before .before .before .pre .1 .0, rw (c .before .before .before .search .given .1) at (c .before .before .before .before .before .before .before .pre .1 .1), c .before .before .before .before .before .first-word .ensures .0))
 
--- src/lib.rt:87:1
 returns : tie.Need-returns
-returns c = ?
+returns c = rw (c .enum-told .given .1) (λ values t. (t, c .before .before .first-word .ensures .1 values t), λ e. absurd (first-not-unmet e))
 
--- src/lib.rt:87:1
 returns-2 : tie.Need-returns-2
-returns-2 c = ?
+returns-2 c = rw (c .enum-told2 .given .1) (λ values t. (t, c .before .before .first-word .ensures .1 values t), λ e. (c .before .before .first-word .ensures .0, refl))
 
--- src/lib.rt:87:1
 returns-3 : tie.Need-returns-3
-returns-3 c = ?
+returns-3 c = rw (c .before .before .before .before .search .given .1) (λ values t. c .missed-word .ensures values t (c .before .before .before .before .before .before .first-word .ensures .1 values t), λ e. absurd (missed-not-unmet _ e))
 
 pub allowed-word-spec : {M : Type 1} → statement M
 allowed-word-spec =

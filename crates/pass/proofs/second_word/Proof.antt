@@ -1,57 +1,68 @@
+-- `pass::second_word` meets its contract. Assumes nothing.
+use mathlib.Core.Path.{refl, sym, _∙_}
+use native.Mathlib.Omega.{arith}
 use borrow.Author.Needs.{needs}
+use Rattle.pass.specs.SecondLaws.{second-before, second-alone, second-marked}
 use Rattle.pass.proofs.second_word.Statement.{statement}
 use Rattle.pass.proofs.second_word.Tie as tie
-use Rattle.pass.proofs.second_word.Reads as reads
-use Rattle.pass.proofs.second_word.Lts as lts
-use Rattle.basics.proofs.digit.Reads as digit-reads
-use Rattle.beside.proofs.missing.Reads as missing-reads
-use Rattle.entries.proofs.fill_failing.Reads as fill-failing-reads
-use Rattle.entries.proofs.keep_least.Reads as keep-least-reads
-use Rattle.entries.proofs.mark_all.Reads as mark-all-reads
 
--- src/lib.rt:123:8
 digit-requires : tie.Need-digit-requires
 digit-requires c κs = search needs
 
--- src/lib.rt:124:9
 returns : tie.Need-returns
-returns c = ?
+returns c =
+    let a = c .before .before .args in
+    (λ values t. (t, λ first. second-before (a .t3) (a .clauses .now) values (a .at) (a .seen) _ _ (sym (c .before .digit .ensures) ∙ c .if1 .taken)), (refl, λ k n. refl, λ k n. refl))
 
--- src/lib.rt:126:9
 missing-requires : tie.Need-missing-requires
-missing-requires c κs = ?
+missing-requires c κs = let s = c .before .before .before .before in (s .pre .0, (s .pre .1 .0, omega arith, s .pre .1 .2))
 
--- src/lib.rt:135:9
 keep-least-requires : tie.Need-keep-least-requires
 keep-least-requires c κs = search needs
 
--- src/lib.rt:137:9
 returns-2 : tie.Need-returns-2
-returns-2 c = ?
+returns-2 c =
+    let s = c .before .before .before .before .before .before .before .before .before in
+    let a = s .args in
+    let M = c .before .before .before .before .missing .ensures in
+    let K = c .before .before .keep-least .ensures in (
+      λ values t. (
+        M .0 values t .0,
+        λ first. second-alone (a .t3) (a .clauses .now) (s .pre .0) values (a .at) (a .seen) _ _ first _ _ (M .0 values t .1) (M .1) (sym (c .before .before .before .before .before .before .before .before .digit .ensures) ∙ c .before .before .before .before .before .before .before .if1 .left) _ _ K (c .if2 .taken),
+      ),
+      (refl, K .met-kept, K .pairs-kept),
+    )
 
--- src/lib.rt:143:43
 element-copy-out-fill-failing : tie.Need-element-copy-out-fill-failing
 element-copy-out-fill-failing c = search needs
 
--- src/lib.rt:143:5
 fill-failing-requires : tie.Need-fill-failing-requires
 fill-failing-requires c κs = search needs
 
--- src/lib.rt:147:9
 element-copy-out-mark-all : tie.Need-element-copy-out-mark-all
 element-copy-out-mark-all c = search needs
 
--- src/lib.rt:148:9
 element-copy-out-mark-all-2 : tie.Need-element-copy-out-mark-all-2
 element-copy-out-mark-all-2 c = search needs
 
--- src/lib.rt:144:9
 mark-all-requires : tie.Need-mark-all-requires
 mark-all-requires c κs = search needs
 
--- src/lib.rt:109:1
 returns-3 : tie.Need-returns-3
-returns-3 c = ?
+returns-3 c =
+    let s = c .before .before .before .before .before .before .before .before .before .before .before .before .before .before .before .before .before in
+    let a = s .args in
+    let M = c .before .before .before .before .before .before .before .before .before .before .before .before .missing .ensures in
+    let K = c .before .before .before .before .before .before .before .before .before .before .keep-least .ensures in
+    let F = c .before .before .before .before .fill-failing .ensures in (
+      λ values t. (
+        M .0 values t .0,
+        λ first.
+            second-marked (a .t3) (a .clauses .now) (s .pre .0) values (a .at) (a .seen) _ _ first _ _ (M .0 values t .1) (M .1) (sym (c .before .before .before .before .before .before .before .before .before .before .before .before .before .before .before .before .digit .ensures) ∙ c .before .before .before .before .before .before .before .before .before .before .before .before .before .before .before .if1 .left) _ _ K
+            (c .before .before .before .before .before .before .before .before .before .before .before .before .missing .last .0) _ (M .0 values t .0) (F .0) (F .1) _ _ (c .mark-all .ensures),
+      ),
+      (refl, K .met-kept, K .pairs-kept),
+    )
 
 pub second-word-spec : {M : Type 1} → statement M
 second-word-spec =
