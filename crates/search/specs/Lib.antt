@@ -1,3 +1,5 @@
 pub mod Found
 pub mod PairLaws
 pub mod WideLaws
+pub mod TestLaws
+pub mod FoundLaws
