@@ -2,28 +2,28 @@
 use mathlib.Core.Path.{_≡_, refl, sym, ap, ap₂, _∙_, subst}
 use mathlib.Core.Bool.{Bool, true, false, not, _&&_, false≢true}
 use mathlib.Core.List.{List}
-use Prim.Native.Nat.{ℕ, zero, suc, _+_, _-_, _*_, _/_, _%_, _^_, _≤_, _<_}
-use native.Mathlib.Nat.{mul-left-comm, zero-add}
+use Prim.Native.Nat.{ℕ, suc, _+_, _-_, _*_, _/_, _%_, _^_, _<_}
+use native.Mathlib.Nat.{mul-left-comm}
 use native.Mathlib.Decide.{decLt}
 use native.Mathlib.Omega.{arith}
 use lib.Dec.{T}
 use lib.ListN.{getD}
-use borrow.Author.Tests.{lt-ltb, le-ltb}
+use borrow.Author.Tests.{le-ltb}
 use Rattle.shares.specs.Test.{is-true, of-true, of-false, and-left, and-right}
 use Rattle.shares.specs.Below.{everyBelow, someBelow, firstBelow}
 use Rattle.shares.specs.BelowLaws.{every-at, every-ext, some-ext, first-ext}
 use Rattle.shares.specs.Constant.{bit}
 use Rattle.questions.specs.Stored.{Stored}
-use Rattle.words.specs.Choices.{wordCount, clauseFails}
+use Rattle.words.specs.Choices.{wordCount}
 use Rattle.entries.specs.Entry.{Entry}
 use Rattle.plans.specs.Pairs.{leafWidth, slotOf, PairsOf}
 use Rattle.pass.specs.Tests.{leafValues, secondMeets, specialIn, extraOf, allowedIn, testsOf}
-use Rattle.pass.specs.Pass.{onPairs, meetsHere, unmetHere, missedBelow, After, Passed}
+use Rattle.pass.specs.Pass.{onPairs, meetsHere, unmetHere, After, Passed}
 use Rattle.pass.specs.declared.Search.{Search}
 use Rattle.pass.specs.declared.Search.the-variants.{First, Unmet, Missed}
 use Rattle.pass.specs.declared.Seen.{Seen}
 use Rattle.search.specs.Found.{solvableIn, lowestMissedIn, allFound, isMissed, SolvedAs, SurveyedAs}
-use Rattle.search.specs.WideLaws.{bothAt, pairAt, solvable-wide, pairs-of}
+use Rattle.search.specs.WideLaws.{pairAt, solvable-wide, pairs-of}
 use Rattle.search.specs.TestLaws.{tests-periodic, special-stored}
 
 -- the second of two tests counts only where the first passes

@@ -3,4 +3,4 @@ pub mod PairLaws
 pub mod WideLaws
 pub mod TestLaws
 pub mod FoundLaws
-pub mod SetLaws
+pub mod WordLaws

@@ -1,17 +1,17 @@
 -- Laws of what a search asks of choices: which digits of a choice count, and which test each of its disequations is. Assumes nothing.
-use mathlib.Core.Path.{_≡_, refl, sym, ap, ap₂, _∙_}
-use mathlib.Core.Bool.{Bool, true, false, not, cond, _&&_}
+use mathlib.Core.Path.{_≡_, sym, ap, ap₂, _∙_}
+use mathlib.Core.Bool.{Bool, not, cond, _&&_}
 use mathlib.Core.List.{List}
 use Prim.Native.Nat.{ℕ, _+_, _-_, _*_, _%_, _^_}
 use native.Mathlib.Nat.{add-zero, mod-mod}
 use native.Mathlib.Omega.{arith}
 use lib.Dec.{ltb}
 use lib.ListN.{getD}
-use borrow.Author.Tests.{lt-ltb, le-ltb}
+use borrow.Author.Tests.{le-ltb}
 use Rattle.questions.specs.Stored.{Stored}
 use Rattle.words.specs.Choices.{clauseFails, someOwn, Periodic}
 use Rattle.words.specs.TermLaws.{pass-mod, fails-mod}
-use Rattle.pass.specs.Tests.{leafValues, firstMeets, firstDiffers, secondMeets, secondDiffers, specialIn, extraOf, allowedIn, testsOf}
+use Rattle.pass.specs.Tests.{leafValues, firstMeets, secondMeets, specialIn, extraOf, allowedIn, testsOf}
 use Rattle.pass.specs.declared.Search.{Search}
 use Rattle.pass.specs.declared.Search.the-variants.{First, Unmet, Missed}
 use Rattle.search.specs.WideLaws.{PeriodicIn}

@@ -1,7 +1,7 @@
 -- `search::all_set` meets its contract. Assumes nothing.
 use mathlib.Core.Path.{ap, _∙_}
 use lib.Dec.{leb}
-use Rattle.search.specs.SetLaws.{bits-all}
+use Rattle.search.specs.WordLaws.{bits-all}
 use borrow.Author.Needs.{needs}
 use Rattle.search.proofs.all_set.Statement.{statement}
 use Rattle.search.proofs.all_set.Tie as tie

@@ -1,10 +1,11 @@
--- When the first bits of a word are all set. Assumes nothing.
-use mathlib.Core.Path.{_≡_}
-use Prim.Native.Nat.{ℕ, _-_, _^_, _≤_, _<_}
+-- Laws of words: when the first bits of one are all set, and what is read of equal ones. Assumes nothing.
+use mathlib.Core.Path.{_≡_, refl}
+use Prim.Native.Nat.{ℕ, zero, suc, _-_, _^_, _≤_, _<_}
 use native.Mathlib.Nat.{lt-of-lt-of-le}
 use native.Mathlib.Decide.{decLt}
 use native.Mathlib.Omega.{arith}
 use lib.Dec.{T, T-not, leb, leb→le, le→leb}
+use lib.ListN.{getD, replicate}
 use Rattle.shares.specs.Test.{same-test, holds}
 use Rattle.shares.specs.Below.{everyBelow, firstBelow}
 use Rattle.shares.specs.BelowLaws.{every-at, every-intro, first-below, first-least}
@@ -30,3 +31,9 @@ bits-all w x count small l =
     go t (yes m) =
         absurd (T-not (bit x lowest) (rw (bit-not w x lowest small (omega arith)) at (first-below w (bit others) (omega arith)))
         (every-at count (bit x) t lowest m))
+
+-- whatever is read of a list of equal words is that word
+pub replicate-at : {A : Type 0} (n k : ℕ) (a : A) → getD (replicate n a) k a ≡ a
+replicate-at zero k a = refl
+replicate-at (suc n) zero a = refl
+replicate-at (suc n) (suc k) a = replicate-at n k a
