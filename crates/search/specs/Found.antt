@@ -1,8 +1,8 @@
 -- What a search of the leaves finds: whether its problem is solvable, and the pairs of the solution. Assumes nothing.
 use mathlib.Core.Path.{_≡_}
-use mathlib.Core.Bool.{Bool, not, _&&_}
+use mathlib.Core.Bool.{Bool, false, not, _&&_}
 use mathlib.Core.List.{List}
-use Prim.Native.Nat.{ℕ, _+_}
+use Prim.Native.Nat.{ℕ, _+_, _^_}
 use lib.Dec.{T}
 use lib.ListN.{getD}
 use Rattle.shares.specs.Below.{everyBelow, firstBelow}
@@ -25,18 +25,25 @@ solvableIn S h search = solvable (least (S .free)) h (numbered (S .free) (testsO
 abbrev pub lowestMissedIn : Stored → ℕ → ℕ
 lowestMissedIn S h = firstBelow (getD (S .counts) 3 0) (λ j. solvableIn S h (Missed j))
 
+-- after a pass: every leaf has found a choice, and each of the first system's disequations a pair
+abbrev pub allFound : ℕ → ℕ → ℕ → Bool
+allFound h count met = everyBelow (2 ^ h) (λ b. bit met (32 + b)) && everyBelow count (bit met)
+
 -- a search: whether its problem is solvable, and then the pairs of it
 pub record SolvedAs (S : Stored) (h : ℕ) (search : Search) (found : Bool) (pairs : List ℕ) : Type 0 where
   pub found-is : found ≡ solvableIn S h search
   pub pairs-are : T found → PairsOf (S .free) h (testsOf S h search) (extraOf search) pairs
 
 -- a survey of an entailment: whether the first system has a solution; if so, whether some solution leaves the second's positive clauses unmet, and the
--- pairs of it; if none does, the lowest disequation of the second that some solution misses
+-- pairs of it; if none does, the lowest disequation of the second that some solution misses. Where it is not asked for, `unmet` is false and `missed`
+-- their count
 pub record SurveyedAs (S : Stored) (h : ℕ) (r : Survey) (pairs : List ℕ) : Type 0 where
   pub solvable-is : r .solvable ≡ solvableIn S h First
   pub unmet-is : T (r .solvable) → r .unmet ≡ solvableIn S h Unmet
   pub pairs-are : T (r .solvable) → T (r .unmet) → PairsOf (S .free) h (testsOf S h Unmet) (extraOf Unmet) pairs
   pub missed-is : T (r .solvable) → T (not (r .unmet)) → r .missed ≡ lowestMissedIn S h
+  pub unmet-else : T (not (r .solvable)) → r .unmet ≡ false
+  pub missed-else : T (not (r .solvable && not (r .unmet))) → r .missed ≡ getD (S .counts) 3 0
 
 -- disequation j of the second system is possible, and each of the first system's is met by a choice that misses it
 abbrev pub isMissed : ℕ → List ℕ → ℕ → ℕ → Bool

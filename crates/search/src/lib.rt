@@ -1,4 +1,9 @@
 // What a pass over the leaves finds: whether a search has a solution, and the table of its pairs.
+ghost use mathlib.Core.Path.{_≡_};
+ghost use Prim.Native.Nat.{_+_, _^_, _<_, _≤_};
+ghost use Rattle.shares.specs.Below.{everyBelow, firstBelow};
+ghost use Rattle.shares.specs.Constant.{bit};
+ghost use Rattle.search.specs.Found.{allFound, isMissed};
 
 // What a pass over an entailment finds: whether the first system has a solution; whether some solution cannot meet the second system's positive
 // clauses; and the lowest disequation of the second that some solution cannot have beside them, their count if there is none.
@@ -6,4 +11,51 @@ pub struct Survey {
     pub solvable: bool,
     pub unmet: bool,
     pub missed: usize,
+}
+
+// Whether the first `count` bits of a word are all set.
+fn all_set(x: u64, count: usize) -> bool
+    requires { ⌜ count ≤ 64 ⌝ }
+    ensures { λ r. ⌜ r ≡ everyBelow count (bit x) ⌝ }
+{
+    count <= words::lowest(!x)
+}
+
+// Whether each of 2^height leaves has found a choice: leaf b has bit 32 + b.
+fn all_leaves(met: u64, height: usize) -> bool
+    requires { ⌜ height ≤ 5 ⌝ }
+    ensures { λ r. ⌜ r ≡ everyBelow (2 ^ height) (λ b. bit met (32 + b)) ⌝ }
+{
+    all_set(met >> 32, 1 << height)
+}
+
+// Whether each leaf has found a choice, and each of the first system's disequations a pair.
+fn all_found(met: u64, height: usize, count: usize) -> bool
+    requires { ⌜ (height ≤ 5) × (count ≤ 32) ⌝ }
+    ensures { λ r. ⌜ r ≡ allFound height count met ⌝ }
+{
+    all_leaves(met, height) && all_set(met, count)
+}
+
+// Whether disequation j of the second system is possible, and each of the first system's is met with it.
+fn is_missed(possible: u64, rows: &[u64; 96], count: usize, j: usize) -> bool
+    requires { ⌜ (count ≤ 32) × (j < 32) ⌝ }
+    ensures { λ r. ⌜ r ≡ isMissed possible (now (rows .entry)) count j ⌝ }
+{
+    basics::digit(possible, j) && all_set(rows[64 + j], count)
+}
+
+// The lowest disequation of the second system that is missed, or their count.
+fn lowest_missed(possible: u64, rows: &[u64; 96], first_count: usize, second_count: usize) -> usize
+    requires { ⌜ («first_count» ≤ 32) × («second_count» ≤ 32) ⌝ }
+    ensures { λ r. ⌜ r ≡ firstBelow «second_count» (isMissed possible (now (rows .entry)) «first_count») ⌝ }
+{
+    let mut lowest: usize = 0;
+    while lowest < second_count {
+        if is_missed(possible, rows, first_count, lowest) {
+            return lowest;
+        }
+        lowest += 1;
+    }
+    second_count
 }
