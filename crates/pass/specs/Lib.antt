@@ -3,3 +3,4 @@ pub mod Pass
 pub mod TestLaws
 pub mod SecondLaws
 pub mod StepLaws
+pub mod LeafLaws

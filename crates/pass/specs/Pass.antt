@@ -1,7 +1,7 @@
 -- What is known in the middle of a pass: after some words of a leaf, and after some leaves. A pair of leaf b and choice z is the number
 -- b * leafWidth n + z, so that word w of leaf b is word b * wordCount n + w of all. Assumes nothing.
 use mathlib.Core.Path.{_≡_}
-use mathlib.Core.Bool.{Bool, false, not, _&&_, _||_}
+use mathlib.Core.Bool.{Bool, true, false, not, _&&_, _||_}
 use mathlib.Core.List.{List}
 use Prim.Native.Nat.{ℕ, _+_, _*_, _/_, _%_, _^_, _≤_, _<_}
 use lib.Dec.{T}
@@ -10,7 +10,7 @@ use Rattle.shares.specs.Below.{everyBelow, someBelow, firstBelow}
 use Rattle.shares.specs.Constant.{bit}
 use Rattle.questions.specs.Stored.{Stored, stored}
 use Rattle.words.specs.Choices.{wordCount}
-use Rattle.words.specs.Table.{Terms}
+use Rattle.words.specs.Table.{Terms, Within}
 use Rattle.beside.specs.declared.Sizes.{Sizes}
 use Rattle.entries.specs.Entry.{Entry, WordOf}
 use Rattle.plans.specs.Pairs.{leafWidth}
@@ -27,6 +27,14 @@ storedBy sizes clauses constants = stored clauses (sizes .counts) constants (siz
 -- the table of terms is at word w, for some values of the constants
 abbrev pub Tabled : ℕ → ℕ → ℕ → List ℕ → Type 0
 Tabled n m w terms = (values : ℕ) × Terms n m values w terms
+
+-- at some word
+abbrev pub Placed : ℕ → ℕ → List ℕ → Type 0
+Placed n m terms = (values v : ℕ) × Terms n m values v terms
+
+-- where only the first `defined` constants are set
+abbrev pub PlacedWithin : ℕ → ℕ → ℕ → List ℕ → Type 0
+PlacedWithin n m defined terms = (values v : ℕ) × Within defined values × Terms n m values v terms
 
 -- ---- tests of pairs
 
@@ -90,6 +98,14 @@ pub record After (S : Stored) (h : ℕ) (search : Search) (b : ℕ) (seen : Seen
   pub possible : search ≡ Unmet → T (not (bit (seen .met) 31)) → (j : ℕ) → j < getD (S .counts) 3 0 → bit (seen .possible) j ≡ missedBelow S h b j
   pub marks : search ≡ Unmet → T (not (bit (seen .met) 31)) → (j : ℕ) → j < getD (S .counts) 3 0 → T (bit (seen .possible) j)
       → (i : ℕ) → i < getD (S .counts) 1 0 → bit (getD rows (64 + j) 0) i ≡ someBelow (64 * (b * wordCount (S .free))) (onPairs S h (meetsHere S (Missed j) i))
+
+-- leaf b is given the least choice of leaf a
+pub record Copied (b a : ℕ) (seen : Seen) (pairs : List ℕ) (seen′ : Seen) (pairs′ : List ℕ) : Type 0 where
+  pub possible-kept : seen′ .possible ≡ seen .possible
+  pub found : bit (seen′ .met) (32 + b) ≡ true
+  pub met-kept : (k : ℕ) → (k ≡ 32 + b → ⊥) → bit (seen′ .met) k ≡ bit (seen .met) k
+  pub stored : getD pairs′ (32 + b) 0 ≡ getD pairs (32 + a) 0
+  pub pairs-kept : (k : ℕ) → (k ≡ 32 + b → ⊥) → getD pairs′ k 0 ≡ getD pairs k 0
 
 -- one leaf more, where it has a choice; where it has none its bit is not set
 pub record Visited (S : Stored) (h : ℕ) (search : Search) (b : ℕ) (seen : Seen) (pairs rows : List ℕ) : Type 0 where

@@ -9,7 +9,7 @@ ghost use Rattle.words.specs.Choices.{wordCount};
 ghost use Rattle.words.specs.Table.{Terms, Within};
 ghost use Rattle.beside.specs.Beside.{SameFree, Readable};
 ghost use Rattle.pass.specs.Tests.{leafValues, firstMeets, allowedIn, Named};
-ghost use Rattle.pass.specs.Pass.{storedBy, Tabled, Amid, OthersKept, Second, After, Visited, Passed};
+ghost use Rattle.pass.specs.Pass.{storedBy, Tabled, Placed, PlacedWithin, Amid, OthersKept, Second, After, Copied, Visited, Passed};
 
 // What is searched for.
 pub enum Search {
@@ -167,7 +167,8 @@ fn pass_word(
 ) -> Seen
     requires { ⌜ Readable (now clauses) (sizes .counts) (sizes .free) (sizes .own) ⌝ }
     requires { ⌜ Named (sizes .counts) (spot .search) × (spot .leaf < 32) × (spot .word < wordCount (sizes .free)) × Tabled (sizes .free) (sizes .own) (spot .word) (now terms) ⌝ }
-    ensures { λ r. ⌜ ((h : ℕ) (constants : List ℕ) → Terms (sizes .free) (sizes .own) (leafValues (storedBy sizes (now (clauses .entry)) constants) h (spot .leaf)) (spot .word) (now (terms .entry)) → Terms (sizes .free) (sizes .own) (leafValues (storedBy sizes (now (clauses .entry)) constants) h (spot .leaf)) (spot .word) (now (terms .exit)) × (Amid (storedBy sizes (now (clauses .entry)) constants) h (spot .search) (spot .leaf) (spot .word) seen (now (pairs .entry)) (now (rows .entry)) → Amid (storedBy sizes (now (clauses .entry)) constants) h (spot .search) (spot .leaf) (spot .word + 1) r (now (pairs .exit)) (now (rows .exit)))) ⌝ }
+    ensures { λ r. ⌜ ((values : ℕ) → Terms (sizes .free) (sizes .own) values (spot .word) (now (terms .entry)) → Terms (sizes .free) (sizes .own) values (spot .word) (now (terms .exit))) ⌝ }
+    ensures { λ r. ⌜ ((h : ℕ) (constants : List ℕ) → Terms (sizes .free) (sizes .own) (leafValues (storedBy sizes (now (clauses .entry)) constants) h (spot .leaf)) (spot .word) (now (terms .entry)) → Amid (storedBy sizes (now (clauses .entry)) constants) h (spot .search) (spot .leaf) (spot .word) seen (now (pairs .entry)) (now (rows .entry)) → Amid (storedBy sizes (now (clauses .entry)) constants) h (spot .search) (spot .leaf) (spot .word + 1) r (now (pairs .exit)) (now (rows .exit))) ⌝ }
     ensures { λ r. ⌜ OthersKept (spot .leaf) seen (now (pairs .entry)) r (now (pairs .exit)) ⌝ }
 {
     let search = spot.search;
@@ -193,4 +194,139 @@ fn pass_word(
         Search::Unmet => second_word(terms, clauses, sizes, at, kept, pairs, rows),
         Search::Missed(_) => kept,
     }
+}
+
+// All words of a leaf.
+fn pass_leaf(
+    terms: &mut [u64; 64],
+    clauses: &[u8; 768],
+    sizes: Sizes,
+    leaf: Leaf,
+    seen: Seen,
+    pairs: &mut [u32; 64],
+    rows: &mut [u64; 96],
+) -> Seen
+    requires { ⌜ Readable (now clauses) (sizes .counts) (sizes .free) (sizes .own) ⌝ }
+    requires { ⌜ Named (sizes .counts) (leaf .search) × (leaf .number < 32) × Placed (sizes .free) (sizes .own) (now terms) ⌝ }
+    ensures { λ r. ⌜ ((values v : ℕ) → Terms (sizes .free) (sizes .own) values v (now (terms .entry)) → (u : ℕ) × Terms (sizes .free) (sizes .own) values u (now (terms .exit))) ⌝ }
+    ensures { λ r. ⌜ ((h : ℕ) (constants : List ℕ) (v : ℕ) → Terms (sizes .free) (sizes .own) (leafValues (storedBy sizes (now (clauses .entry)) constants) h (leaf .number)) v (now (terms .entry)) → After (storedBy sizes (now (clauses .entry)) constants) h (leaf .search) (leaf .number) seen (now (pairs .entry)) (now (rows .entry)) → Visited (storedBy sizes (now (clauses .entry)) constants) h (leaf .search) (leaf .number) r (now (pairs .exit)) (now (rows .exit))) ⌝ }
+{
+    let search = leaf.search;
+    let number = leaf.number;
+    let words = words::word_count(sizes.free);
+    let mut r = Seen {
+        met: seen.met,
+        possible: seen.possible,
+        here: 0,
+    };
+    let mut w: usize = 0;
+    while w < words {
+        words::move_terms(sizes.free, sizes.own, w, terms);
+        let spot = Spot {
+            search,
+            leaf: number,
+            word: w,
+        };
+        r = pass_word(terms, clauses, sizes, spot, r, pairs, rows);
+        w += 1;
+    }
+    Seen {
+        met: r.met,
+        possible: r.possible & r.here,
+        here: 0,
+    }
+}
+
+// A leaf that looks like an earlier one has its least choice, and no other search finds anything there.
+fn copy_leaf(number: usize, like: usize, seen: Seen, pairs: &mut [u32]) -> Seen
+    requires { ⌜ (like < number) × (number < 32) × (length (now pairs) ≡ 64) ⌝ }
+    ensures { λ r. ⌜ Copied number like seen (now (pairs .entry)) r (now (pairs .exit)) ⌝ }
+{
+    pairs[32 + number] = pairs[32 + like];
+    Seen {
+        met: seen.met | (1 << (32 + number)),
+        possible: seen.possible,
+        here: 0,
+    }
+}
+
+// One leaf more.
+fn visit(
+    terms: &mut [u64; 64],
+    clauses: &[u8; 768],
+    sizes: Sizes,
+    leaf: Leaf,
+    seen: Seen,
+    pairs: &mut [u32; 64],
+    rows: &mut [u64; 96],
+) -> Seen
+    requires { ⌜ Readable (now clauses) (sizes .counts) (sizes .free) (sizes .own) ⌝ }
+    requires { ⌜ Named (sizes .counts) (leaf .search) × (leaf .number < 32) × (sizes .defined ≤ 32) × Within (sizes .defined) (leaf .values) × PlacedWithin (sizes .free) (sizes .own) (sizes .defined) (now terms) ⌝ }
+    ensures { λ r. ⌜ PlacedWithin (sizes .free) (sizes .own) (sizes .defined) (now (terms .exit)) ⌝ }
+    ensures { λ r. ⌜ ((h : ℕ) (constants : List ℕ) → leaf .values ≡ leafValues (storedBy sizes (now (clauses .entry)) constants) h (leaf .number) → (leaf .like < leaf .number → leafValues (storedBy sizes (now (clauses .entry)) constants) h (leaf .like) ≡ leaf .values) → After (storedBy sizes (now (clauses .entry)) constants) h (leaf .search) (leaf .number) seen (now (pairs .entry)) (now (rows .entry)) → Visited (storedBy sizes (now (clauses .entry)) constants) h (leaf .search) (leaf .number) r (now (pairs .exit)) (now (rows .exit))) ⌝ }
+{
+    let number = leaf.number;
+    let like = leaf.like;
+    if like < number {
+        return copy_leaf(number, like, seen, pairs);
+    }
+    words::set_constants(leaf.values, sizes.defined, terms);
+    pass_leaf(terms, clauses, sizes, leaf, seen, pairs, rows)
+}
+
+// The first of the first b leaves whose values are these, or b.
+fn first_like(keys: &[u64; 32], values: u64, b: usize) -> usize
+    requires { ⌜ b ≤ 32 ⌝ }
+    ensures { λ r. ⌜ (r ≤ b) × (r < b → getD (now (keys .entry)) r 0 ≡ values) ⌝ }
+{
+    let mut i: usize = 0;
+    while i < b {
+        if keys[i] == values {
+            return i;
+        }
+        i += 1;
+    }
+    b
+}
+
+// A pass over all leaves, which ends early where a leaf has no choice. The rows are working space.
+pub fn pass_leaves(
+    clauses: &[u8; 768],
+    sizes: Sizes,
+    constants: &[u64; 32],
+    search: Search,
+    pairs: &mut [u32; 64],
+    rows: &mut [u64; 96],
+) -> Seen
+    requires { ⌜ Readable (now clauses) (sizes .counts) (sizes .free) (sizes .own) ⌝ }
+    requires { ⌜ Named (sizes .counts) search × (sizes .defined ≤ 32) × (sizes .height ≤ 5) × ((k : ℕ) → getD (now rows) k 0 ≡ 0) ⌝ }
+    ensures { λ r. ⌜ Passed (storedBy sizes (now (clauses .entry)) (now (constants .entry))) (sizes .height) search r (now (pairs .exit)) (now (rows .exit)) ⌝ }
+{
+    let mut terms = [0u64; 64];
+    words::start_terms(sizes.free, sizes.own, &mut terms);
+    let mut keys = [0u64; 32];
+    let leaves = basics::power(sizes.height);
+    let mut seen = Seen {
+        met: 0,
+        possible: (1 << sizes.counts[3]) - 1,
+        here: 0,
+    };
+    let mut b: usize = 0;
+    while b < leaves {
+        let values = words::values_at(constants, sizes.defined, sizes.height, b);
+        let like = first_like(&keys, values, b);
+        keys[b] = values;
+        let leaf = Leaf {
+            search,
+            number: b,
+            like,
+            values,
+        };
+        seen = visit(&mut terms, clauses, sizes, leaf, seen, pairs, rows);
+        if !basics::digit(seen.met, 32 + b) {
+            return seen;
+        }
+        b += 1;
+    }
+    seen
 }

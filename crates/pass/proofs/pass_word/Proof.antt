@@ -27,15 +27,15 @@ returns c =
     let s = c .before .before .before .before in
     let a = s .args in
     let W = c .before .allowed-word .ensures in (
-      λ h constants t.
-          let U = W .0 _ t in (
-            U .0,
-            λ A.
-                amid-none (a .t3) (a .clauses .now) constants h (a .spot .leaf) (a .spot .word) (a .spot .search) (a .seen) _ _ (s .pre .1 .2) A
-                (λ k m. sym (allowed-same (a .t3) (a .clauses .now) constants (a .spot .search) _ _) ∙ sym (U .1 k m) ∙ ap (λ x. bit x k) (c .if1 .taken) ∙ bit-zero k)
-                _ (λ e. W .1 e .1),
-          ),
-      record { possible-kept = refl; met-kept = λ k m n. refl; pairs-kept = λ k m n. refl },
+      λ values t. W .0 values t .0,
+      (
+        λ h constants t A.
+            let U = W .0 _ t in
+            amid-none (a .t3) (a .clauses .now) constants h (a .spot .leaf) (a .spot .word) (a .spot .search) (a .seen) _ _ (s .pre .1 .2) A
+            (λ k m. sym (allowed-same (a .t3) (a .clauses .now) constants (a .spot .search) _ _) ∙ sym (U .1 k m) ∙ ap (λ x. bit x k) (c .if1 .taken) ∙ bit-zero k)
+            _ (λ e. W .1 e .1),
+        record { possible-kept = refl; met-kept = λ k m n. refl; pairs-kept = λ k m n. refl },
+      ),
     )
 
 word-count-requires : tie.Need-word-count-requires
@@ -78,16 +78,16 @@ returns-2 c =
     let W = c .before .before .before .before .before .before .before .before .before .before .before .before .before .allowed-word .ensures in
     let K = c .before .before .before .before .before .before .keep-least .ensures in
     let L = rw (c .before .before .before .before .before .before .before .before .before .before .before .word-count .ensures) at (c .before .before .keep-all .ensures) in (
-      λ h constants t.
-          let U = W .0 _ t in (
-            U .0,
-            λ A.
-                amid-kept (a .t3) (a .clauses .now) constants h (a .spot .leaf) (a .spot .word) (a .spot .search) (a .seen) _ _ (s .pre .1 .2) A
-                (s .pre .0) (s .pre .1 .1) (c .before .before .before .before .before .before .before .before .before .before .before .before .before .allowed-word .last .0) (U .0) (c .before .before .before .before .before .before .before .before .before .before .before .before .before .allowed-word .result)
-                (λ k m. U .1 k m ∙ allowed-same (a .t3) (a .clauses .now) constants (a .spot .search) _ _) _ _ K _ _ L
-                (λ e. first-not-unmet (sym (c .enum-told .given .1) ∙ e)) _,
-          ),
-      others-kept (a .spot .leaf) (a .spot .word) _ (c .before .before .before .before .before .before .before .before .before .before .before .before .before .allowed-word .result) _ _ (a .seen) _ _ _ _ _ (s .pre .0 .few .0) K L,
+      λ values t. W .0 values t .0,
+      (
+        λ h constants t A.
+            let U = W .0 _ t in
+            amid-kept (a .t3) (a .clauses .now) constants h (a .spot .leaf) (a .spot .word) (a .spot .search) (a .seen) _ _ (s .pre .1 .2) A
+            (s .pre .0) (s .pre .1 .1) (c .before .before .before .before .before .before .before .before .before .before .before .before .before .allowed-word .last .0) (U .0) (c .before .before .before .before .before .before .before .before .before .before .before .before .before .allowed-word .result)
+            (λ k m. U .1 k m ∙ allowed-same (a .t3) (a .clauses .now) constants (a .spot .search) _ _) _ _ K _ _ L
+            (λ e. first-not-unmet (sym (c .enum-told .given .1) ∙ e)) _,
+        others-kept (a .spot .leaf) (a .spot .word) _ (c .before .before .before .before .before .before .before .before .before .before .before .before .before .allowed-word .result) _ _ (a .seen) _ _ _ _ _ (s .pre .0 .few .0) K L,
+      ),
     )
 
 returns-3 : tie.Need-returns-3
@@ -99,21 +99,21 @@ returns-3 c =
     let L = rw (c .before .before .before .before .before .before .before .before .before .before .before .before .before .before .before .word-count .ensures) at (c .before .before .before .before .before .before .keep-all .ensures) in
     let e = c .before .before .before .before .enum-told2 .given .1 in
     let Q = c .second-word .ensures in (
-      λ h constants t.
-          let U = W .0 _ t in
-          let S₀ = storedBy (a .t3) (a .clauses .now) [] in
-          let v = leafValues (storedBy (a .t3) (a .clauses .now) constants) h (a .spot .leaf) in
-          let N = Q .0 _ (U .0) in
-          let first : (k : ℕ) → k < 64 → bit (c .before .before .before .before .before .before .before .before .before .before .before .before .before .before .before .before .before .allowed-word .result) k ≡ firstMeets S₀ v (64 * a .spot .word + k) =
-          λ k m. U .1 k m ∙ ap (λ s. allowedIn S₀ s v (64 * a .spot .word + k)) e in (
-            N .0,
-            λ A.
-                amid-second (a .t3) (a .clauses .now) constants h (a .spot .leaf) (a .spot .word) (a .spot .search) (a .seen) _ _ (s .pre .1 .2) A
-                (s .pre .0) (s .pre .1 .1) (c .before .before .before .before .before .before .before .before .before .before .before .before .before .before .before .before .before .allowed-word .last .0) (U .0) (c .before .before .before .before .before .before .before .before .before .before .before .before .before .before .before .before .before .allowed-word .result)
-                (λ k m. U .1 k m ∙ allowed-same (a .t3) (a .clauses .now) constants (a .spot .search) _ _) _ _ K _ _ L
-                e _ _ _ (rw (c .before .before .before .before .before .before .before .before .before .before .before .before .before .before .before .word-count .ensures, W .1 e .1) at (N .1 first)) (Q .1 .0) (Q .1 .1) (Q .1 .2),
-          ),
-      others-second (a .spot .leaf) (a .seen) _ _ _ _ _ (others-kept (a .spot .leaf) (a .spot .word) _ (c .before .before .before .before .before .before .before .before .before .before .before .before .before .before .before .before .before .allowed-word .result) _ _ (a .seen) _ _ _ _ _ (s .pre .0 .few .0) K L) (Q .1 .0) (Q .1 .1) (Q .1 .2),
+      λ values t. Q .0 values (W .0 values t .0) .0,
+      (
+        λ h constants t A.
+            let U = W .0 _ t in
+            let S₀ = storedBy (a .t3) (a .clauses .now) [] in
+            let v = leafValues (storedBy (a .t3) (a .clauses .now) constants) h (a .spot .leaf) in
+            let N = Q .0 _ (U .0) in
+            let first : (k : ℕ) → k < 64 → bit (c .before .before .before .before .before .before .before .before .before .before .before .before .before .before .before .before .before .allowed-word .result) k ≡ firstMeets S₀ v (64 * a .spot .word + k) =
+            λ k m. U .1 k m ∙ ap (λ s. allowedIn S₀ s v (64 * a .spot .word + k)) e in
+            amid-second (a .t3) (a .clauses .now) constants h (a .spot .leaf) (a .spot .word) (a .spot .search) (a .seen) _ _ (s .pre .1 .2) A
+            (s .pre .0) (s .pre .1 .1) (c .before .before .before .before .before .before .before .before .before .before .before .before .before .before .before .before .before .allowed-word .last .0) (U .0) (c .before .before .before .before .before .before .before .before .before .before .before .before .before .before .before .before .before .allowed-word .result)
+            (λ k m. U .1 k m ∙ allowed-same (a .t3) (a .clauses .now) constants (a .spot .search) _ _) _ _ K _ _ L
+            e _ _ _ (rw (c .before .before .before .before .before .before .before .before .before .before .before .before .before .before .before .word-count .ensures, W .1 e .1) at (N .1 first)) (Q .1 .0) (Q .1 .1) (Q .1 .2),
+        others-second (a .spot .leaf) (a .seen) _ _ _ _ _ (others-kept (a .spot .leaf) (a .spot .word) _ (c .before .before .before .before .before .before .before .before .before .before .before .before .before .before .before .before .before .allowed-word .result) _ _ (a .seen) _ _ _ _ _ (s .pre .0 .few .0) K L) (Q .1 .0) (Q .1 .1) (Q .1 .2),
+      ),
     )
 
 returns-4 : tie.Need-returns-4
@@ -123,16 +123,16 @@ returns-4 c =
     let W = c .before .before .before .before .before .before .before .before .before .before .before .before .before .allowed-word .ensures in
     let K = c .before .before .before .before .before .before .keep-least .ensures in
     let L = rw (c .before .before .before .before .before .before .before .before .before .before .before .word-count .ensures) at (c .before .before .keep-all .ensures) in (
-      λ h constants t.
-          let U = W .0 _ t in (
-            U .0,
-            λ A.
-                amid-kept (a .t3) (a .clauses .now) constants h (a .spot .leaf) (a .spot .word) (a .spot .search) (a .seen) _ _ (s .pre .1 .2) A
-                (s .pre .0) (s .pre .1 .1) (c .before .before .before .before .before .before .before .before .before .before .before .before .before .allowed-word .last .0) (U .0) (c .before .before .before .before .before .before .before .before .before .before .before .before .before .allowed-word .result)
-                (λ k m. U .1 k m ∙ allowed-same (a .t3) (a .clauses .now) constants (a .spot .search) _ _) _ _ K _ _ L
-                (λ e. missed-not-unmet _ (sym (c .enum-told3 .given .1) ∙ e)) _,
-          ),
-      others-kept (a .spot .leaf) (a .spot .word) _ (c .before .before .before .before .before .before .before .before .before .before .before .before .before .allowed-word .result) _ _ (a .seen) _ _ _ _ _ (s .pre .0 .few .0) K L,
+      λ values t. W .0 values t .0,
+      (
+        λ h constants t A.
+            let U = W .0 _ t in
+            amid-kept (a .t3) (a .clauses .now) constants h (a .spot .leaf) (a .spot .word) (a .spot .search) (a .seen) _ _ (s .pre .1 .2) A
+            (s .pre .0) (s .pre .1 .1) (c .before .before .before .before .before .before .before .before .before .before .before .before .before .allowed-word .last .0) (U .0) (c .before .before .before .before .before .before .before .before .before .before .before .before .before .allowed-word .result)
+            (λ k m. U .1 k m ∙ allowed-same (a .t3) (a .clauses .now) constants (a .spot .search) _ _) _ _ K _ _ L
+            (λ e. missed-not-unmet _ (sym (c .enum-told3 .given .1) ∙ e)) _,
+        others-kept (a .spot .leaf) (a .spot .word) _ (c .before .before .before .before .before .before .before .before .before .before .before .before .before .allowed-word .result) _ _ (a .seen) _ _ _ _ _ (s .pre .0 .few .0) K L,
+      ),
     )
 
 pub pass-word-spec : {M : Type 1} → statement M
