@@ -83,6 +83,7 @@ module _ (S : Stored) (h : ℕ) (search : Search) (b : ℕ) where
     leaf-done = record {
       done = λ t. record {
         plains = λ a l. plains t a l (ℕ-discrete a b);
+        found = λ a l. found t a l (ℕ-discrete a b);
         fresh = λ a l m. O .met-kept (32 + a) (omega arith) (λ q. omega arith) ∙ A .fresh a (omega arith) m;
         entries = λ i l. subst (λ t. Entry (onPairs S h (meetsHere S search i)) t (seen₁ .met) pairs₁ i) (leaf-more b (wordCount n)) (M .entries i l);
         unmet = λ e. subst (λ t. Entry (onPairs S h (unmetHere S)) t (seen₁ .met) pairs₁ 31) (leaf-more b (wordCount n)) (M .unmet e);
@@ -101,6 +102,10 @@ module _ (S : Stored) (h : ℕ) (search : Search) (b : ℕ) where
         plains t a l (no m) =
             let (s, e) = A .plains a (omega arith) in
             (s, O .pairs-kept (32 + a) (omega arith) (λ q. omega arith) ∙ e)
+
+        found : T (bit (seen₁ .met) (32 + b)) → (a : ℕ) → a < b + 1 → Dec (a ≡ b) → T (bit (seen₁ .met) (32 + a))
+        found t a l (yes q) = rw q t
+        found t a l (no m) = rw (O .met-kept (32 + a) (omega arith) (λ q. omega arith)) (A .found a (omega arith))
 
   -- ---- a leaf that looks like an earlier one
 
@@ -142,6 +147,7 @@ module _ (S : Stored) (h : ℕ) (search : Search) (b : ℕ) where
     leaf-copied seen pairs rows seen₁ pairs₁ small few C A = record {
       done = λ _. record {
         plains = λ a l. plains a l (ℕ-discrete a b);
+        found = λ a l. found a l (ℕ-discrete a b);
         fresh = λ a l m. C .met-kept (32 + a) (λ q. omega arith) ∙ A .fresh a (omega arith) m;
         entries = λ i l. entry-same _ _ _ _ _ _ i (C .met-kept i (λ q. omega arith)) (C .pairs-kept i (λ q. omega arith)) (skip (meetsHere S search i) (seen .met) pairs i (A .entries i l));
         unmet = λ e. entry-same _ _ _ _ _ _ 31 apart (C .pairs-kept 31 (λ q. omega arith)) (skip (unmetHere S) (seen .met) pairs 31 (A .unmet e));
@@ -165,6 +171,10 @@ module _ (S : Stored) (h : ℕ) (search : Search) (b : ℕ) where
         plains a l (no m) =
             let (s, e) = A .plains a (omega arith) in
             (s, C .pairs-kept (32 + a) (λ q. omega arith) ∙ e)
+
+        found : (a : ℕ) → a < b + 1 → Dec (a ≡ b) → T (bit (seen₁ .met) (32 + a))
+        found a l (yes q) = rw q (of-true (C .found))
+        found a l (no m) = rw (C .met-kept (32 + a) (λ q. omega arith)) (A .found a (omega arith))
 
         missed-again : (j : ℕ) → missedBelow S h (b + 1) j ≡ missedBelow S h b j
         missed-again j =

@@ -4,3 +4,4 @@ pub mod TestLaws
 pub mod SecondLaws
 pub mod StepLaws
 pub mod LeafLaws
+pub mod PassLaws

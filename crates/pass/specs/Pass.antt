@@ -92,6 +92,7 @@ pub record After (S : Stored) (h : ℕ) (search : Search) (b : ℕ) (seen : Seen
   -- each has a least choice, and nothing is known of the others
   pub plains : (a : ℕ) → a < b → T (someBelow (leafWidth (S .free)) (allowedIn S search (leafValues S h a)))
       × (getD pairs (32 + a) 0 ≡ firstBelow (leafWidth (S .free)) (allowedIn S search (leafValues S h a)))
+  pub found : (a : ℕ) → a < b → T (bit (seen .met) (32 + a))
   pub fresh : (a : ℕ) → b ≤ a → a < 32 → bit (seen .met) (32 + a) ≡ false
   pub entries : (i : ℕ) → i < getD (S .counts) 1 0 → Entry (onPairs S h (meetsHere S search i)) (b * wordCount (S .free)) (seen .met) pairs i
   pub unmet : search ≡ Unmet → Entry (onPairs S h (unmetHere S)) (b * wordCount (S .free)) (seen .met) pairs 31

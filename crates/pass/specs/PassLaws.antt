@@ -1,0 +1,88 @@
+-- A whole pass: before the first leaf, after the last, and where a leaf has no choice. Assumes nothing.
+use mathlib.Core.Path.{_≡_, refl, sym, ap, _∙_}
+use mathlib.Core.Bool.{Bool, true, false, not, _&&_}
+use mathlib.Core.List.{List}
+use Prim.Native.Nat.{ℕ, _+_, _-_, _*_, _^_, _≤_, _<_}
+use native.Mathlib.Nat.{zero-mul}
+use native.Mathlib.Decide.{decLt}
+use native.Mathlib.Omega.{arith}
+use lib.Dec.{T, T-not, ltb}
+use lib.ListN.{length, getD, set}
+use lib.Seq.{getD-set-same, getD-set-other}
+use borrow.Author.Tests.{le-ltb}
+use Rattle.shares.specs.Test.{is-true, is-false, of-true, of-false}
+use Rattle.shares.specs.Below.{everyBelow, someBelow, firstBelow}
+use Rattle.shares.specs.BelowLaws.{every-at, every-intro}
+use Rattle.shares.specs.Blocks.{firstOf}
+use Rattle.shares.specs.Constant.{constantLevels, bit}
+use Rattle.shares.specs.BitLaws.{bit-zero, bit-number, number-lt}
+use Rattle.shares.specs.BitParts.{bit-ones, bit-beyond}
+use Rattle.questions.specs.Stored.{Stored}
+use Rattle.words.specs.Choices.{wordCount, valuesAt}
+use Rattle.words.specs.Table.{Within}
+use Rattle.entries.specs.Entry.{Entry}
+use Rattle.plans.specs.Pairs.{leafWidth}
+use Rattle.pass.specs.Tests.{leafValues, allowedIn}
+use Rattle.pass.specs.Pass.{onPairs, meetsHere, unmetHere, missedBelow, After, Visited, Passed}
+use Rattle.pass.specs.declared.Search.{Search}
+use Rattle.pass.specs.declared.Search.the-variants.{Missed}
+use Rattle.pass.specs.declared.Seen.{Seen}
+
+-- only the values of the constants that are defined are set
+pub values-within : (constants : List ℕ) (defined h b : ℕ) → Within defined (valuesAt constants defined h b)
+unfolding valuesAt
+values-within constants defined h b i l = go (decLt i 64)
+  where
+    go : Dec (i < 64) → bit (valuesAt constants defined h b) i ≡ false
+    go (yes m) = bit-number 64 _ i m ∙ rw (le-ltb i defined l)
+    go (no m) = bit-beyond 64 (valuesAt constants defined h b) i (number-lt 64 _) (omega arith)
+
+-- one key more
+pub keys-more : (f : ℕ → ℕ) (keys : List ℕ) (b x : ℕ) → b < length keys → x ≡ f b → ((i : ℕ) → i < b → getD keys i 0 ≡ f i)
+    → (i : ℕ) → i < b + 1 → getD (set keys b x) i 0 ≡ f i
+keys-more f keys b x room e K i l = go (decLt i b)
+  where
+    go : Dec (i < b) → getD (set keys b x) i 0 ≡ f i
+    go (yes m) = getD-set-other keys b i x 0 (λ q. omega arith) ∙ K i m
+    go (no m) = let q : i ≡ b = omega arith in rw q (getD-set-same keys b x 0 room ∙ e)
+
+module _ (S : Stored) (h : ℕ) (search : Search) where
+  -- before the first leaf
+  none : (f : ℕ → ℕ → Bool) → someBelow (64 * (0 * wordCount (S .free))) (onPairs S h f) ≡ false
+  unfolding someBelow
+  none f = ap (λ k. someBelow (64 * k) (onPairs S h f)) (zero-mul (wordCount (S .free)))
+
+  entry-start : (f : ℕ → ℕ → Bool) (pairs : List ℕ) (e : ℕ) → Entry (onPairs S h f) (0 * wordCount (S .free)) 0 pairs e
+  entry-start f pairs e = record { found = bit-zero e ∙ sym (none f); stored = λ t. absurd (T-not (bit 0 e) (of-false (bit-zero e)) t) }
+
+  pub after-none : (pairs rows : List ℕ) → ((k : ℕ) → getD rows k 0 ≡ 0)
+      → After S h search 0 (record { met = 0; possible = 2 ^ getD (S .counts) 3 0 - 1; here = 0 }) pairs rows
+  unfolding everyBelow
+  after-none pairs rows zero = record {
+    plains = λ a l. absurd (omega arith);
+    found = λ a l. absurd (omega arith);
+    fresh = λ a l m. bit-zero (32 + a);
+    entries = λ i l. entry-start (meetsHere S search i) pairs i;
+    unmet = λ e. entry-start (unmetHere S) pairs 31;
+    possible = λ e t j l. bit-ones (getD (S .counts) 3 0) j l;
+    marks = λ e t j l u i m. ap (λ x. bit x i) (zero (64 + j)) ∙ bit-zero i ∙ sym (none (meetsHere S (Missed j) i));
+  }
+
+  -- after the last
+  pub passed-all : (seen : Seen) (pairs rows : List ℕ) → After S h search (2 ^ h) seen pairs rows → Passed S h search seen pairs rows
+  passed-all seen pairs rows A = record {
+    all = is-true _ (every-intro (2 ^ h) _ (A .found)) ∙ sym (is-true _ (every-intro (2 ^ h) _ (λ b l. A .plains b l .0)));
+    after = λ _. A;
+  }
+
+  -- a leaf has no choice
+  pub passed-none : (b : ℕ) (seen : Seen) (pairs rows : List ℕ) → b < 2 ^ h → bit (seen .met) (32 + b) ≡ false → Visited S h search b seen pairs rows
+      → Passed S h search seen pairs rows
+  passed-none b seen pairs rows l e W = record {
+    all = every-fails (λ b. bit (seen .met) (32 + b)) (of-false e)
+        ∙ sym (every-fails (λ b. someBelow (leafWidth (S .free)) (allowedIn S search (leafValues S h b))) (W .none (of-false e)));
+    after = λ t. absurd (T-not (bit (seen .met) (32 + b)) (of-false e) (every-at (2 ^ h) (λ b. bit (seen .met) (32 + b)) t b l));
+  }
+    where
+      every-fails : (p : ℕ → Bool) → T (not (p b)) → everyBelow (2 ^ h) p ≡ false
+      every-fails p t = is-false (everyBelow (2 ^ h) p) (lib.Dec.not-T (everyBelow (2 ^ h) p) (λ u. T-not (p b) t (every-at (2 ^ h) p u b l)))
