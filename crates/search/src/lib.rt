@@ -1,9 +1,14 @@
 // What a pass over the leaves finds: whether a search has a solution, and the table of its pairs.
+use beside::Sizes;
+use pass::Search;
 ghost use mathlib.Core.Path.{_≡_};
 ghost use Prim.Native.Nat.{_+_, _^_, _<_, _≤_};
 ghost use Rattle.shares.specs.Below.{everyBelow, firstBelow};
 ghost use Rattle.shares.specs.Constant.{bit};
-ghost use Rattle.search.specs.Found.{allFound, isMissed};
+ghost use Rattle.beside.specs.Beside.{Readable};
+ghost use Rattle.pass.specs.Tests.{Named, extraOf};
+ghost use Rattle.pass.specs.Pass.{storedBy};
+ghost use Rattle.search.specs.Found.{allFound, isMissed, SolvedAs, SurveyedAs};
 
 // What a pass over an entailment finds: whether the first system has a solution; whether some solution cannot meet the second system's positive
 // clauses; and the lowest disequation of the second that some solution cannot have beside them, their count if there is none.
@@ -58,4 +63,57 @@ fn lowest_missed(possible: u64, rows: &[u64; 96], first_count: usize, second_cou
         lowest += 1;
     }
     second_count
+}
+
+// Whether the problem of a search is solvable, and then the table of its pairs.
+pub fn solve(
+    clauses: &[u8; 768],
+    sizes: Sizes,
+    constants: &[u64; 32],
+    search: Search,
+    pairs: &mut [u32; 64],
+) -> bool
+    requires { ⌜ Readable (now clauses) (sizes .counts) (sizes .free) (sizes .own) ⌝ }
+    requires { ⌜ Named (sizes .counts) search × (sizes .defined ≤ 32) × (sizes .height ≤ 5) × (extraOf search ≡ 0) ⌝ }
+    ensures { λ r. ⌜ SolvedAs (storedBy sizes (now (clauses .entry)) (now (constants .entry))) (sizes .height) search r (now (pairs .exit)) ⌝ }
+{
+    let mut rows = [0u64; 96];
+    let seen = pass::pass_leaves(clauses, sizes, constants, search, pairs, &mut rows);
+    all_found(seen.met, sizes.height, sizes.counts[1])
+}
+
+// Surveys an entailment, with the table of the pairs of an unmet choice if there is one. Where the first system has no solution `unmet` is false,
+// and where there is no such disequation to find `missed` is the number of the second system's.
+pub fn survey_leaves(
+    clauses: &[u8; 768],
+    sizes: Sizes,
+    constants: &[u64; 32],
+    pairs: &mut [u32; 64],
+) -> Survey
+    requires { ⌜ Readable (now clauses) (sizes .counts) (sizes .free) (sizes .own) ⌝ }
+    requires { ⌜ (sizes .defined ≤ 32) × (sizes .height ≤ 5) ⌝ }
+    ensures { λ r. ⌜ SurveyedAs (storedBy sizes (now (clauses .entry)) (now (constants .entry))) (sizes .height) r (now (pairs .exit)) ⌝ }
+{
+    let second_count = sizes.counts[3];
+    let mut rows = [0u64; 96];
+    let seen = pass::pass_leaves(clauses, sizes, constants, Search::Unmet, pairs, &mut rows);
+    if !all_found(seen.met, sizes.height, sizes.counts[1]) {
+        return Survey {
+            solvable: false,
+            unmet: false,
+            missed: second_count,
+        };
+    }
+    if basics::digit(seen.met, 31) {
+        return Survey {
+            solvable: true,
+            unmet: true,
+            missed: second_count,
+        };
+    }
+    Survey {
+        solvable: true,
+        unmet: false,
+        missed: lowest_missed(seen.possible, &rows, sizes.counts[1], second_count),
+    }
 }
