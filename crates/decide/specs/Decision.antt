@@ -99,7 +99,6 @@ pub record StandsFor (x : Question) (q : Asked) : Type 0 where
 
 -- and a solution is shown with its decision
 pub record ShownWith (x : Question) (r : Decision) (q : Asked) : Type 0 where
-  pub clauses : List ℕ
-  pub stands : Stands (x .kind) (storedOf x clauses) q
-  pub decided : Decided (storedOf x clauses) q r
+  pub standing : StandsFor x q
+  pub decided : Decided (storedOf x (standing .clauses)) q r
   pub shown : T (shows (decide q))

@@ -18,7 +18,7 @@ use Rattle.shares.specs.BlockLaws.{leaf-lt}
 use Rattle.shares.specs.Tree.{treeOf}
 use Rattle.shares.specs.TreeLaws.{treeOf-ext}
 use Rattle.leaves.specs.Heights.{c}
-use Rattle.leaves.specs.HeightLaws.{c-enough, c-most}
+use Rattle.leaves.specs.HeightLaws.{c-enough}
 use Rattle.leaves.specs.Choices.{Row, least}
 use Rattle.leaves.specs.RowNumbers.{value}
 use Rattle.leaves.specs.Problem.{Problem, solvable, candidate}
@@ -32,7 +32,7 @@ use Rattle.systems.specs.AtLeaves.{firstAt}
 use Rattle.systems.specs.Decide.{canSolve, someUnmet, lowestMissed, decideKind, decide, sharesOf, fixed, shownWith}
 use Rattle.questions.specs.Stored.{Stored, Stands}
 use Rattle.questions.specs.KeepingLaws.{section-count}
-use Rattle.questions.specs.declared.Section.the-variants.{FirstDisequation, SecondDisequation}
+use Rattle.questions.specs.declared.Section.the-variants.{SecondDisequation}
 use Rattle.plans.specs.declared.Plan.{Plan}
 use Rattle.plans.specs.Shown as shown
 use Rattle.plans.specs.ShownLaws.{plan-shows}
@@ -45,27 +45,10 @@ use Rattle.search.specs.Found.{solvableIn, SolvedAs}
 use Rattle.decide.specs.StoredLaws.{row-digit}
 use Rattle.decide.specs.StandsLaws.{withVariables, Same, same-first, same-unmet, same-missed}
 use Rattle.decide.specs.ReadableLaws.{question-low}
+use Rattle.decide.specs.OutlineLaws.{extra-most, room-enough, count-is, count-few, splits-few}
 use Rattle.decide.specs.Decision.{answerOf, searchOf, outlineOf, Planned, Decided}
 use Rattle.decide.specs.declared.Finding.{Finding}
 use Rattle.decide.specs.declared.Finding.the-variants.{Satisfied, Unsatisfied, Vacuous, Entailed, Unmet, Missed}
-
--- ---- a search and its room
-
--- a search has room for its disequations, and for at most one more than the stored ones
-room-enough : (search : Search) (d : ℕ) → (extraOf search + d ≤ roomOf search d) × (roomOf search d ≤ d + 1)
-room-enough First d = (omega arith, omega arith)
-room-enough Unmet d = (omega arith, omega arith)
-room-enough (Missed j) d = (omega arith, omega arith)
-
-extra-one : (search : Search) → extraOf search ≤ 1
-extra-one First = omega arith
-extra-one Unmet = omega arith
-extra-one (Missed j) = omega arith
-
-room-splits : (search : Search) (d : ℕ) → d ≤ 31 → (c (roomOf search d) ≤ 5) × (extraOf search + d ≤ 2 ^ c (roomOf search d))
-room-splits search d l =
-    let (enough, few) = room-enough search d in
-    (c-most (roomOf search d) 5 (omega arith), le-trans enough (c-enough (roomOf search d)))
 
 -- ---- the answer that a disequation is missed names one of the second system's
 
@@ -103,12 +86,6 @@ module _ {kind : ℕ} (x : Stored) (q : Question) (St : Stands kind x q) where
   pub solved-at : {search : Search} {found : Bool} {pairs : List ℕ} → SolvedAs x H search found pairs → SolvedAs Q H search found pairs
   solved-at D = rw (← (St .free), ← (St .own)) D
 
-  count : getD (x .counts) 1 0 ≡ firstCount q
-  count = sym (section-count x q St FirstDisequation)
-
-  few : firstCount q ≤ 31
-  few = omega (arith, St .counted FirstDisequation, count)
-
   module _ (search : Search) where
     abbrev R : Problem ℕ
     R = testsOf Q H search
@@ -116,14 +93,11 @@ module _ {kind : ℕ} (x : Stored) (q : Question) (St : Stands kind x q) where
     abbrev k : ℕ
     k = c (roomOf search (firstCount q))
 
-    pub splits-few : k ≤ 5
-    splits-few = room-splits search (firstCount q) few .0
-
-    pub count-is : R .count ≡ extraOf search + firstCount q
-    count-is = ap (λ d. extraOf search + d) count
+    tests-count : R .count ≡ extraOf search + firstCount q
+    tests-count = ap (λ d. extraOf search + d) (count-is x q St)
 
     room : R .count ≤ 2 ^ k
-    room = rw count-is (room-splits search (firstCount q) few .1)
+    room = rw tests-count (le-trans (room-enough search (firstCount q)) (c-enough (roomOf search (firstCount q))))
 
     module _ (can : T (solvableIn Q H search)) where
       -- pairs of it can be planned
@@ -131,12 +105,12 @@ module _ {kind : ℕ} (x : Stored) (q : Question) (St : Stands kind x q) where
       fitting P = record {
         variables = omega (arith, St .variables, St .free);
         low = question-low x q St;
-        splits = splits-few;
-        extra = extra-one search;
-        few = few;
+        splits = splits-few x q St search;
+        extra = extra-most search;
+        few = count-few x q St;
         plains = λ b l. rw (P .plains b l) (le-trans (least-lt b l) (pow-mono {j = 12} (omega (arith, St .variables, St .free))));
         entries = λ e l.
-            let m : e < R .count = rw count-is l in
+            let m : e < R .count = rw tests-count l in
             rw (P .entries e m) (digits-lt (block-passes (least (q .free)) H (numbered (q .free) R) can e m .0) (P .within e m));
       }
         where
@@ -151,9 +125,9 @@ module _ {kind : ℕ} (x : Stored) (q : Question) (St : Stands kind x q) where
         formed : shown.Showable rowLevels plan
         formed = record {
           below = omega (arith, M .low, M .high);
-          within = omega (arith, M .high, splits-few, question-low x q St);
+          within = omega (arith, M .high, splits-few x q St search, question-low x q St);
           blocks = omega (arith, M .low, question-low x q St);
-          few = let p : 2 ^ k ≤ 2 ^ 5 = pow-mono {j = 5} splits-few in omega (arith, M .count, room);
+          few = let p : 2 ^ k ≤ 2 ^ 5 = pow-mono {j = 5} (splits-few x q St search) in omega (arith, M .count, room);
           sub-leaves = λ j l.
               let m : j < R .count = rw (M .count) at l in
               rw (M .high, M .sub-leaves j m)
@@ -208,4 +182,4 @@ module _ {kind : ℕ} (x : Stored) (q : Question) (St : Stands kind x q) where
         → Made (q .free) H R (c (roomOf (searchOf f) (firstCount q))) plan)
         → Planned q plan
     decided-planned plan made =
-        planned-as f (rw (D .answer) t) (sym (D .answer)) can plan (made (testsOf Q H (searchOf f)) (count-is (searchOf f)) (solved .pairs-are tt))
+        planned-as f (rw (D .answer) t) (sym (D .answer)) can plan (made (testsOf Q H (searchOf f)) (tests-count (searchOf f)) (solved .pairs-are tt))

@@ -32,7 +32,7 @@ element-copy-out-t16 c = search needs
 
 returns : tie.Need-returns
 returns c =
-    λ q S. outline-is _ q S (c .before .before .before .before .before .before .before .before .args .search) _ _ _ _ (c .before .before .before .before .before .question-height .ensures) (c .before .before .before .room-of .ensures) (c .before .before .splits .ensures) (c .before .extra-of .ensures)
+    λ q S. outline-is _ q (S .stands) (c .before .before .before .before .before .before .before .before .args .search) _ _ _ _ (c .before .before .before .before .before .question-height .ensures) (c .before .before .before .room-of .ensures) (c .before .before .splits .ensures) (c .before .extra-of .ensures)
 
 pub outline-spec : {M : Type 1} → statement M
 outline-spec =

@@ -12,19 +12,19 @@ search-of-requires c κs = search needs
 outline-requires : tie.Need-outline-requires
 outline-requires c κs =
     let (q, S) = c .before .before .before .pre in
-    (q, record { clauses = S .clauses; stands = S .stands })
+    (q, S .standing)
 
 plan-of-requires : tie.Need-plan-of-requires
 plan-of-requires c κs =
     let (q, S) = c .before .before .before .before .pre in
-    rw (c .outline .ensures q (record { clauses = S .clauses; stands = S .stands }) ∙ ap (outlineOf q) (c .before .search-of .ensures))
-    (decided-fits _ q (S .stands) _ _ (S .decided) (S .shown))
+    rw (c .outline .ensures q (S .standing) ∙ ap (outlineOf q) (c .before .search-of .ensures))
+    (decided-fits _ q (S .standing .stands) _ _ (S .decided) (S .shown))
 
 returns : tie.Need-returns
 returns c =
     λ q S.
-    let e = c .before .outline .ensures q (record { clauses = S .clauses; stands = S .stands }) ∙ ap (outlineOf q) (c .before .before .search-of .ensures) in
-    decided-planned _ q (S .stands) _ _ (S .decided) (S .shown) _ (rw e at (c .plan-of .ensures))
+    let e = c .before .outline .ensures q (S .standing) ∙ ap (outlineOf q) (c .before .before .search-of .ensures) in
+    decided-planned _ q (S .standing .stands) _ _ (S .decided) (S .shown) _ (rw e at (c .plan-of .ensures))
 
 pub plan-spec : {M : Type 1} → statement M
 plan-spec = tie.close (tie.spec search-of-requires outline-requires plan-of-requires returns)
