@@ -74,6 +74,16 @@ DecidedAs kind sizes clauses constants r =
     (k : ℕ) (q : Asked) → Stands k (storedBy sizes clauses constants) q → q .kind ≡ kind → sizes .height ≡ questionHeight q
     → Decided (storedBy sizes clauses constants) q r
 
+-- a question that was read stands for q, with some clauses
+pub record StandsFor (x : Question) (q : Asked) : Type 0 where
+  pub clauses : List ℕ
+  pub stands : Stands (x .kind) (storedOf x clauses) q
+
+-- and this is its decision
+pub record DecidedFor (x : Question) (r : Decision) (q : Asked) : Type 0 where
+  pub standing : StandsFor x q
+  pub decided : Decided (storedOf x (standing .clauses)) q r
+
 -- ---- its plan
 
 -- what is to be planned of the solution that a search has
@@ -91,14 +101,3 @@ pub record Planned (q : Asked) (plan : Plan) : Type 0 where
   pub formed : shown.Showable rowLevels plan
   pub high : plan .high ≡ heightGiven (questionHeight q) q (decide q)
   pub trees : (v : ℕ) → v < q .free → shown.planTrees (q .free) plan v ≡ shownAt (questionHeight q) q v .tree
-
--- a question that was read stands for q, with some clauses
-pub record StandsFor (x : Question) (q : Asked) : Type 0 where
-  pub clauses : List ℕ
-  pub stands : Stands (x .kind) (storedOf x clauses) q
-
--- and a solution is shown with its decision
-pub record ShownWith (x : Question) (r : Decision) (q : Asked) : Type 0 where
-  pub standing : StandsFor x q
-  pub decided : Decided (storedOf x (standing .clauses)) q r
-  pub shown : T (shows (decide q))

@@ -167,9 +167,9 @@ module _ {kind : ℕ} (x : Stored) (q : Question) (St : Stands kind x q) where
 
   -- ---- of a decision
 
-  module _ (f : Finding) (pairs : List ℕ) (D : Decided x q (record { finding = f; pairs = pairs })) (t : T (shows (decide q))) where
+  module _ (f : Finding) (pairs : List ℕ) (D : Decided x q (record { finding = f; pairs = pairs })) (t : T (shows (answerOf f))) where
     solved : SolvedAs Q H (searchOf f) true pairs
-    solved = solved-at (D .solved t)
+    solved = solved-at (D .solved (rw (D .answer) at t))
 
     can : T (solvableIn Q H (searchOf f))
     can = of-true (sym (solved .found-is))
@@ -182,4 +182,4 @@ module _ {kind : ℕ} (x : Stored) (q : Question) (St : Stands kind x q) where
         → Made (q .free) H R (c (roomOf (searchOf f) (firstCount q))) plan)
         → Planned q plan
     decided-planned plan made =
-        planned-as f (rw (D .answer) t) (sym (D .answer)) can plan (made (testsOf Q H (searchOf f)) (tests-count (searchOf f)) (solved .pairs-are tt))
+        planned-as f t (sym (D .answer)) can plan (made (testsOf Q H (searchOf f)) (tests-count (searchOf f)) (solved .pairs-are tt))
