@@ -2,11 +2,10 @@
 use mathlib.Core.Path.{_≡_, refl, sym, ap, _∙_}
 use mathlib.Core.Bool.{Bool, true, false, cond}
 use mathlib.Core.List.{List}
-use Prim.Native.Nat.{ℕ, _+_, _-_, _*_, _^_, _≤_, _<_}
+use Prim.Native.Nat.{ℕ, _+_, _-_, _^_, _≤_, _<_}
 use native.Mathlib.Nat.{le-trans}
 use native.Mathlib.Omega.{arith}
 use lib.Dec.{T, ltb}
-use lib.ListN.{getD}
 use lib.Pow.{pow-mono}
 use lib.Arith.{digits-lt}
 use borrow.Author.Tests.{ltb-true}
@@ -21,7 +20,7 @@ use Rattle.leaves.specs.Heights.{c}
 use Rattle.leaves.specs.HeightLaws.{c-enough}
 use Rattle.leaves.specs.Choices.{Row, least}
 use Rattle.leaves.specs.RowNumbers.{value}
-use Rattle.leaves.specs.Problem.{Problem, solvable, candidate}
+use Rattle.leaves.specs.Problem.{Problem, candidate}
 use Rattle.leaves.specs.ProblemLaws.{plain-passes, block-passes, rank-lt}
 use Rattle.leaves.specs.Numbers.{numbered, plainChoice}
 use Rattle.leaves.specs.NumberLaws.{plain-is}

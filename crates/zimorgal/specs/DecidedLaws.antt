@@ -1,5 +1,5 @@
 -- From a decision to what asking gives and shows. Assumes nothing.
-use mathlib.Core.Path.{_≡_, sym, ap, _∙_}
+use mathlib.Core.Path.{_≡_, ap, _∙_}
 use mathlib.Core.Bool.{true, false}
 use mathlib.Core.List.{List, _++_}
 use Prim.Native.Nat.{ℕ, _≤_}
@@ -8,7 +8,6 @@ use Rattle.systems.specs.Questions.{Question, questionHeight}
 use Rattle.systems.specs.Answers.{shows, heightGiven}
 use Rattle.plans.specs.declared.Plan.{Plan}
 use Rattle.questions.specs.Stored.{Stored}
-use Rattle.questions.specs.declared.Question.{Question as Read}
 use Rattle.questions.specs.declared.Reading.{Reading}
 use Rattle.questions.specs.Callers.{Taken}
 use Rattle.rows.specs.Rows.{rowLevels, answerBytes, zeros}
@@ -17,7 +16,7 @@ use Rattle.show.specs.Plans as shown
 use Rattle.decide.specs.declared.Decision.{Decision}
 use Rattle.decide.specs.Decision.{answerOf, Decided, StandsFor, DecidedFor, Planned}
 use Rattle.zimorgal.specs.declared.Outcome.{Outcome}
-use Rattle.zimorgal.specs.Asking.{workBytes, answered, answerOutcome, outcomeOf, shownTrees, answerAfter, workAfter}
+use Rattle.zimorgal.specs.Asking.{workBytes, answered, answerOutcome, outcomeOf, answerAfter, workAfter}
 use Rattle.zimorgal.specs.AskingLaws.{asked-answered}
 use Rattle.zimorgal.specs.Given.{Given}
 use Rattle.zimorgal.specs.AskedRight.{given}

@@ -1,5 +1,4 @@
 -- `zimorgal::ask` meets its contract: each refusal by what was read and the lengths, an answer by what was decided. Assumes nothing.
-use native.Mathlib.Omega.{arith}
 use lib.ListN.{length}
 use Rattle.questions.specs.Callers.{answer-taken, answer-refused}
 use Rattle.zimorgal.specs.AskingLaws.{asked-refused, asked-11, asked-12}
