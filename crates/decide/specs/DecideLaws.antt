@@ -51,7 +51,7 @@ module _ {k : ℕ} (x : Stored) (q : Question) (St : Stands k x q) where
   -- ---- the searches are the question's
 
   -- whether a search is solvable
-  pub search-is : (search : Search) (P : Problem (Row Bool (q .free))) → Same x q St H P (testsOf (withVariables x (q .free) (q .own)) H search)
+  search-is : (search : Search) (P : Problem (Row Bool (q .free))) → Same x q St H P (testsOf (withVariables x (q .free) (q .own)) H search)
       → solvableIn x H search ≡ solvable (least (q .free)) H P
   search-is search P same = ap₂ (λ n m. solvableIn (withVariables x n m) H search) (St .free) (St .own) ∙ sym (same .solvable-is)
 

@@ -82,7 +82,7 @@ module _ {kind : ℕ} (x : Stored) (q : Question) (St : Stands kind x q) where
   abbrev Q : Stored
   Q = withVariables x (q .free) (q .own)
 
-  pub solved-at : {search : Search} {found : Bool} {pairs : List ℕ} → SolvedAs x H search found pairs → SolvedAs Q H search found pairs
+  solved-at : {search : Search} {found : Bool} {pairs : List ℕ} → SolvedAs x H search found pairs → SolvedAs Q H search found pairs
   solved-at D = rw (← (St .free), ← (St .own)) D
 
   module _ (search : Search) where
@@ -100,7 +100,7 @@ module _ {kind : ℕ} (x : Stored) (q : Question) (St : Stands kind x q) where
 
     module _ (can : T (solvableIn Q H search)) where
       -- pairs of it can be planned
-      pub fitting : {pairs : List ℕ} → PairsOf (q .free) H R (extraOf search) pairs → Fitting (outlineOf q search) pairs
+      fitting : {pairs : List ℕ} → PairsOf (q .free) H R (extraOf search) pairs → Fitting (outlineOf q search) pairs
       fitting P = record {
         variables = omega (arith, St .variables, St .free);
         low = question-low x q St;
