@@ -7,14 +7,12 @@ use questions::Question;
 ghost use mathlib.Core.Path.{_≡_};
 ghost use Prim.Native.Nat.{ℕ, _^_, _<_, _≤_, max};
 ghost use lib.Dec.{T};
-ghost use lib.ListN.{length, getD, take, replicate};
+ghost use lib.ListN.{length, getD, take};
 ghost use Rattle.shares.specs.Constant.{constantLevels};
-ghost use Rattle.systems.specs.Questions.{satisfiability, entailment, Question as Asked, WellFormed, tallestConstant, questionHeight};
+ghost use Rattle.systems.specs.Questions.{Question as Asked, tallestConstant, questionHeight};
 ghost use Rattle.systems.specs.Answers.{shows, heightGiven};
-ghost use Rattle.questions.specs.Stored.{storedOf, Stands};
-ghost use Rattle.beside.specs.Beside.{Readable};
 ghost use Rattle.pass.specs.Tests.{extraOf, roomOf};
-ghost use Rattle.decide.specs.Decision.{Standing, sizesOf, answerOf, searchOf, Decided, DecidedAs, StandsFor, DecidedFor, outlineOf, Planned};
+ghost use Rattle.decide.specs.Decision.{sizesOf, answerOf, searchOf, StandsFor, DecidedFor, outlineOf, Planned};
 
 // What deciding finds. Of a question of satisfiability: a solution; none. Of an entailment: the first system has no solution; every
 // solution extends; some solution cannot meet the second's positive clauses; some solution cannot have this disequation of the second
@@ -80,73 +78,6 @@ fn sizes_of(question: Question) -> Sizes
         defined: question.defined,
         height,
     }
-}
-
-// ---- deciding
-
-// A decision with which no solution is shown.
-fn nothing_shown(finding: Finding) -> Decision
-    ensures { λ r. ⌜ r ≡ record { finding = finding; pairs = replicate 64 0 } ⌝ }
-{
-    Decision {
-        finding,
-        pairs: [0u32; 64],
-    }
-}
-
-// Decides satisfiability.
-fn decide_satisfiability(clauses: &[u8; 768], sizes: Sizes, constants: &[u64; 32]) -> Decision
-    requires { ⌜ Readable (now clauses) (sizes .counts) (sizes .free) (sizes .own) × (sizes .defined ≤ 32) × (sizes .height ≤ 5) ⌝ }
-    ensures { λ r. ⌜ DecidedAs satisfiability sizes (now (clauses .entry)) (now (constants .entry)) r ⌝ }
-{
-    let mut pairs = [0u32; 64];
-    if search::solve(clauses, sizes, constants, Search::First, &mut pairs) {
-        return Decision {
-            finding: Finding::Satisfied,
-            pairs,
-        };
-    }
-    nothing_shown(Finding::Unsatisfied)
-}
-
-// Decides an entailment: one pass says everything but which pairs a solution has that misses a disequation.
-fn decide_entailment(clauses: &[u8; 768], sizes: Sizes, constants: &[u64; 32]) -> Decision
-    requires { ⌜ Readable (now clauses) (sizes .counts) (sizes .free) (sizes .own) × (sizes .defined ≤ 32) × (sizes .height ≤ 5) ⌝ }
-    ensures { λ r. ⌜ DecidedAs entailment sizes (now (clauses .entry)) (now (constants .entry)) r ⌝ }
-{
-    let mut pairs = [0u32; 64];
-    let survey = search::survey_leaves(clauses, sizes, constants, &mut pairs);
-    if !survey.solvable {
-        return nothing_shown(Finding::Vacuous);
-    }
-    if survey.unmet {
-        return Decision {
-            finding: Finding::Unmet,
-            pairs,
-        };
-    }
-    let j = survey.missed;
-    if j < sizes.counts[3] {
-        let mut missed = [0u32; 64];
-        search::solve(clauses, sizes, constants, Search::Missed(j), &mut missed);
-        return Decision {
-            finding: Finding::Missed(j),
-            pairs: missed,
-        };
-    }
-    nothing_shown(Finding::Entailed)
-}
-
-// Decides a question that was read, whose clauses are lent.
-pub fn decide(question: Question, clauses: &[u8; 768]) -> Decision
-    requires { ⌜ Standing question (now clauses) ⌝ }
-    ensures { λ r. ⌜ ((q : Asked) → Stands (question .kind) (storedOf question (now (clauses .entry))) q → WellFormed q → Decided (storedOf question (now (clauses .entry))) q r) ⌝ }
-{
-    let sizes = sizes_of(question);
-    if question.kind == 0 {
-        return decide_satisfiability(clauses, sizes, &question.constants);
-    }
-    decide_entailment(clauses, sizes, &question.constants)
 }
 
 // ---- the solution that is shown
