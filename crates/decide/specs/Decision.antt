@@ -1,18 +1,27 @@
--- What deciding hands over: the model's answer, and a plan of the question's fixed solution. Assumes nothing.
+-- What deciding hands over: the model's answer, and the pairs of the question's fixed solution, with its plan. Assumes nothing.
 use mathlib.Core.Path.{_≡_}
-use mathlib.Core.Bool.{not}
+use mathlib.Core.Bool.{true, not}
 use mathlib.Core.List.{List}
-use Prim.Native.Nat.{ℕ, _-_, _<_}
+use Prim.Native.Nat.{ℕ, _<_}
 use lib.Dec.{T}
-use Rattle.systems.specs.Questions.{Question as Asked, WellFormed, questionHeight}
+use lib.ListN.{take, replicate}
+use Rattle.shares.specs.Constant.{constantLevels}
+use Rattle.leaves.specs.Heights.{c}
+use Rattle.systems.specs.Questions.{Kind, Question as Asked, WellFormed, tallestConstant, questionHeight, firstCount}
 use Rattle.systems.specs.Answers.{Answer, satisfied, unsatisfied, vacuous, entailed, unmet, missed, shows, heightGiven}
 use Rattle.systems.specs.Decide.{decide, shownAt}
-use Rattle.questions.specs.Stored.{storedOf, Stands}
+use Rattle.questions.specs.Stored.{Stored, storedOf, Stands}
 use Rattle.questions.specs.declared.Question.{Question}
+use Rattle.beside.specs.declared.Sizes.{Sizes}
 use Rattle.plans.specs.declared.Plan.{Plan}
+use Rattle.plans.specs.declared.Outline.{Outline}
 use Rattle.plans.specs.Shown as shown
-use Rattle.plans.specs.Plan.{noPlan}
 use Rattle.rows.specs.Rows.{rowLevels}
+use Rattle.pass.specs.Pass.{storedBy}
+use Rattle.pass.specs.Tests.{extraOf, roomOf}
+use Rattle.pass.specs.declared.Search.{Search}
+use Rattle.pass.specs.declared.Search.the-variants.{First, Unmet, Missed}
+use Rattle.search.specs.Found.{SolvedAs}
 use Rattle.decide.specs.declared.Finding.{Finding}
 use Rattle.decide.specs.declared.Finding.the-variants.{Satisfied, Unsatisfied, Vacuous, Entailed, Unmet, Missed}
 use Rattle.decide.specs.declared.Decision.{Decision}
@@ -20,6 +29,18 @@ use Rattle.decide.specs.declared.Decision.{Decision}
 -- a question that was read and its clauses' bytes stand for some well-formed question of the model
 abbrev pub Standing : Question → List ℕ → Type 0
 Standing x clauses = (q : Asked) × Stands (x .kind) (storedOf x clauses) q × WellFormed q
+
+-- the numbers of a question that was read, with its height
+abbrev pub sizesOf : Question → Sizes
+sizesOf x = record {
+  free = x .free;
+  own = x .own;
+  counts = x .counts;
+  defined = x .defined;
+  height = tallestConstant constantLevels (take (x .defined) (x .constants));
+}
+
+-- ---- findings
 
 -- the answer that each finding is
 abbrev pub answerOf : Finding → Answer
@@ -30,14 +51,53 @@ answerOf Entailed = entailed
 answerOf Unmet = unmet
 answerOf (Missed j) = missed j
 
+-- the search whose solution is shown with it (with those that show none: nothing that a claim rests on)
+abbrev pub searchOf : Finding → Search
+searchOf Satisfied = First
+searchOf Unsatisfied = First
+searchOf Vacuous = First
+searchOf Entailed = First
+searchOf Unmet = Unmet
+searchOf (Missed j) = Missed j
+
+-- ---- the decision of a question
+
+-- what is stored as x stands for q: the answer is q's; where a solution is shown its search is solved, by these pairs; where none is, all are 0
+pub record Decided (x : Stored) (q : Asked) (r : Decision) : Type 0 where
+  pub answer : answerOf (r .finding) ≡ decide q
+  pub solved : T (shows (decide q)) → SolvedAs x (questionHeight q) (searchOf (r .finding)) true (r .pairs)
+  pub no-pairs : T (not (shows (decide q))) → r .pairs ≡ replicate 64 0
+
+-- the same of every question of a kind that numbers, clauses' bytes and constants stand for
+abbrev pub DecidedAs : Kind → Sizes → List ℕ → List ℕ → Decision → Type 0
+DecidedAs kind sizes clauses constants r =
+    (k : ℕ) (q : Asked) → Stands k (storedBy sizes clauses constants) q → q .kind ≡ kind → sizes .height ≡ questionHeight q
+    → Decided (storedBy sizes clauses constants) q r
+
+-- a question that was read stands for q, with some clauses
+pub record StandsFor (x : Question) (q : Asked) : Type 0 where
+  pub clauses : List ℕ
+  pub stands : Stands (x .kind) (storedOf x clauses) q
+
+-- and this is its decision
+pub record DecidedFor (x : Question) (r : Decision) (q : Asked) : Type 0 where
+  pub standing : StandsFor x q
+  pub decided : Decided (storedOf x (standing .clauses)) q r
+
+-- ---- its plan
+
+-- what is to be planned of the solution that a search has
+abbrev pub outlineOf : Asked → Search → Outline
+outlineOf q search = record {
+  free = q .free;
+  height = questionHeight q;
+  splits = c (roomOf search (firstCount q));
+  extra = extraOf search;
+  count = firstCount q;
+}
+
 -- a plan of the solution that is shown: its trees are the solution's, and its height is the one given
 pub record Planned (q : Asked) (plan : Plan) : Type 0 where
   pub formed : shown.Showable rowLevels plan
   pub high : plan .high ≡ heightGiven (questionHeight q) q (decide q)
   pub trees : (v : ℕ) → v < q .free → shown.planTrees (q .free) plan v ≡ shownAt (questionHeight q) q v .tree
-
--- the decision of a question
-pub record Decided (q : Asked) (r : Decision) : Type 0 where
-  pub answer : answerOf (r .finding) ≡ decide q
-  pub plan : T (shows (decide q)) → Planned q (r .plan)
-  pub no-plan : T (not (shows (decide q))) → r .plan ≡ noPlan

@@ -1,5 +1,7 @@
 pub mod Decision
 pub mod DecideLaws
+pub mod OutlineLaws
+pub mod PlannedLaws
 pub mod QuestionHeightLaws
 pub mod StoredLaws
 pub mod StandsLaws

@@ -1,27 +1,28 @@
 -- What stands for a question can be read, and has the question's height. Assumes nothing.
-use mathlib.Core.Path.{_≡_, sym, ap}
+use mathlib.Core.Path.{_≡_, refl, sym, ap, ap₂}
+use mathlib.Core.Bool.{Bool, true, false, cond, Bool·beq}
 use mathlib.Core.List.{List}
-use Prim.Native.Nat.{ℕ, _+_, _*_, _/_, _%_, _≤_, _<_}
+use Prim.Native.Nat.{ℕ, _+_, _-_, _*_, _/_, _%_, _≤_, _<_}
 use native.Mathlib.Nat.{mod-lt}
 use native.Mathlib.Decide.{ℕ-discrete}
 use native.Mathlib.Omega.{arith}
+use lib.Dec.{T, ltb, eqb, ltb→lt}
 use lib.ListN.{getD, take}
-use Rattle.shares.specs.Below.{firstBelow}
+use borrow.Author.Tests.{ltb-false}
+use Rattle.shares.specs.Test.{and-left, and-right}
+use Rattle.shares.specs.Tree.{joins}
 use Rattle.shares.specs.Constant.{constantLevels}
 use Rattle.systems.specs.Questions.{Question, questionHeight, tallestConstant}
 use Rattle.systems.specs.Heights.{tallest-low}
-use Rattle.words.specs.Clause.{Clauses}
-use Rattle.questions.specs.Stored.{sectionStart, Stored, countOf, Stands}
+use Rattle.words.specs.Clause.{testValue, clauseTest, Clauses}
+use Rattle.questions.specs.Format.{names, allNamed}
+use Rattle.questions.specs.Stored.{sectionStart, Stored, countOf, StoredClause, Stands}
 use Rattle.questions.specs.SectionLaws.{section-room, variables-le}
 use Rattle.questions.specs.Callers.{bytes-small}
 use Rattle.questions.specs.declared.Section.{Section}
 use Rattle.questions.specs.declared.Section.the-variants.{FirstPositive, FirstDisequation, SecondPositive, SecondDisequation}
-use Rattle.plans.specs.Tests.{Readable}
-use Rattle.plans.specs.Entries.{SolvedAs}
-use Rattle.plans.specs.declared.Search.{Search}
-use Rattle.plans.specs.declared.Solved.{Solved}
-use Rattle.missed.specs.Missed.{missedIn}
-use Rattle.decide.specs.StandsLaws.{withVariables}
+use Rattle.questions.specs.declared.Test.the-variants.{Join, Equality}
+use Rattle.beside.specs.Beside.{ReadsFree, Readable}
 
 -- one of four bytes
 four : (l : List ℕ) (p r : ℕ) → r < 4 → getD l p 0 < 64 → getD l (p + 1) 0 < 64 → getD l (p + 2) 0 < 64 → getD l (p + 3) 0 < 64 → getD l (p + r) 0 < 64
@@ -32,6 +33,34 @@ four l p r m b₀ b₁ b₂ b₃ = pick (ℕ-discrete r 0) (ℕ-discrete r 1) (�
     pick (no _) (yes e) _ = rw e b₁
     pick (no _) (no _) (yes e) = rw e b₂
     pick (no u) (no v) (no w) = let e : r ≡ 3 = omega arith in rw e b₃
+
+-- ---- a clause reads the terms that it names, and no others
+
+module _ (n k : ℕ) (x y : ℕ → Bool) (low : (t : ℕ) → t < n → x t ≡ y t) (high : (t : ℕ) → 32 ≤ t → x t ≡ y t) where
+  -- one that names one of n variables or a constant
+  named-same : (t : ℕ) → T (names n k t) → x t ≡ y t
+  unfolding names
+  named-same t = go (ltb t 32) refl
+    where
+      go : (v : Bool) → ltb t 32 ≡ v → T (cond v (ltb t n) (ltb (t - 32) k)) → x t ≡ y t
+      go true e d = low t (ltb→lt t n d)
+      go false e d = high t (ltb-false t 32 e)
+
+  -- the third only of a join
+  test-same : (v : Bool) (a b c : ℕ) → T (allNamed n k (cond v Join Equality) a b c)
+      → cond v (joins (x a) (x b) (x c)) (Bool·beq (x a) (x b)) ≡ cond v (joins (y a) (y b) (y c)) (Bool·beq (y a) (y b))
+  test-same true a b c t =
+      let u = and-right (names n k a) _ t in
+      rw (named-same a (and-left (names n k a) _ t), named-same b (and-left (names n k b) _ u), named-same c (and-right (names n k b) _ u))
+  test-same false a b c t =
+      let u = and-right (names n k a) _ t in
+      ap₂ Bool·beq (named-same a (and-left (names n k a) _ t)) (named-same b (and-left (names n k b) _ u))
+
+reads-free : (l : List ℕ) (n k at : ℕ) → StoredClause n k (getD l at 0) (getD l (at + 1) 0) (getD l (at + 2) 0) (getD l (at + 3) 0) → ReadsFree l n at
+unfolding clauseTest testValue
+reads-free l n k at C x y low high = test-same n k x y low high (eqb (getD l at 0) 0) _ _ _ (C .named)
+
+-- ---- what stands for a question
 
 module _ {kind : ℕ} (x : Stored) (q : Question) (St : Stands kind x q) where
   section-clauses : (σ : Section) → Clauses (x .clauses) (sectionStart σ) (countOf (x .counts) σ)
@@ -51,25 +80,15 @@ module _ {kind : ℕ} (x : Stored) (q : Question) (St : Stands kind x q) where
     first-disequation = section-clauses FirstDisequation;
     second-positive = section-clauses SecondPositive;
     second-disequation = section-clauses SecondDisequation;
+    positive-free = λ k l. reads-free (x .clauses) (x .free) (x .defined) (0 + 4 * k) (St .clauses FirstPositive k l);
+    disequation-free = λ k l. reads-free (x .clauses) (x .free) (x .defined) (256 + 4 * k) (St .clauses FirstDisequation k l);
     few = (St .counted FirstDisequation, St .counted SecondDisequation);
   }
 
-  -- ---- the question's height
+  -- ---- its height
 
   pub height-is : tallestConstant constantLevels (take (x .defined) (x .constants)) ≡ questionHeight q
   height-is = ap (λ cs. tallestConstant (cs .levels) (cs .numbers)) (sym (St .constants))
 
   pub question-low : questionHeight q ≤ 5
   question-low = rw (← height-is) (tallest-low constantLevels (take (x .defined) (x .constants)))
-
-  -- ---- what was found of the parts is found of the question
-
-  pub solved-at : {h : ℕ} {search : Search} {r : Solved} → h ≡ questionHeight q
-      → SolvedAs x h search r
-      → SolvedAs (withVariables x (q .free) (q .own)) (questionHeight q) search r
-  solved-at e D = rw (← (St .free), ← (St .own), ← e) D
-
-  pub lowest-at : {h j : ℕ} → h ≡ questionHeight q
-      → j ≡ firstBelow (getD (x .counts) 3 0) (missedIn x h)
-      → j ≡ firstBelow (getD (x .counts) 3 0) (missedIn (withVariables x (q .free) (q .own)) (questionHeight q))
-  lowest-at e l = rw (← (St .free), ← (St .own), ← e) l

@@ -1,15 +1,20 @@
 // Deciding a question that was read: which searches have a solution, and the plan of the one to show.
+use beside::Sizes;
+use pass::Search;
+use plans::Outline;
 use plans::Plan;
-use plans::Search;
 use questions::Question;
 ghost use mathlib.Core.Path.{_≡_};
 ghost use Prim.Native.Nat.{ℕ, _^_, _<_, _≤_, max};
-ghost use lib.ListN.{length, getD, take};
+ghost use lib.Dec.{T};
+ghost use lib.ListN.{length, getD, take, replicate};
 ghost use Rattle.shares.specs.Constant.{constantLevels};
-ghost use Rattle.systems.specs.Questions.{Question as Asked, entailment, WellFormed, tallestConstant, questionHeight};
+ghost use Rattle.systems.specs.Questions.{satisfiability, entailment, Question as Asked, WellFormed, tallestConstant, questionHeight};
+ghost use Rattle.systems.specs.Answers.{shows, heightGiven};
 ghost use Rattle.questions.specs.Stored.{storedOf, Stands};
-ghost use Rattle.plans.specs.Tests.{Readable};
-ghost use Rattle.decide.specs.Decision.{Standing, Decided};
+ghost use Rattle.beside.specs.Beside.{Readable};
+ghost use Rattle.pass.specs.Tests.{extraOf, roomOf};
+ghost use Rattle.decide.specs.Decision.{Standing, sizesOf, answerOf, searchOf, Decided, DecidedAs, StandsFor, DecidedFor, outlineOf, Planned};
 
 // What deciding finds. Of a question of satisfiability: a solution; none. Of an entailment: the first system has no solution; every
 // solution extends; some solution cannot meet the second's positive clauses; some solution cannot have this disequation of the second
@@ -23,10 +28,10 @@ pub enum Finding {
     Missed(usize),
 }
 
-// What is found, and the plan of the solution to show; a plan of nothing where none is shown.
+// What is found, and the pairs of the solution to show: all 0 where none is shown.
 pub struct Decision {
     pub finding: Finding,
-    pub plan: Plan,
+    pub pairs: [u32; 64],
 }
 
 // The number of constant i.
@@ -62,94 +67,174 @@ fn question_height(constants: &[u64; 32], defined: usize) -> usize
     h
 }
 
-// Decides an entailment at its 2^h leaves.
-fn decide_entailment(question: Question, clauses: &[u8; 768], h: usize) -> Decision
-    requires { ⌜ Readable (now clauses) (question .counts) (question .free) (question .own) × (question .defined ≤ 32) × (h ≤ 5) ⌝ }
-    ensures { λ r. ⌜ ((q : Asked) → Stands (question .kind) (storedOf question (now (clauses .entry))) q → q .kind ≡ entailment → h ≡ questionHeight q → Decided q r) ⌝ }
+// The numbers of a question, with its height.
+fn sizes_of(question: Question) -> Sizes
+    requires { ⌜ ((q : Asked) × StandsFor question q) ⌝ }
+    ensures { λ r. ⌜ r ≡ sizesOf question ⌝ }
 {
-    let unmet = plans::solve(
-        clauses,
-        &question.counts,
-        &question.constants,
-        question.defined,
-        question.free,
-        question.own,
-        h,
-        Search::Unmet,
-    );
-    let plan = unmet.plan;
-    if !unmet.plainly {
+    let height = question_height(&question.constants, question.defined);
+    Sizes {
+        free: question.free,
+        own: question.own,
+        counts: question.counts,
+        defined: question.defined,
+        height,
+    }
+}
+
+// ---- deciding
+
+// A decision with which no solution is shown.
+fn nothing_shown(finding: Finding) -> Decision
+    ensures { λ r. ⌜ r ≡ record { finding = finding; pairs = replicate 64 0 } ⌝ }
+{
+    Decision {
+        finding,
+        pairs: [0u32; 64],
+    }
+}
+
+// Decides satisfiability.
+fn decide_satisfiability(clauses: &[u8; 768], sizes: Sizes, constants: &[u64; 32]) -> Decision
+    requires { ⌜ Readable (now clauses) (sizes .counts) (sizes .free) (sizes .own) × (sizes .defined ≤ 32) × (sizes .height ≤ 5) ⌝ }
+    ensures { λ r. ⌜ DecidedAs satisfiability sizes (now (clauses .entry)) (now (constants .entry)) r ⌝ }
+{
+    let mut pairs = [0u32; 64];
+    if search::solve(clauses, sizes, constants, Search::First, &mut pairs) {
         return Decision {
-            finding: Finding::Vacuous,
-            plan,
+            finding: Finding::Satisfied,
+            pairs,
         };
     }
-    if unmet.found {
+    nothing_shown(Finding::Unsatisfied)
+}
+
+// Decides an entailment: one pass says everything but which pairs a solution has that misses a disequation.
+fn decide_entailment(clauses: &[u8; 768], sizes: Sizes, constants: &[u64; 32]) -> Decision
+    requires { ⌜ Readable (now clauses) (sizes .counts) (sizes .free) (sizes .own) × (sizes .defined ≤ 32) × (sizes .height ≤ 5) ⌝ }
+    ensures { λ r. ⌜ DecidedAs entailment sizes (now (clauses .entry)) (now (constants .entry)) r ⌝ }
+{
+    let mut pairs = [0u32; 64];
+    let survey = search::survey_leaves(clauses, sizes, constants, &mut pairs);
+    if !survey.solvable {
+        return nothing_shown(Finding::Vacuous);
+    }
+    if survey.unmet {
         return Decision {
             finding: Finding::Unmet,
-            plan,
+            pairs,
         };
     }
-    let j = missed::lowest_missed(
-        clauses,
-        &question.counts,
-        &question.constants,
-        question.defined,
-        question.free,
-        question.own,
-        h,
-    );
-    if j < question.counts[3] {
-        let missed = plans::solve(
-            clauses,
-            &question.counts,
-            &question.constants,
-            question.defined,
-            question.free,
-            question.own,
-            h,
-            Search::Missed(j),
-        );
-        let shown = missed.plan;
+    let j = survey.missed;
+    if j < sizes.counts[3] {
+        let mut missed = [0u32; 64];
+        search::solve(clauses, sizes, constants, Search::Missed(j), &mut missed);
         return Decision {
             finding: Finding::Missed(j),
-            plan: shown,
+            pairs: missed,
         };
     }
-    Decision {
-        finding: Finding::Entailed,
-        plan,
-    }
+    nothing_shown(Finding::Entailed)
 }
 
 // Decides a question that was read, whose clauses are lent.
 pub fn decide(question: Question, clauses: &[u8; 768]) -> Decision
     requires { ⌜ Standing question (now clauses) ⌝ }
-    ensures { λ r. ⌜ ((q : Asked) → Stands (question .kind) (storedOf question (now (clauses .entry))) q → WellFormed q → Decided q r) ⌝ }
+    ensures { λ r. ⌜ ((q : Asked) → Stands (question .kind) (storedOf question (now (clauses .entry))) q → WellFormed q → Decided (storedOf question (now (clauses .entry))) q r) ⌝ }
 {
-    let h = question_height(&question.constants, question.defined);
+    let sizes = sizes_of(question);
     if question.kind == 0 {
-        let first = plans::solve(
-            clauses,
-            &question.counts,
-            &question.constants,
-            question.defined,
-            question.free,
-            question.own,
-            h,
-            Search::First,
-        );
-        let plan = first.plan;
-        if first.found {
-            return Decision {
-                finding: Finding::Satisfied,
-                plan,
-            };
-        }
-        return Decision {
-            finding: Finding::Unsatisfied,
-            plan,
-        };
+        return decide_satisfiability(clauses, sizes, &question.constants);
     }
-    decide_entailment(question, clauses, h)
+    decide_entailment(clauses, sizes, &question.constants)
+}
+
+// ---- the solution that is shown
+
+// Whether a solution is shown with a finding.
+pub fn is_shown(finding: Finding) -> bool
+    ensures { λ r. ⌜ r ≡ shows (answerOf finding) ⌝ }
+{
+    match finding {
+        Finding::Satisfied => true,
+        Finding::Unsatisfied => false,
+        Finding::Vacuous => false,
+        Finding::Entailed => false,
+        Finding::Unmet => true,
+        Finding::Missed(_) => true,
+    }
+}
+
+// The search whose solution is shown with a finding.
+fn search_of(finding: Finding) -> Search
+    ensures { λ r. ⌜ r ≡ searchOf finding ⌝ }
+{
+    match finding {
+        Finding::Satisfied => Search::First,
+        Finding::Unsatisfied => Search::First,
+        Finding::Vacuous => Search::First,
+        Finding::Entailed => Search::First,
+        Finding::Unmet => Search::Unmet,
+        Finding::Missed(j) => Search::Missed(j),
+    }
+}
+
+// How many disequations a search has before the first system's.
+fn extra_of(search: Search) -> usize
+    ensures { λ r. ⌜ r ≡ extraOf search ⌝ }
+{
+    match search {
+        Search::First => 0,
+        Search::Unmet => 1,
+        Search::Missed(_) => 0,
+    }
+}
+
+// How many sub-leaves a leaf has room for, where the first system has d disequations.
+fn room_of(search: Search, d: usize) -> usize
+    requires { ⌜ d ≤ 31 ⌝ }
+    ensures { λ r. ⌜ r ≡ roomOf search d ⌝ }
+{
+    match search {
+        Search::First => d,
+        Search::Unmet => d + 1,
+        Search::Missed(_) => d + 1,
+    }
+}
+
+// What is to be planned of the solution that a search has.
+fn outline(question: Question, search: Search) -> Outline
+    requires { ⌜ ((q : Asked) × StandsFor question q) ⌝ }
+    ensures { λ r. ⌜ ((q : Asked) → StandsFor question q → r ≡ outlineOf q search) ⌝ }
+{
+    Outline {
+        free: question.free,
+        height: question_height(&question.constants, question.defined),
+        splits: plans::splits(room_of(search, question.counts[1])),
+        extra: extra_of(search),
+        count: question.counts[1],
+    }
+}
+
+// The height given with a finding: that of the solution that is shown, 0 if none is.
+pub fn height_given(question: Question, finding: Finding) -> usize
+    requires { ⌜ ((q : Asked) × StandsFor question q) ⌝ }
+    ensures { λ r. ⌜ ((q : Asked) → StandsFor question q → r ≡ heightGiven (questionHeight q) q (answerOf finding)) ⌝ }
+{
+    if !is_shown(finding) {
+        return 0;
+    }
+    let outline = outline(question, search_of(finding));
+    outline.height + outline.splits
+}
+
+// The plan of the solution that is shown with a decision.
+pub fn plan(question: Question, decision: Decision) -> Plan
+    requires { ⌜ ((q : Asked) × DecidedFor question decision q) ⌝ }
+    requires { ⌜ T (shows (answerOf (decision .finding))) ⌝ }
+    ensures { λ r. ⌜ ((q : Asked) → DecidedFor question decision q → Planned q r) ⌝ }
+{
+    let finding = decision.finding;
+    let pairs = decision.pairs;
+    plans::plan_of(&pairs, outline(question, search_of(finding)))
 }

@@ -1,11 +1,11 @@
 // Asking a question, and every call that other programs link.
 use decide::Decision;
 use decide::Finding;
+use questions::Question;
 use rows::ANSWER_BYTES;
 use shares::Joined;
 use text::Written;
 ghost use mathlib.Core.Path.{_≡_};
-ghost use mathlib.Core.Bool.{true, cond};
 ghost use mathlib.Core.List.{_++_};
 ghost use Prim.Native.Nat.{_≤_, _/_, _%_, _^_};
 ghost use lib.ListN.{length, take, drop};
@@ -13,12 +13,10 @@ ghost use Rattle.shares.specs.Tree.{height, join};
 ghost use Rattle.shares.specs.Constant.{constant};
 ghost use Rattle.shares.specs.Answer.{joinOf};
 ghost use Rattle.systems.specs.Questions as model;
-ghost use Rattle.systems.specs.Answers.{shows};
-ghost use Rattle.plans.specs.Shown.{Showable};
-ghost use Rattle.rows.specs.Rows.{rowLevels, rowCount, answerBytes, rowRange, rowPart, zeros};
-ghost use Rattle.show.specs.Plans.{shownAnswer};
+ghost use Rattle.systems.specs.Answers.{heightGiven};
+ghost use Rattle.rows.specs.Rows.{rowLevels, answerBytes, rowRange, rowPart, zeros};
 ghost use Rattle.text.specs.Texts.{textAnswer, textAfter};
-ghost use Rattle.decide.specs.Decision.{answerOf};
+ghost use Rattle.decide.specs.Decision.{answerOf, StandsFor, DecidedFor};
 ghost use Rattle.zimorgal.specs.Asking.{workBytes, answered, askedWith, refusalOutcome, answerOutcome, outcomeOf, answerAfter, workAfter};
 ghost use Rattle.zimorgal.specs.Packing.{packed, unpacked};
 ghost use Rattle.zimorgal.specs.PackingLaws.{InBytes};
@@ -84,53 +82,26 @@ fn outcome_of(finding: Finding, height: usize) -> Outcome
     }
 }
 
-// Whether a solution is shown.
-fn is_shown(finding: Finding) -> bool
-    ensures { λ r. ⌜ r ≡ shows (answerOf finding) ⌝ }
+// The result of a finding of a question that was read.
+fn found(question: Question, finding: Finding) -> Outcome
+    requires { ⌜ ((q : model.Question) × StandsFor question q) ⌝ }
+    ensures { λ r. ⌜ ((q : model.Question) → StandsFor question q → r ≡ answerOutcome (answerOf finding) (heightGiven (model.questionHeight q) q (answerOf finding))) ⌝ }
 {
-    match finding {
-        Finding::Satisfied => true,
-        Finding::Unsatisfied => false,
-        Finding::Vacuous => false,
-        Finding::Entailed => false,
-        Finding::Unmet => true,
-        Finding::Missed(_) => true,
-    }
-}
-
-// The height of the plan that is shown, 0 if none is.
-fn height_given(decision: Decision) -> usize
-    ensures { λ r. ⌜ r ≡ cond (shows (answerOf (decision .finding))) (decision .plan .high) 0 ⌝ }
-{
-    let finding = decision.finding;
-    let plan = decision.plan;
-    if is_shown(finding) {
-        return plan.high;
-    }
-    0
-}
-
-// The result of a decision.
-fn found(decision: Decision) -> Outcome
-    ensures { λ r. ⌜ r ≡ answerOutcome (answerOf (decision .finding)) (cond (shows (answerOf (decision .finding))) (decision .plan .high) 0) ⌝ }
-{
-    let finding = decision.finding;
-    let height = height_given(decision);
-    outcome_of(finding, height)
+    outcome_of(finding, decide::height_given(question, finding))
 }
 
 // ---- the lent bytes
 
-// Shows the solution of a decision of n free variables, where it has one to show.
-fn show_solution(answer: &mut [u8], n: usize, decision: Decision)
-    requires { ⌜ (answerBytes ≤ length (now answer)) × (n ≤ rowCount) ⌝ }
-    requires { ⌜ (shows (answerOf (decision .finding)) ≡ true → Showable rowLevels (decision .plan)) ⌝ }
-    ensures { λ _. ⌜ now (answer .exit) ≡ cond (shows (answerOf (decision .finding))) (shownAnswer n (decision .plan) (now (answer .entry))) (now (answer .entry)) ⌝ }
+// Shows the solution of a decision, where it has one to show.
+fn show_solution(answer: &mut [u8], question: Question, decision: Decision)
+    requires { ⌜ answerBytes ≤ length (now answer) ⌝ }
+    requires { ⌜ ((q : model.Question) × DecidedFor question decision q) ⌝ }
+    ensures { λ _. ⌜ ((q : model.Question) → DecidedFor question decision q → now (answer .exit) ≡ answerAfter (answered q) (now (answer .entry))) ⌝ }
 {
     let finding = decision.finding;
-    let plan = decision.plan;
-    if is_shown(finding) {
-        show::write_rows(answer, n, plan);
+    if decide::is_shown(finding) {
+        let plan = decide::plan(question, decision);
+        show::write_rows(answer, question.free, plan);
     }
 }
 
@@ -164,9 +135,10 @@ pub fn ask(question: &[u8], answer: &mut [u8], work: &mut [u8]) -> Outcome
     }
     let asked = reading.question;
     let decision = decide::decide(asked, &clauses);
-    show_solution(answer, asked.free, decision);
+    let finding = decision.finding;
+    show_solution(answer, asked, decision);
     clear_work(work);
-    found(decision)
+    found(asked, finding)
 }
 
 // The result as one number: each field is multiplied to its bytes.

@@ -1,47 +1,45 @@
--- `decide::decide` meets its contract: the kind of the question, and what the search finds. Assumes nothing.
-use mathlib.Core.Path.{_∙_}
+-- `decide::decide` meets its contract: the kind of the question says what is decided. Assumes nothing.
 use native.Mathlib.Omega.{arith}
-use borrow.Author.Needs.{needs}
-use Rattle.decide.specs.ReadableLaws.{readable, height-is, question-low, solved-at}
-use Rattle.decide.specs.DecideLaws.{decided-satisfied, decided-unsatisfied}
 use Rattle.questions.specs.Callers.{kind-satisfiability, kind-entailment}
+use Rattle.decide.specs.ReadableLaws.{readable, height-is, question-low}
 use Rattle.decide.proofs.decide.Statement.{statement}
 use Rattle.decide.proofs.decide.Tie as tie
 
-question-height-requires : tie.Need-question-height-requires
-question-height-requires c κs = search needs
+sizes-of-requires : tie.Need-sizes-of-requires
+sizes-of-requires c κs = let (q, St, _) = c .pre in (q, record { clauses = _; stands = St })
 
-solve-requires : tie.Need-solve-requires
-solve-requires c κs =
-    let h = c .before .before .before .before in
-    let (q, St, _) = h .before .before .before .pre in
-    (readable _ q St, (tt, St .constantCounted, omega (arith, question-low _ q St, h .question-height .ensures ∙ height-is _ q St)))
+decide-satisfiability-requires : tie.Need-decide-satisfiability-requires
+decide-satisfiability-requires c κs =
+    let sizes = c .before .before .before in
+    let (q, St, _) = sizes .before .pre in
+    rw (sizes .sizes-of .ensures) (readable _ q St, St .constantCounted, omega (arith, question-low _ q St, height-is _ q St))
 
 returns : tie.Need-returns
 returns c =
-    λ q St F. decided-satisfied _ q St (question-low _ q St) _ (solved-at _ q St (c .before .before .before .before .before .before .before .question-height .ensures ∙ height-is _ q St) (c .before .before .solve .ensures))
-    (kind-satisfiability _ q St (c .before .before .before .before .before .before .if1 .taken)) (c .if2 .taken)
-
-returns-2 : tie.Need-returns-2
-returns-2 c =
-    λ q St F. decided-unsatisfied _ q St (question-low _ q St) _ (solved-at _ q St (c .before .before .before .before .before .before .before .question-height .ensures ∙ height-is _ q St) (c .before .before .solve .ensures))
-    (kind-satisfiability _ q St (c .before .before .before .before .before .before .if1 .taken)) (c .if2 .left)
+    let tests = c .before .before .before in
+    λ q St F.
+    let D = rw (tests .before .sizes-of .ensures) at (c .decide-satisfiability .ensures) in
+    D _ q St (kind-satisfiability _ q St (tests .if1 .taken)) (height-is _ q St)
 
 decide-entailment-requires : tie.Need-decide-entailment-requires
 decide-entailment-requires c κs =
-    let (q, St, _) = c .before .before .before .before .pre in
-    (readable _ q St, St .constantCounted, omega (arith, question-low _ q St, c .before .question-height .ensures ∙ height-is _ q St))
+    let sizes = c .before .before .before in
+    let (q, St, _) = sizes .before .pre in
+    rw (sizes .sizes-of .ensures) (readable _ q St, St .constantCounted, omega (arith, question-low _ q St, height-is _ q St))
 
-returns-3 : tie.Need-returns-3
-returns-3 c = λ q St F. c .decide-entailment .ensures q St (kind-entailment _ q St (c .before .if1 .left)) (c .before .before .question-height .ensures ∙ height-is _ q St)
+returns-2 : tie.Need-returns-2
+returns-2 c =
+    let tests = c .before .before .before in
+    λ q St F.
+    let D = rw (tests .before .sizes-of .ensures) at (c .decide-entailment .ensures) in
+    D _ q St (kind-entailment _ q St (tests .if1 .left)) (height-is _ q St)
 
 pub decide-spec : {M : Type 1} → statement M
 decide-spec =
     tie.close
     (tie.spec
-    question-height-requires
-    solve-requires
+    sizes-of-requires
+    decide-satisfiability-requires
     returns
-    returns-2
     decide-entailment-requires
-    returns-3)
+    returns-2)

@@ -1,10 +1,9 @@
 -- `zimorgal::ask` meets its contract: each refusal by what was read and the lengths, an answer by what was decided. Assumes nothing.
-use native.Mathlib.Omega.{arith}
 use lib.ListN.{length}
 use Rattle.questions.specs.Callers.{answer-taken, answer-refused}
 use Rattle.zimorgal.specs.AskingLaws.{asked-refused, asked-11, asked-12}
 use Rattle.zimorgal.specs.AskedRight.{given-refused}
-use Rattle.zimorgal.specs.DecidedLaws.{plan-formed, given-answer}
+use Rattle.zimorgal.specs.DecidedLaws.{given-answer}
 use borrow.Author.Needs.{needs}
 use Rattle.zimorgal.proofs.ask.Statement.{statement}
 use Rattle.zimorgal.proofs.ask.Tie as tie
@@ -61,14 +60,18 @@ show-solution-requires c κs =
     let reading = test .before .before .before in
     let start = reading .before .before .before .before .before .args in
     let T = answer-taken (start .question .now) _ (reading .read .ensures .0) _ (reading .read .ensures .1 .1) (test .before .if1 .left) in
-    let D = c .before .decide .ensures (T .question) (T .stands) (T .formed) in
-    ((test .if2 .left, omega (arith, T .stands .variables)), plan-formed (T .question) _ D)
+    (test .if2 .left, (T .question, record { standing = record { clauses = _; stands = T .stands }; decided = c .before .decide .ensures (T .question) (T .stands) (T .formed) }))
 
 clear-work-requires : tie.Need-clear-work-requires
 clear-work-requires c κs = search needs
 
 found-requires : tie.Need-found-requires
-found-requires c κs = search needs
+found-requires c κs =
+    let test = c .before .before .before .before .before .before .before .before .before .before .before .before .before in
+    let reading = test .before .before in
+    let start = reading .before .before .before .before .before .args in
+    let T = answer-taken (start .question .now) _ (reading .read .ensures .0) _ (reading .read .ensures .1 .1) (test .if1 .left) in
+    (T .question, record { clauses = _; stands = T .stands })
 
 same-length : tie.Need-same-length
 same-length c = search needs
@@ -84,7 +87,8 @@ returns-4 c =
     let start = reading .before .before .before .before .before .args in
     let T = answer-taken (start .question .now) _ (reading .read .ensures .0) _ (reading .read .ensures .1 .1) (tests .before .before .if1 .left) in
     given-answer (start .question .now) (start .answer .now) (start .work .now) _ _ T (tests .before .if2 .left) (tests .if3 .left)
-    _ (shown .before .before .decide .ensures) _ (c .found .ensures) _ (shown .show-solution .ensures) _ (c .before .before .before .clear-work .ensures)
+    _ (record { standing = record { clauses = _; stands = T .stands }; decided = shown .before .before .decide .ensures (T .question) (T .stands) (T .formed) })
+    _ (c .found .ensures) _ (shown .show-solution .ensures) _ (c .before .before .before .clear-work .ensures)
 
 pub ask-spec : {M : Type 1} → statement M
 ask-spec =

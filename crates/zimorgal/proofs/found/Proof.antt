@@ -1,4 +1,4 @@
--- `zimorgal::found` gives the numbers of what was found, with the plan's height. Assumes nothing.
+-- `zimorgal::found` gives the numbers of what was found, with the height given. Assumes nothing.
 use borrow.Author.Needs.{needs}
 use Rattle.zimorgal.proofs.found.Statement.{statement}
 use Rattle.zimorgal.proofs.found.Tie as tie
@@ -10,7 +10,7 @@ outcome-of-requires : tie.Need-outcome-of-requires
 outcome-of-requires c κs = search needs
 
 returns : tie.Need-returns
-returns c = rw (← (c .before .height-given .ensures)) (c .outcome-of .ensures)
+returns c = λ q S. rw (← (c .before .height-given .ensures q S)) (c .outcome-of .ensures)
 
 pub found-spec : {M : Type 1} → statement M
 found-spec = tie.close (tie.spec height-given-requires outcome-of-requires returns)

@@ -1,0 +1,31 @@
+-- `decide::plan` meets its contract: the pairs are planned as the outline says. Assumes nothing.
+use mathlib.Core.Path.{ap, _∙_}
+use borrow.Author.Needs.{needs}
+use Rattle.decide.specs.PlannedLaws.{decided-fits, decided-planned}
+use Rattle.decide.specs.Decision.{outlineOf}
+use Rattle.decide.proofs.plan.Statement.{statement}
+use Rattle.decide.proofs.plan.Tie as tie
+
+search-of-requires : tie.Need-search-of-requires
+search-of-requires c κs = search needs
+
+outline-requires : tie.Need-outline-requires
+outline-requires c κs =
+    let (q, S) = c .before .before .before .pre .0 in
+    (q, S .standing)
+
+plan-of-requires : tie.Need-plan-of-requires
+plan-of-requires c κs =
+    let start = c .before .before .before .before in
+    let (q, S) = start .pre .0 in
+    rw (c .outline .ensures q (S .standing) ∙ ap (outlineOf q) (c .before .search-of .ensures))
+    (decided-fits _ q (S .standing .stands) _ _ (S .decided) (start .pre .1))
+
+returns : tie.Need-returns
+returns c =
+    λ q S.
+    let e = c .before .outline .ensures q (S .standing) ∙ ap (outlineOf q) (c .before .before .search-of .ensures) in
+    decided-planned _ q (S .standing .stands) _ _ (S .decided) (c .before .before .before .before .before .pre .1) _ (rw e at (c .plan-of .ensures))
+
+pub plan-spec : {M : Type 1} → statement M
+plan-spec = tie.close (tie.spec search-of-requires outline-requires plan-of-requires returns)

@@ -1,0 +1,13 @@
+-- `decide::sizes_of` meets its contract: the height is that of the tallest constant. Assumes nothing.
+use borrow.Author.Needs.{needs}
+use Rattle.decide.proofs.sizes_of.Statement.{statement}
+use Rattle.decide.proofs.sizes_of.Tie as tie
+
+question-height-requires : tie.Need-question-height-requires
+question-height-requires c κs = search needs
+
+returns : tie.Need-returns
+returns c = rw (c .before .question-height .ensures)
+
+pub sizes-of-spec : {M : Type 1} → statement M
+sizes-of-spec = tie.close (tie.spec question-height-requires returns)
