@@ -34,9 +34,9 @@ class Decider {
         const bool solved = solvable(std::nullopt);
         if (!question.entailment) return {solved, 0, 0};
         if (!solved) return {true, 1, 0};
-        const Target stuck = target(nullptr);
+        const Target unmet = target(nullptr);
         for (int leaf = 0; leaf < leaves; leaf++) {
-            if (some_choice(leaf, {}, stuck)) return {false, 2, 0};
+            if (some_choice(leaf, {}, unmet)) return {false, 2, 0};
         }
         for (size_t number = 0; number < question.second.disequations.size(); number++) {
             if (solvable(target(&question.second.disequations[number]))) return {false, 3, int(number)};
@@ -132,14 +132,14 @@ class Decider {
 
     // Every leaf has a choice, and each disequation of the first system has a leaf with a choice that meets
     // it.
-    bool solvable(const std::optional<Target> &avoided) {
+    bool solvable(const std::optional<Target> &target) {
         for (int leaf = 0; leaf < leaves; leaf++) {
-            if (!some_choice(leaf, {}, avoided)) return false;
+            if (!some_choice(leaf, {}, target)) return false;
         }
         for (int disequation : switches) {
             bool met = false;
             for (int leaf = 0; leaf < leaves && !met; leaf++) {
-                met = some_choice(leaf, {disequation}, avoided);
+                met = some_choice(leaf, {disequation}, target);
             }
             if (!met) return false;
         }
@@ -150,17 +150,17 @@ class Decider {
     // target is given, beside which no own values meet that. A solver without quantifiers proposes a choice;
     // own values that meet the target beside it are forbidden from then on, at all leaves, and it proposes
     // another.
-    bool some_choice(int leaf, Literals assumptions, const std::optional<Target> &avoided) {
+    bool some_choice(int leaf, Literals assumptions, const std::optional<Target> &target) {
         const Literals constants = at(leaf);
         assumptions.insert(assumptions.end(), constants.begin(), constants.end());
-        if (avoided) assumptions.push_back(avoided->in_first);
+        if (target) assumptions.push_back(target->in_first);
         while (first.solve(assumptions)) {
-            if (!avoided) return true;
+            if (!target) return true;
             if constexpr (Engine::quantifies) {
                 return true;
             } else {
-                if (!own_values_beside(constants, *avoided)) return true;
-                forbid_own_values(*avoided);
+                if (!own_values_beside(constants, *target)) return true;
+                forbid_own_values(*target);
             }
         }
         return false;

@@ -18,7 +18,7 @@ use Rattle.questions.specs.declared.Step.{Step}
 use Rattle.questions.specs.declared.Step.the-variants.{Take, Refused}
 use Rattle.questions.specs.declared.Reading.{Reading}
 use Rattle.questions.specs.Format.{Result, refused, accepted, readAt, fault, judged, taken, ended, go, stop, onward, turn, following, run, headFits, kindFrom, mostOf, inSection, opened, headOf, read}
-use Rattle.questions.specs.Stored.{kindNumber, clauseBytes, sectionStart, atomsOf, Stored, stored, storedOf, countOf, Stands, heldAs, readingOf, commandWritten, writtenOnward, writtenBy, clausesAfter}
+use Rattle.questions.specs.Stored.{kindNumber, clauseBytes, sectionStart, atomsOf, Stored, stored, storedOf, countOf, Stands, readingOf, writtenOnward, writtenBy, clausesAfter}
 use Rattle.questions.specs.Keeping.{keptConstants, constantCount, keptClauses, clauseCounts, judgedOf, refusalOf, isEnd, wrongOf}
 use Rattle.questions.specs.FormatLaws.{judged-take, size-some, Whole, read-whole, branch, Sound, Stay, Kept, turn-kept, head-fits, opened-sound, HeadRight, head-right}
 use Rattle.questions.specs.KeepingLaws.{Bytes, ProperStep, read-proper, judged-same, kept, ZerosPast, zeros-kept, written-same, stands-taken, held-as}

@@ -24,7 +24,7 @@ use Rattle.questions.specs.declared.Entry.the-variants.{Known, Unknown}
 use Rattle.questions.specs.declared.Command.{Command}
 use Rattle.questions.specs.declared.Head.{Head}
 use Rattle.questions.specs.declared.Step.{Step}
-use Rattle.questions.specs.declared.Question.{Question as Held}
+use Rattle.questions.specs.declared.Question.{Question as Struct}
 use Rattle.questions.specs.declared.Step.the-variants.{Take, Refused}
 use Rattle.questions.specs.Format.{mostConstants, constantBytes, entryOf, operands, commandOf, wholeAt, readAt, mostOf, inSection, names, variablesFor, allNamed, atomOf, isForeign, constantFault, fault, judged, withClause, withConstant, taken}
 use Rattle.questions.specs.Stored.{kindNumber, sectionNumber, testNumber, testOf, clauseBytes, sectionStart, storedAtom, atomsOf, Stored, stored, countOf, Counted, StoredClause, StoredAt, Stands, heldAs, clauseWritten, commandWritten}
@@ -457,6 +457,6 @@ module _ {kind : ℕ} (x : Stored) (q : Question) (d : Stands kind x q) where
       same (d .kind) (d .free) (d .own) constants (sym defined-count) counts
     where
       same : {k k′ f f′ o o′ n n′ : ℕ} {cs cs′ cl cl′ : List ℕ} → k ≡ k′ → f ≡ f′ → o ≡ o′ → cs ≡ cs′ → n ≡ n′ → cl ≡ cl′
-          → _≡_ {A = Held} (record { kind = k; free = f; own = o; constants = cs; defined = n; counts = cl })
+          → _≡_ {A = Struct} (record { kind = k; free = f; own = o; constants = cs; defined = n; counts = cl })
           (record { kind = k′; free = f′; own = o′; constants = cs′; defined = n′; counts = cl′ })
       same e f g h i j = rw (e, f, g, h, i, j)

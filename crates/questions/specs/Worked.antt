@@ -108,9 +108,9 @@ times zero s = []
 times (suc n) s = s ++ times n s
 
 -- no number where the string is accepted; else the refusal's number and place
-abbrev pub verdict : Result → List ℕ
-verdict (accepted q) = []
-verdict (refused n place) = n ∷ place ∷ []
+abbrev pub refusalIn : Result → List ℕ
+refusalIn (accepted q) = []
+refusalIn (refused n place) = n ∷ place ∷ []
 
 abbrev large : ℕ → ℕ → List ℕ
 large n m = 0x01 ∷ 0x01 ∷ n ∷ m ∷ []
@@ -154,7 +154,7 @@ limits =
 
 -- the two tables, as one claim: each refusal from 1 to 10, each order of two faults at one command, and each limit
 pub worked-right : (map (λ w. read (w .bytes)) table ≡ map (λ w. w .result) table)
-    × (map (λ s. verdict (read s)) limits
+    × (map (λ s. refusalIn (read s)) limits
     ≡ [] ∷ [] ∷ (5 ∷ 0 ∷ []) ∷ (5 ∷ 0 ∷ []) ∷ [] ∷ (6 ∷ 164 ∷ []) ∷ (4 ∷ 167 ∷ []) ∷ [] ∷ (7 ∷ 196 ∷ []) ∷ (7 ∷ 97 ∷ []) ∷ (7 ∷ 196 ∷ []) ∷ (7 ∷ 97 ∷ [])
     ∷ (2 ∷ 164 ∷ []) ∷ (2 ∷ 196 ∷ []) ∷ (7 ∷ 97 ∷ []) ∷ [] ∷ [])
 unfolding table limits times read headOf headFits opened run turn ended taken fault names termOf readAt wholeAt commandOf entryOf number positives disequations

@@ -1,11 +1,9 @@
 -- The mask of a block of a byte. Assumes nothing.
 use mathlib.Core.Path.{_≡_, ap, _∙_}
 use mathlib.Core.Bool.{Bool, _&&_, Bool·beq}
-use Prim.Native.Nat.{ℕ, _-_, _*_, _/_, _%_, _^_, _≤_, _<_, suc-le-suc}
-use native.Mathlib.Nat.{one-mul}
-use native.Mathlib.Omega.{arith}
-use lib.Dec.{T, eqb, ltb, leb, ltb→lt, leb→le, lit<}
-use lib.Pow.{shl-exact, pow-mono, pow-pos}
+use Prim.Native.Nat.{ℕ, _-_, _*_, _/_, _^_, _≤_, _<_, suc-le-suc}
+use lib.Dec.{T, eqb, ltb, leb, ltb→lt, leb→le}
+use lib.Pow.{pow-pos}
 use Rattle.shares.specs.Test.{and-left, and-right, beq-iff}
 use Rattle.shares.specs.Below.{everyBelow}
 use Rattle.shares.specs.BelowLaws.{every-at}

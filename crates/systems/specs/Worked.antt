@@ -25,7 +25,7 @@ Never q (k ∷ l) = (¬ Solution (exactly k) q) × Never q l
 -- an example is right: its question is well formed, its answer is the right one and the only one, and its heights are as it says
 pub record Right (x : Example) : Type 0 where
   pub formed : WellFormed (x .question)
-  pub answered : (a : Answer) → Answers anyHeight (x .question) a ↔ (x .answer ≡ a)
+  pub right-answer : (a : Answer) → Answers anyHeight (x .question) a ↔ (x .answer ≡ a)
   pub given : heightGiven (questionHeight (x .question)) (x .question) (x .answer) ≡ x .height
   pub never : Never (x .question) (x .never)
 

@@ -96,7 +96,7 @@ right-of x (e, g, f, n) =
     let F = formed-of (x .question) (of-true f) in
     record {
       formed = F;
-      answered = λ a. (λ m. sym e ∙ exact (x .question) F a .0 m, λ s. exact (x .question) F a .1 (e ∙ s));
+      right-answer = λ a. (λ m. sym e ∙ exact (x .question) F a .0 m, λ s. exact (x .question) F a .1 (e ∙ s));
       given = g;
       never = nevers-of (x .question) F (x .never) (of-true n);
     }

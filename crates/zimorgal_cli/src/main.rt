@@ -14,7 +14,7 @@ ghost use lib.ListN.{getD};
 ghost use Rattle.rows.specs.Rows.{rowLevels};
 ghost use Rattle.text.specs.Texts.{textAfter};
 
-// The byte at a place, 0 past the end.
+// The byte at an offset, 0 past the end.
 fn byte_at(bytes: &[u8], i: usize) -> u8
     ensures { λ r. ⌜ r ≡ getD (now (bytes .entry)) i 0 ⌝ }
 {
