@@ -168,7 +168,8 @@ ZIMORGAL_INLINE unsigned zimorgal_height_given(uint64_t result) { return result 
 ZIMORGAL_INLINE int zimorgal_reason(uint64_t result) { return result >> 40 & 0xFF; } /* enum zimorgal_reason */
 ZIMORGAL_INLINE unsigned zimorgal_disequation(uint64_t result) { return result >> 48 & 0xFF; }
 
-/* Whether a solution is shown. The result does not say it alone: the kind is byte 1 of the question. */
+/* Whether a solution is shown. The result does not say it alone: the kind is byte 1 of the question. A refused question
+   shows nothing and may have no such byte, so look at the verdict first. */
 ZIMORGAL_INLINE int zimorgal_shows(uint64_t result, int kind) {
     return zimorgal_verdict(result) == (kind == ZIMORGAL_ENTAILMENT ? ZIMORGAL_NO : ZIMORGAL_YES);
 }

@@ -45,6 +45,7 @@
 #include <atomic>
 #include <cstddef>
 #include <cstdint>
+#include <initializer_list>
 #include <iosfwd>
 #include <string>
 #include <string_view>
@@ -347,6 +348,8 @@ class Question {
     }
     template <class Other, detail::IfNoShare<Other> = 0>
     NewConstant constant(const Other&) = delete;  // a constant is made of Leaves (std::uint32_t) or of a tree text
+    template <class Other = std::nullptr_t, detail::IfNoShare<Other> = 0>
+    NewConstant constant(std::initializer_list<Other>) = delete;  // in braces too
 
     // A clause of the first or of the second system. Own variables in the first do not compile.
     [[nodiscard]] Error first(const FirstClause& clause) noexcept { return add(System::first, clause); }
@@ -474,6 +477,8 @@ class Draft {
     [[nodiscard]] Constant constant(std::string_view text) noexcept { return make(text); }
     template <class Other, detail::IfNoShare<Other> = 0>
     Constant constant(const Other&) = delete;  // a constant is made of Leaves (std::uint32_t) or of a tree text
+    template <class Other = std::nullptr_t, detail::IfNoShare<Other> = 0>
+    Constant constant(std::initializer_list<Other>) = delete;  // in braces too
 
     // The first error, which step had it, from 0, and the place of a fault in a tree text.
     Error error() const noexcept { return error_; }

@@ -5,8 +5,9 @@
 //
 //     programs [FOLDER [PROGRAMS]]
 //
-// FOLDER: some questions are left there, as text (N.shares) and as bytes (N.bytes); - for none. PROGRAMS: how many, 120
-// if not said; the same ones in every run. The last line is 'N passed, M failed'.
+// FOLDER: some questions are left there, as text (N.shares) and as bytes (N.bytes), and many as bytes with their meaning
+// (meanings, for tests/cpp/decoder); - for none. PROGRAMS: how many, 120 if not said; the same ones in every run. The
+// last line is 'N passed, M failed'.
 #include <cstdio>
 #include <cstdlib>
 #include <fstream>
@@ -215,8 +216,8 @@ class Program {
     explicit Program(std::uint64_t seed)
         : random_(seed), starts_(seed % 2 == 0 ? 12 : 1000), wild_(seed % 3 == 0 ? 1000000 : 12) {}
 
-    // Some steps on three questions. Gives how many were wrong.
-    long run(int steps, long (&seen)[14]);
+    // Some steps on three questions. Gives how many were wrong. Some questions are left in a stream, if there is one.
+    long run(int steps, long (&seen)[14], std::ostream* meanings);
 
     const Question& question() const { return questions_[0]; }
 
@@ -312,6 +313,41 @@ Result form(const std::vector<std::uint8_t>& bytes) {
     return decode(zimorgal_ask(bytes.data(), bytes.size(), nullptr, 0, nullptr, 0));
 }
 
+// ---------------------------------------------------------------- Questions with their meaning
+
+std::string digits(std::uint32_t number, int width) {
+    std::string text;
+    for (int i = width - 1; i >= 0; --i) text += "0123456789ABCDEF"[number >> 4 * i & 0xF];
+    return text;
+}
+
+std::string hexadecimal(const std::vector<std::uint8_t>& bytes) {
+    std::string text;
+    for (const std::uint8_t byte : bytes) text += digits(byte, 2);
+    return text;
+}
+
+// What a model means, on a line: kind and variables, the constants, the clauses of the first system, those of the second.
+std::string meaning(const reader::Question& question) {
+    std::string text = question.entailment ? "entails " : "satisfiable ";
+    text += std::to_string(question.free) + " " + std::to_string(question.own) + " |";
+    for (const std::uint32_t leaves : question.constants) text += " " + digits(leaves, 8);
+    for (const bool second : {false, true})
+        for (const reader::Clause& clause : question.clauses) {
+            if (clause.second != second) continue;
+            text += second ? " | 2" : " | 1";
+            text += clause.negated ? "-" : "+";
+            for (const reader::Term& term : clause.terms) {
+                const bool share = term.sort == reader::Sort::share;
+                text += term.sort == reader::Sort::free ? " f" : share ? " " : " o";
+                text += share ? digits(term.value, 8) : std::to_string(term.value);
+            }
+        }
+    return text;
+}
+
+// ---------------------------------------------------------------- Running
+
 bool Program::take_step(std::size_t which, long (&seen)[14]) {
     const Step next = step(models_[which]);
     const std::vector<std::uint8_t> before = copy(questions_[which]);
@@ -377,7 +413,7 @@ bool Program::reads_damage_alike(std::size_t which) {
     return static_cast<unsigned>(result.refusal) == reading.refusal && result.place == reading.place;
 }
 
-long Program::run(int steps, long (&seen)[14]) {
+long Program::run(int steps, long (&seen)[14], std::ostream* meanings) {
     long wrong = 0;
     Workspace workspace;
     for (int i = 0; i < steps; ++i) {
@@ -396,6 +432,8 @@ long Program::run(int steps, long (&seen)[14]) {
         if (right && random_.one_in(20)) right = reads_damage_alike(which);
         if (right && random_.one_in(50)) right = ask(questions_[which], workspace).result.verdict != Verdict::refused;
         wrong += !right;
+        if (meanings != nullptr && i % 25 == 24)
+            *meanings << hexadecimal(copy(questions_[which])) << '\t' << meaning(models_[which].question) << '\n';
     }
     return wrong;
 }
@@ -438,14 +476,17 @@ int main(int count, char** words) {
     const std::string folder = count > 1 && std::string(words[1]) != "-" ? words[1] : "";
     const int enough = 120, programs = count > 2 ? std::atoi(words[2]) : enough;
     long seen[14] = {};
+    std::ofstream meanings;
+    if (!folder.empty()) meanings.open(folder + "/meanings");
     for (int seed = 0; seed < programs; ++seed) {
         Program program(static_cast<std::uint64_t>(seed));
-        const long wrong = program.run(500, seen);
+        const long wrong = program.run(500, seen, folder.empty() ? nullptr : &meanings);
         check(wrong == 0, "program " + std::to_string(seed) + ": " + std::to_string(wrong) + " steps are wrong");
         if (!folder.empty() && seed < 10) leave(folder, seed, program.question());
     }
     for (unsigned i = 0; i < 14 && programs >= enough; ++i)
         check(seen[i] > 20, "the programs meet: " + std::string(describe(static_cast<Error>(i))));
+    check(meanings.flush().good(), "the meanings are written");
     const Question longest = longest_text();
     if (!folder.empty()) leave(folder, 10, longest);
     if (!folder.empty()) leave(folder, 11, Question());

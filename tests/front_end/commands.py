@@ -5,6 +5,7 @@ import os
 import subprocess
 import time
 from pathlib import Path
+from threading import Timer
 
 import cases
 from harness import FOLDER, TOP, check, command, file, process, surroundings, wrong_program
@@ -111,12 +112,15 @@ def write_when_read(path, content, reader):
 
 
 def test_streamed():
-    """An answer is written before the next question is read."""
+    """An answer is written before the next question is read. A command that keeps it back would wait for ever, and is ended."""
     waits = Path(FOLDER.name, "waits")
     os.mkfifo(waits)
     for option in ("--json", "--plain"):
         asking = subprocess.Popen([str(TOP / "ask"), option, str(file("yes.shares", YES)), str(waits)], stdout=subprocess.PIPE, env=surroundings({}))
+        late = Timer(60, asking.kill)
+        late.start()
         first = asking.stdout.readline()  # the first answer's line comes though the second question is not there yet
+        late.cancel()
         write_when_read(waits, NO, asking)
         rest = asking.stdout.read()
         asking.stdout.close()

@@ -1,6 +1,7 @@
 // The C calls, for libFuzzer. The first byte of an input chooses the lengths of the lent buffers and what they hold, and
-// whether the rest is the question as it is, or numbers that one is made of which is accepted. What is checked of each call is in docs/SPEC.md: 4 and 7 for asking, 6 for rows and texts. That a
-// shown counterexample does not extend is left to tests/brute. tests/fuzz/run builds and runs it.
+// whether the rest is the question as it is, or numbers that one is made of which is accepted. What is checked of each
+// call is in docs/SPEC.md: 4 and 7 for asking, 6 for rows and texts. That a shown counterexample does not extend is left
+// to tests/brute. tests/fuzz/run builds and runs it.
 #include <algorithm>
 #include <bitset>
 #include <cstdio>
