@@ -50,9 +50,9 @@
 #define ZIMORGAL_ROW_BYTES 128      /* a shown share, unfolded to height 10: 1,024 leaves */
 #define ZIMORGAL_TEXT_BYTES 3070    /* no tree text is longer */
 
-/* Enough stack for a thread that calls. Asking touches some 43 KB; the rest is for the thread, for a signal's frame
+/* Enough stack for a thread that calls. Asking touches under 8 KB; the rest is for the thread, for a signal's frame
    and for buffers of the caller. tests/cpp/stack.cpp measures it, and runs threads with exactly this much. */
-#define ZIMORGAL_STACK_BYTES 65536
+#define ZIMORGAL_STACK_BYTES 32768
 
 /* What the compiler is told of a part that is lent: its pointer and its length, as numbers of arguments. */
 #if defined(__has_attribute)

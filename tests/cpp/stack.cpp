@@ -1,6 +1,6 @@
 // The stack that a call takes: threads with exactly ZIMORGAL_STACK_BYTES of it, and nothing that can be read or written
-// below, ask the dearest shapes of questions. What they touched is measured too, and must leave a quarter. By itself,
-// from the repository's top folder:
+// below, ask the dearest shapes of questions. What they touched is measured too: it must leave a quarter, and a call must
+// take under 8 KB, that is, a thread that asks more than one that does nothing. By itself, from the repository's top folder:
 //
 //     g++ -std=c++17 -O1 -pthread -Iinclude tests/cpp/stack.cpp target/staticlib/libzimorgal.a -o stack && ./stack
 //
@@ -102,6 +102,9 @@ struct Run {
     std::size_t length;
 };
 
+// Does nothing, so that what a thread takes for itself is known.
+void* do_nothing(void*) { return nullptr; }
+
 // Asks with buffers elsewhere.
 void* ask_only(void* argument) {
     Run& run = *static_cast<Run*>(argument);
@@ -150,6 +153,7 @@ int main() {
         if (!holds) std::printf("FAILED %s: %s\n", what, name);
     };
     static Run run;
+    const std::size_t own = touched(ZIMORGAL_STACK_BYTES, do_nothing, run);
     std::size_t most = 0, most_with_all = 0;
     const std::vector<Shape> all = shapes();
     check(made, "the questions", "every step is taken");
@@ -163,8 +167,10 @@ int main() {
         most = std::max(most, used);
         most_with_all = std::max(most_with_all, used_with_all);
     }
-    std::printf("a thread that asks touches %zu bytes of its stack, with question, buffers and text on it %zu\n", most,
-                most_with_all);
+    std::printf("a thread that does nothing touches %zu bytes of its stack, one that asks %zu, so a call %zu;\n", own, most,
+                most - own);
+    std::printf("with question, buffers and text on it %zu\n", most_with_all);
+    check(own > 0 && own < most && most - own < 8192, "a call", "under 8 KB");
     check(most > 1000 && most <= ZIMORGAL_STACK_BYTES / 4 * 3, "margin", "a quarter of the stack is left");
     std::printf("%d passed, %d failed\n", passed, failed);
     return failed == 0 ? 0 : 1;

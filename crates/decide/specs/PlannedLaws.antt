@@ -23,7 +23,7 @@ use Rattle.leaves.specs.RowNumbers.{value}
 use Rattle.leaves.specs.Problem.{Problem, candidate}
 use Rattle.leaves.specs.ProblemLaws.{plain-passes, block-passes, rank-lt}
 use Rattle.leaves.specs.Numbers.{numbered, plainChoice}
-use Rattle.leaves.specs.NumberLaws.{plain-is}
+use Rattle.plans.specs.NumberLaws.{plain-is}
 use Rattle.systems.specs.Clauses.{Assignment}
 use Rattle.systems.specs.Questions.{Kind, satisfiability, entailment, Question, questionHeight, firstCount, secondCount}
 use Rattle.systems.specs.Answers.{Answer, satisfied, unsatisfied, vacuous, entailed, unmet, missed, shows, heightGiven}

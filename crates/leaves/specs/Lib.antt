@@ -8,7 +8,6 @@ pub mod Problem
 pub mod LeafSolutions
 pub mod ProblemLaws
 pub mod Numbers
-pub mod NumberLaws
 pub mod SameLaws
 pub mod Second
 pub mod LeafExtensions

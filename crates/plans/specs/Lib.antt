@@ -1,3 +1,4 @@
+pub mod NumberLaws
 pub mod PairLaws
 pub mod Pairs
 pub mod Shown

@@ -15,7 +15,7 @@ use Rattle.shares.specs.Below.{one, countBelow}
 use Rattle.shares.specs.BelowLaws.{count-ext, count-le}
 use Rattle.leaves.specs.Problem.{Problem}
 use Rattle.leaves.specs.Numbers.{leafFor, rankOf, specialChoice}
-use Rattle.leaves.specs.NumberLaws.{rank-here}
+use Rattle.plans.specs.NumberLaws.{rank-here}
 use Rattle.words.specs.Choices.{wordCount}
 use Rattle.words.specs.Stores.{store-law}
 use Rattle.plans.specs.declared.Outline.{Outline}

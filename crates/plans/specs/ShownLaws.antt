@@ -21,7 +21,7 @@ use Rattle.plans.specs.declared.Plan.{Plan}
 use Rattle.plans.specs.Shown.{planChoiceAfter, planChoice}
 use Rattle.leaves.specs.Numbers.{numbered, leafFor, rankOf, plainChoice, specialChoice}
 use Rattle.leaves.specs.ChoiceLaws.{pick-number}
-use Rattle.leaves.specs.NumberLaws.{plain-is, special-is}
+use Rattle.plans.specs.NumberLaws.{plain-is, special-is}
 use Rattle.plans.specs.Pairs.{Made}
 
 module _ (n h : ℕ) (R : Problem ℕ) (k : ℕ) (plan : Plan) (M : Made n h R k plan) (room : R .count ≤ 2 ^ k) (s : ℕ) (s< : s < 2 ^ (h + k)) where

@@ -11,7 +11,7 @@ use Rattle.shares.specs.BelowLaws.{some-found, first-passes, every-ext, some-ex
 use Rattle.leaves.specs.Choices.{least}
 use Rattle.leaves.specs.Problem.{Problem, plainAt, specialAt, solvable, blockFor}
 use Rattle.leaves.specs.Numbers.{numbered, leafFor, plainChoice, specialChoice}
-use Rattle.leaves.specs.NumberLaws.{plain-is, special-is}
+use Rattle.plans.specs.NumberLaws.{plain-is, special-is}
 use Rattle.words.specs.Choices.{Periodic}
 use Rattle.beside.specs.GatherLaws.{periodic-some, periodic-first}
 use Rattle.plans.specs.Pairs.{leafWidth, slotOf, PairsOf}
