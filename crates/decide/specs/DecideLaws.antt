@@ -20,9 +20,9 @@ use Rattle.systems.specs.Decide.{canSolve, someUnmet, lowestMissed, decideKind,
 use Rattle.questions.specs.Stored.{Stored, Stands}
 use Rattle.questions.specs.KeepingLaws.{section-count}
 use Rattle.questions.specs.declared.Section.the-variants.{SecondDisequation}
-use Rattle.pass.specs.Tests.{testsOf}
-use Rattle.pass.specs.declared.Search.{Search}
-use Rattle.pass.specs.declared.Search.the-variants.{First, Unmet, Missed}
+use Rattle.steps.specs.Tests.{testsOf}
+use Rattle.steps.specs.declared.Search.{Search}
+use Rattle.steps.specs.declared.Search.the-variants.{First, Unmet, Missed}
 use Rattle.search.specs.Found.{solvableIn, lowestMissedIn, SolvedAs, SurveyedAs}
 use Rattle.search.specs.declared.Survey.{Survey}
 use Rattle.decide.specs.StandsLaws.{withVariables, Same, same-first, same-unmet, same-missed}

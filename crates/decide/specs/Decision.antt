@@ -17,10 +17,10 @@ use Rattle.plans.specs.declared.Plan.{Plan}
 use Rattle.plans.specs.declared.Outline.{Outline}
 use Rattle.plans.specs.Shown as shown
 use Rattle.rows.specs.Rows.{rowLevels}
-use Rattle.pass.specs.Pass.{storedBy}
-use Rattle.pass.specs.Tests.{extraOf, roomOf}
-use Rattle.pass.specs.declared.Search.{Search}
-use Rattle.pass.specs.declared.Search.the-variants.{First, Unmet, Missed}
+use Rattle.steps.specs.Steps.{storedBy}
+use Rattle.steps.specs.Tests.{extraOf, roomOf}
+use Rattle.steps.specs.declared.Search.{Search}
+use Rattle.steps.specs.declared.Search.the-variants.{First, Unmet, Missed}
 use Rattle.search.specs.Found.{SolvedAs}
 use Rattle.decide.specs.declared.Finding.{Finding}
 use Rattle.decide.specs.declared.Finding.the-variants.{Satisfied, Unsatisfied, Vacuous, Entailed, Unmet, Missed}

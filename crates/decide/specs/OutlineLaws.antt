@@ -12,9 +12,9 @@ use Rattle.systems.specs.Answers.{shows, heightGiven}
 use Rattle.questions.specs.Stored.{Stored, Stands}
 use Rattle.questions.specs.KeepingLaws.{section-count}
 use Rattle.questions.specs.declared.Section.the-variants.{FirstDisequation}
-use Rattle.pass.specs.Tests.{extraOf, roomOf}
-use Rattle.pass.specs.declared.Search.{Search}
-use Rattle.pass.specs.declared.Search.the-variants.{First, Unmet, Missed}
+use Rattle.steps.specs.Tests.{extraOf, roomOf}
+use Rattle.steps.specs.declared.Search.{Search}
+use Rattle.steps.specs.declared.Search.the-variants.{First, Unmet, Missed}
 use Rattle.decide.specs.ReadableLaws.{height-is}
 use Rattle.decide.specs.Decision.{answerOf, searchOf, outlineOf}
 use Rattle.decide.specs.declared.Finding.{Finding}

@@ -37,9 +37,9 @@ use Rattle.plans.specs.Shown as shown
 use Rattle.plans.specs.ShownLaws.{plan-shows}
 use Rattle.plans.specs.Pairs.{Fitting, PairsOf, Made}
 use Rattle.rows.specs.Rows.{rowLevels}
-use Rattle.pass.specs.Tests.{extraOf, roomOf, testsOf}
-use Rattle.pass.specs.declared.Search.{Search}
-use Rattle.pass.specs.declared.Search.the-variants.{First, Unmet, Missed}
+use Rattle.steps.specs.Tests.{extraOf, roomOf, testsOf}
+use Rattle.steps.specs.declared.Search.{Search}
+use Rattle.steps.specs.declared.Search.the-variants.{First, Unmet, Missed}
 use Rattle.search.specs.Found.{solvableIn, SolvedAs}
 use Rattle.decide.specs.StoredLaws.{row-digit}
 use Rattle.decide.specs.StandsLaws.{withVariables, Same, same-first, same-unmet, same-missed}

@@ -27,9 +27,9 @@ use Rattle.questions.specs.declared.Section.{Section}
 use Rattle.questions.specs.declared.Section.the-variants.{FirstPositive, FirstDisequation, SecondPositive, SecondDisequation}
 use Rattle.leaves.specs.Numbers.{numbered}
 use Rattle.leaves.specs.SameLaws.{solvable-same, candidate-same}
-use Rattle.pass.specs.Tests.{leafValues, firstMeets, firstDiffers, secondMeets, secondDiffers, specialIn, testsOf}
+use Rattle.steps.specs.Tests.{leafValues, firstMeets, firstDiffers, secondMeets, secondDiffers, specialIn, testsOf}
 use Rattle.decide.specs.StoredLaws.{row-digit, atom-same, section-same}
-use Rattle.pass.specs.declared.Search.the-variants.{First, Unmet, Missed}
+use Rattle.steps.specs.declared.Search.the-variants.{First, Unmet, Missed}
 
 -- what is stored, with n free and m own variables
 abbrev pub withVariables : Stored → ℕ → ℕ → Stored

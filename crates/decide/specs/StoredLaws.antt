@@ -28,7 +28,7 @@ use Rattle.words.specs.TermLaws.{value-constant}
 use Rattle.questions.specs.Format.{termOf, names, allNamed, atomOf}
 use Rattle.questions.specs.declared.Test.the-variants.{Join, Equality}
 use Rattle.questions.specs.Stored.{storedAtom, atomsOf, Stored, StoredClause}
-use Rattle.pass.specs.Tests.{leafValues}
+use Rattle.steps.specs.Tests.{leafValues}
 
 -- ---- a row's values are the digits of its number
 

@@ -1,9 +1,9 @@
 // Deciding a question that was read: which searches have a solution, and the plan of the one to show.
 use beside::Sizes;
-use pass::Search;
 use plans::Outline;
 use plans::Plan;
 use questions::Question;
+use steps::Search;
 ghost use mathlib.Core.Path.{_≡_};
 ghost use Prim.Native.Nat.{ℕ, _^_, _<_, _≤_, max};
 ghost use lib.Dec.{T};
@@ -13,7 +13,7 @@ ghost use Rattle.systems.specs.Questions.{satisfiability, entailment, Question 
 ghost use Rattle.systems.specs.Answers.{shows, heightGiven};
 ghost use Rattle.questions.specs.Stored.{storedOf, Stands};
 ghost use Rattle.beside.specs.Beside.{Readable};
-ghost use Rattle.pass.specs.Tests.{extraOf, roomOf};
+ghost use Rattle.steps.specs.Tests.{extraOf, roomOf};
 ghost use Rattle.decide.specs.Decision.{Standing, sizesOf, answerOf, searchOf, Decided, DecidedAs, StandsFor, DecidedFor, outlineOf, Planned};
 
 // What deciding finds. Of a question of satisfiability: a solution; none. Of an entailment: the first system has no solution; every

@@ -25,11 +25,12 @@ use Rattle.entries.specs.BitLaws.{bit-added}
 use Rattle.entries.specs.Entry.{Entry}
 use Rattle.entries.specs.EntryLaws.{entry-same, some-stays}
 use Rattle.plans.specs.Pairs.{leafWidth}
-use Rattle.pass.specs.Tests.{leafValues, allowedIn}
-use Rattle.pass.specs.Pass.{onPairs, meetsHere, unmetHere, Amid, OthersKept, missedBelow, After, Copied, Visited}
-use Rattle.pass.specs.declared.Search.{Search}
-use Rattle.pass.specs.declared.Search.the-variants.{Unmet, Missed}
-use Rattle.pass.specs.declared.Seen.{Seen}
+use Rattle.steps.specs.Tests.{leafValues, allowedIn}
+use Rattle.steps.specs.Steps.{onPairs, meetsHere, unmetHere, Amid, OthersKept}
+use Rattle.pass.specs.Pass.{missedBelow, After, Copied, Visited}
+use Rattle.steps.specs.declared.Search.{Search}
+use Rattle.steps.specs.declared.Search.the-variants.{Unmet, Missed}
+use Rattle.steps.specs.declared.Seen.{Seen}
 
 -- the words of b leaves and one more
 leaf-more : (b c : ℕ) → b * c + c ≡ (b + 1) * c

@@ -1,7 +1,3 @@
-pub mod Tests
 pub mod Pass
-pub mod TestLaws
-pub mod SecondLaws
-pub mod StepLaws
 pub mod LeafLaws
 pub mod PassLaws

@@ -22,11 +22,12 @@ use Rattle.words.specs.Choices.{wordCount, valuesAt}
 use Rattle.words.specs.Table.{Within}
 use Rattle.entries.specs.Entry.{Entry}
 use Rattle.plans.specs.Pairs.{leafWidth}
-use Rattle.pass.specs.Tests.{leafValues, allowedIn}
-use Rattle.pass.specs.Pass.{onPairs, meetsHere, unmetHere, missedBelow, After, Visited, Passed}
-use Rattle.pass.specs.declared.Search.{Search}
-use Rattle.pass.specs.declared.Search.the-variants.{Missed}
-use Rattle.pass.specs.declared.Seen.{Seen}
+use Rattle.steps.specs.Tests.{leafValues, allowedIn}
+use Rattle.steps.specs.Steps.{onPairs, meetsHere, unmetHere}
+use Rattle.pass.specs.Pass.{missedBelow, After, Visited, Passed}
+use Rattle.steps.specs.declared.Search.{Search}
+use Rattle.steps.specs.declared.Search.the-variants.{Missed}
+use Rattle.steps.specs.declared.Seen.{Seen}
 
 -- only the values of the constants that are defined are set
 pub values-within : (constants : List ℕ) (defined h b : ℕ) → Within defined (valuesAt constants defined h b)

@@ -12,9 +12,9 @@ use Rattle.leaves.specs.Problem.{solvable}
 use Rattle.leaves.specs.Numbers.{numbered}
 use Rattle.questions.specs.Stored.{Stored}
 use Rattle.plans.specs.Pairs.{PairsOf}
-use Rattle.pass.specs.Tests.{extraOf, testsOf}
-use Rattle.pass.specs.declared.Search.{Search}
-use Rattle.pass.specs.declared.Search.the-variants.{First, Unmet, Missed}
+use Rattle.steps.specs.Tests.{extraOf, testsOf}
+use Rattle.steps.specs.declared.Search.{Search}
+use Rattle.steps.specs.declared.Search.the-variants.{First, Unmet, Missed}
 use Rattle.search.specs.declared.Survey.{Survey}
 
 -- the problem of a search is solvable

@@ -17,11 +17,12 @@ use Rattle.questions.specs.Stored.{Stored}
 use Rattle.words.specs.Choices.{wordCount}
 use Rattle.entries.specs.Entry.{Entry}
 use Rattle.plans.specs.Pairs.{leafWidth, slotOf, PairsOf}
-use Rattle.pass.specs.Tests.{leafValues, secondMeets, specialIn, extraOf, allowedIn, testsOf}
-use Rattle.pass.specs.Pass.{onPairs, meetsHere, unmetHere, After, Passed}
-use Rattle.pass.specs.declared.Search.{Search}
-use Rattle.pass.specs.declared.Search.the-variants.{First, Unmet, Missed}
-use Rattle.pass.specs.declared.Seen.{Seen}
+use Rattle.steps.specs.Tests.{leafValues, secondMeets, specialIn, extraOf, allowedIn, testsOf}
+use Rattle.steps.specs.Steps.{onPairs, meetsHere, unmetHere}
+use Rattle.pass.specs.Pass.{After, Passed}
+use Rattle.steps.specs.declared.Search.{Search}
+use Rattle.steps.specs.declared.Search.the-variants.{First, Unmet, Missed}
+use Rattle.steps.specs.declared.Seen.{Seen}
 use Rattle.search.specs.Found.{solvableIn, lowestMissedIn, allFound, isMissed, SolvedAs, SurveyedAs}
 use Rattle.search.specs.WideLaws.{pairAt, solvable-wide, pairs-of}
 use Rattle.search.specs.TestLaws.{tests-periodic, special-stored}

@@ -11,9 +11,9 @@ use borrow.Author.Tests.{le-ltb}
 use Rattle.questions.specs.Stored.{Stored}
 use Rattle.words.specs.Choices.{clauseFails, someOwn, Periodic}
 use Rattle.words.specs.TermLaws.{pass-mod, fails-mod}
-use Rattle.pass.specs.Tests.{leafValues, firstMeets, secondMeets, specialIn, extraOf, allowedIn, testsOf}
-use Rattle.pass.specs.declared.Search.{Search}
-use Rattle.pass.specs.declared.Search.the-variants.{First, Unmet, Missed}
+use Rattle.steps.specs.Tests.{leafValues, firstMeets, secondMeets, specialIn, extraOf, allowedIn, testsOf}
+use Rattle.steps.specs.declared.Search.{Search}
+use Rattle.steps.specs.declared.Search.the-variants.{First, Unmet, Missed}
 use Rattle.search.specs.WideLaws.{PeriodicIn}
 
 -- ---- only the free variables' digits of a choice count

@@ -1,13 +1,13 @@
 // What a pass over the leaves finds: whether a search has a solution, and the table of its pairs.
 use beside::Sizes;
-use pass::Search;
+use steps::Search;
 ghost use mathlib.Core.Path.{_≡_};
 ghost use Prim.Native.Nat.{_+_, _^_, _<_, _≤_};
 ghost use Rattle.shares.specs.Below.{everyBelow, firstBelow};
 ghost use Rattle.shares.specs.Constant.{bit};
 ghost use Rattle.beside.specs.Beside.{Readable};
-ghost use Rattle.pass.specs.Tests.{Named, extraOf};
-ghost use Rattle.pass.specs.Pass.{storedBy};
+ghost use Rattle.steps.specs.Tests.{Named, extraOf};
+ghost use Rattle.steps.specs.Steps.{storedBy};
 ghost use Rattle.search.specs.Found.{allFound, isMissed, SolvedAs, SurveyedAs};
 
 // What a pass over an entailment finds: whether the first system has a solution; whether some solution cannot meet the second system's positive

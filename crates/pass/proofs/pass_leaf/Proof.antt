@@ -4,8 +4,8 @@ use mathlib.Core.Path.{_≡_, sym, ap, _∙_}
 use Prim.Native.Nat.{ℕ, _-_, _≤_}
 use native.Mathlib.Omega.{arith}
 use Rattle.pass.specs.LeafLaws.{amid-start, leaf-done, others-none, others-more}
-use Rattle.pass.specs.Pass.{storedBy, Placed, Amid, OthersKept}
-use Rattle.pass.specs.Tests.{leafValues}
+use Rattle.steps.specs.Steps.{storedBy, Placed, Amid, OthersKept}
+use Rattle.steps.specs.Tests.{leafValues}
 use Rattle.words.specs.Choices.{wordCount}
 use Rattle.words.specs.Table.{Terms}
 use Rattle.pass.proofs.pass_leaf.Statement.{statement}

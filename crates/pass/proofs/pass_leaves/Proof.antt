@@ -6,9 +6,10 @@ use lib.ListN.{length, getD, length-set, getD-replicate}
 use lib.Pow.{pow-mono, pow-pos}
 use borrow.Author.Needs.{needs}
 use borrow.Author.Tests.{not-true, not-false}
-use Rattle.pass.specs.Pass.{storedBy, PlacedWithin, After}
+use Rattle.steps.specs.Steps.{storedBy, PlacedWithin}
+use Rattle.pass.specs.Pass.{After}
 use Rattle.pass.specs.PassLaws.{values-within, keys-more, after-none, passed-all, passed-none}
-use Rattle.pass.specs.Tests.{leafValues}
+use Rattle.steps.specs.Tests.{leafValues}
 use Rattle.shares.specs.BitLaws.{bit-zero}
 use Rattle.shares.specs.Test.{of-true}
 use Rattle.words.specs.Shifts.{power-shift}

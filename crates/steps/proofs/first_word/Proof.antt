@@ -1,17 +1,17 @@
--- `pass::first_word` meets its contract: a table of terms for both systems serves the first. Assumes nothing.
+-- `steps::first_word` meets its contract: a table of terms for both systems serves the first. Assumes nothing.
 use mathlib.Core.Bool.{true, _&&_}
 use mathlib.Core.List.{[]}
 use mathlib.Core.Path.{_≡_, ap₂, _∙_}
 use Prim.Native.Nat.{ℕ, _+_, _*_, _<_}
 use borrow.Author.Needs.{needs}
-use Rattle.pass.specs.Pass.{storedBy}
-use Rattle.pass.specs.TestLaws.{first-periodic, word-free, first-bits}
-use Rattle.pass.specs.Tests.{firstMeets}
+use Rattle.steps.specs.Steps.{storedBy}
+use Rattle.steps.specs.TestLaws.{first-periodic, word-free, first-bits}
+use Rattle.steps.specs.Tests.{firstMeets}
 use Rattle.shares.specs.BitParts.{bit-ones}
 use Rattle.shares.specs.Constant.{bit}
 use Rattle.words.specs.Table.{Terms}
-use Rattle.pass.proofs.first_word.Statement.{statement}
-use Rattle.pass.proofs.first_word.Tie as tie
+use Rattle.steps.proofs.first_word.Statement.{statement}
+use Rattle.steps.proofs.first_word.Tie as tie
 
 element-copy-out-section-word : tie.Need-element-copy-out-section-word
 element-copy-out-section-word c = search needs

@@ -1,10 +1,10 @@
--- `pass::allowed_word` meets its contract, by cases on the search. Assumes nothing.
+-- `steps::allowed_word` meets its contract, by cases on the search. Assumes nothing.
 use mathlib.Core.Path.{refl}
 use mathlib.Core.Path.{sym, _∙_}
 use borrow.Author.Needs.{needs}
-use Rattle.pass.specs.TestLaws.{first-not-unmet, missed-not-unmet}
-use Rattle.pass.proofs.allowed_word.Statement.{statement}
-use Rattle.pass.proofs.allowed_word.Tie as tie
+use Rattle.steps.specs.TestLaws.{first-not-unmet, missed-not-unmet}
+use Rattle.steps.proofs.allowed_word.Statement.{statement}
+use Rattle.steps.proofs.allowed_word.Tie as tie
 
 first-word-requires : tie.Need-first-word-requires
 first-word-requires c κs = (c .before .pre .0, (c .before .pre .1 .0, c .before .pre .1 .2))

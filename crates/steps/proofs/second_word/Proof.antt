@@ -1,10 +1,10 @@
--- `pass::second_word` meets its contract. Assumes nothing.
+-- `steps::second_word` meets its contract. Assumes nothing.
 use mathlib.Core.Path.{refl, sym, _∙_}
 use native.Mathlib.Omega.{arith}
 use borrow.Author.Needs.{needs}
-use Rattle.pass.specs.SecondLaws.{second-before, second-alone, second-marked}
-use Rattle.pass.proofs.second_word.Statement.{statement}
-use Rattle.pass.proofs.second_word.Tie as tie
+use Rattle.steps.specs.SecondLaws.{second-before, second-alone, second-marked}
+use Rattle.steps.proofs.second_word.Statement.{statement}
+use Rattle.steps.proofs.second_word.Tie as tie
 
 digit-requires : tie.Need-digit-requires
 digit-requires c κs = search needs

@@ -8,8 +8,8 @@ use lib.ListN.{getD}
 use Rattle.leaves.specs.Problem.{Problem}
 use Rattle.questions.specs.Stored.{Stored}
 use Rattle.words.specs.Choices.{valuesAt, allPass, clauseFails, allPassBut, someOwn}
-use Rattle.pass.specs.declared.Search.{Search}
-use Rattle.pass.specs.declared.Search.the-variants.{First, Unmet, Missed}
+use Rattle.steps.specs.declared.Search.{Search}
+use Rattle.steps.specs.declared.Search.the-variants.{First, Unmet, Missed}
 
 -- the values of the constants at leaf b of 2 ^ h, constant i at bit i
 abbrev pub leafValues : Stored → ℕ → ℕ → ℕ

@@ -17,12 +17,12 @@ use Rattle.beside.specs.declared.Sizes.{Sizes}
 use Rattle.beside.specs.Beside.{Readable, Missing}
 use Rattle.entries.specs.Entry.{Kept, common, some, MarkedAll}
 use Rattle.entries.specs.EntryLaws.{entry-stays}
-use Rattle.pass.specs.Tests.{firstMeets, firstDiffers, secondMeets, secondDiffers, allowedIn}
-use Rattle.pass.specs.Pass.{storedBy, unmetHere, meetsHere, Second}
-use Rattle.pass.specs.TestLaws.{differs-bits}
-use Rattle.pass.specs.declared.Search.the-variants.{Missed}
-use Rattle.pass.specs.declared.Seen.{Seen}
-use Rattle.pass.specs.declared.Allowed.{Allowed}
+use Rattle.steps.specs.Tests.{firstMeets, firstDiffers, secondMeets, secondDiffers, allowedIn}
+use Rattle.steps.specs.Steps.{storedBy, unmetHere, meetsHere, Second}
+use Rattle.steps.specs.TestLaws.{differs-bits}
+use Rattle.steps.specs.declared.Search.the-variants.{Missed}
+use Rattle.steps.specs.declared.Seen.{Seen}
+use Rattle.steps.specs.declared.Allowed.{Allowed}
 
 -- an unmet choice was found before
 pub second-before : (sizes : Sizes) (clauses : List ℕ) (values : ℕ) (at : Allowed) (seen : Seen) (pairs rows : List ℕ) → bit (seen .met) 31 ≡ true

@@ -20,13 +20,13 @@ use Rattle.beside.specs.GatherLaws.{words-le}
 use Rattle.entries.specs.Entry.{Entry, WordOf, Kept, KeptAll}
 use Rattle.entries.specs.EntryLaws.{some-word, entry-none, entry-same}
 use Rattle.plans.specs.Pairs.{leafWidth}
-use Rattle.pass.specs.Tests.{leafValues, firstMeets, firstDiffers, secondMeets, secondDiffers, allowedIn}
-use Rattle.pass.specs.Pass.{storedBy, onPairs, meetsHere, unmetHere, Second, Amid, OthersKept}
-use Rattle.pass.specs.TestLaws.{differs-bits, first-not-unmet, missed-not-unmet}
-use Rattle.pass.specs.declared.Search.{Search}
-use Rattle.pass.specs.declared.Search.the-variants.{First, Unmet, Missed}
-use Rattle.pass.specs.declared.Seen.{Seen}
-use Rattle.pass.specs.declared.Allowed.{Allowed}
+use Rattle.steps.specs.Tests.{leafValues, firstMeets, firstDiffers, secondMeets, secondDiffers, allowedIn}
+use Rattle.steps.specs.Steps.{storedBy, onPairs, meetsHere, unmetHere, Second, Amid, OthersKept}
+use Rattle.steps.specs.TestLaws.{differs-bits, first-not-unmet, missed-not-unmet}
+use Rattle.steps.specs.declared.Search.{Search}
+use Rattle.steps.specs.declared.Search.the-variants.{First, Unmet, Missed}
+use Rattle.steps.specs.declared.Seen.{Seen}
+use Rattle.steps.specs.declared.Allowed.{Allowed}
 
 -- ---- pairs
 

@@ -1,19 +1,19 @@
--- `pass::pass_word` meets its contract. Assumes nothing.
+-- `steps::pass_word` meets its contract. Assumes nothing.
 use mathlib.Core.List.{List, []}
 use mathlib.Core.Path.{_≡_, refl, sym, ap, _∙_}
 use Prim.Native.Nat.{ℕ, _+_, _*_, _<_}
 use native.Mathlib.Omega.{arith}
 use borrow.Author.Needs.{needs}
 use Rattle.beside.specs.GatherLaws.{words-le}
-use Rattle.pass.specs.Pass.{storedBy}
-use Rattle.pass.specs.StepLaws.{allowed-same, turn-lt, amid-none, amid-kept, amid-second, others-kept, others-second}
-use Rattle.pass.specs.TestLaws.{first-not-unmet, missed-not-unmet}
-use Rattle.pass.specs.Tests.{leafValues, firstMeets, allowedIn}
+use Rattle.steps.specs.Steps.{storedBy}
+use Rattle.steps.specs.StepLaws.{allowed-same, turn-lt, amid-none, amid-kept, amid-second, others-kept, others-second}
+use Rattle.steps.specs.TestLaws.{first-not-unmet, missed-not-unmet}
+use Rattle.steps.specs.Tests.{leafValues, firstMeets, allowedIn}
 use Rattle.shares.specs.BitLaws.{bit-zero}
 use Rattle.shares.specs.Constant.{bit}
 use Rattle.words.specs.Choices.{wordCount}
-use Rattle.pass.proofs.pass_word.Statement.{statement}
-use Rattle.pass.proofs.pass_word.Tie as tie
+use Rattle.steps.proofs.pass_word.Statement.{statement}
+use Rattle.steps.proofs.pass_word.Tie as tie
 
 -- the number of a word is small
 few-turns : (s : tie.Start) → s .args .spot .leaf * wordCount (s .args .t3 .free) + s .args .spot .word < 2048

@@ -1,4 +1,4 @@
--- `pass::missed_word` meets its contract. Assumes nothing.
+-- `steps::missed_word` meets its contract. Assumes nothing.
 use mathlib.Core.Bool.{not, _&&_}
 use mathlib.Core.List.{[]}
 use mathlib.Core.Path.{refl}
@@ -8,14 +8,14 @@ use native.Mathlib.Omega.{arith}
 use borrow.Author.Needs.{needs}
 use borrow.Author.Tests.{eq-eqb}
 use Rattle.entries.specs.BitLaws.{power-bit}
-use Rattle.pass.specs.Pass.{storedBy}
-use Rattle.pass.specs.Tests.{secondDiffers}
+use Rattle.steps.specs.Steps.{storedBy}
+use Rattle.steps.specs.Tests.{secondDiffers}
 use Rattle.shares.specs.BitLaws.{bit-zero}
 use Rattle.shares.specs.Constant.{bit}
 use Rattle.shares.specs.Test.{of-true}
 use Rattle.words.specs.Shifts.{power-shift}
-use Rattle.pass.proofs.missed_word.Statement.{statement}
-use Rattle.pass.proofs.missed_word.Tie as tie
+use Rattle.steps.proofs.missed_word.Statement.{statement}
+use Rattle.steps.proofs.missed_word.Tie as tie
 
 returns : tie.Need-returns
 returns c values t bits =

@@ -18,10 +18,10 @@ use Rattle.words.specs.TermLaws.{position-free, value-variable, value-constant,
 use Rattle.beside.specs.declared.Sizes.{Sizes}
 use Rattle.beside.specs.Beside.{Readable, SameFree}
 use Rattle.beside.specs.GatherLaws.{same-free}
-use Rattle.pass.specs.Tests.{firstMeets, firstDiffers, secondMeets, secondDiffers, allowedIn}
-use Rattle.pass.specs.Pass.{storedBy}
-use Rattle.pass.specs.declared.Search.{Search}
-use Rattle.pass.specs.declared.Search.the-variants.{First, Unmet, Missed}
+use Rattle.steps.specs.Tests.{firstMeets, firstDiffers, secondMeets, secondDiffers, allowedIn}
+use Rattle.steps.specs.Steps.{storedBy}
+use Rattle.steps.specs.declared.Search.{Search}
+use Rattle.steps.specs.declared.Search.the-variants.{First, Unmet, Missed}
 
 -- ---- only the free variables' digits of a choice count
 

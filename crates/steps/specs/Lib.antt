@@ -1,0 +1,5 @@
+pub mod Tests
+pub mod Steps
+pub mod TestLaws
+pub mod SecondLaws
+pub mod StepLaws
