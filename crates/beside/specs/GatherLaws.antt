@@ -5,14 +5,14 @@ use mathlib.Core.Logic.{_↔_}
 use mathlib.Core.Bool.{Bool, not, _&&_, Bool·not-not}
 use Prim.Native.Nat.{ℕ, _+_, _-_, _*_, _/_, _%_, _^_, _≤_, _<_}
 use native.Mathlib.Nat.{mod-lt, mod-one, mod-eq-of-lt, add-comm, lt-of-lt-of-le}
-use native.Mathlib.Decide.{decLt, decLe}
+use native.Mathlib.Decide.{decLe}
 use native.Mathlib.Omega.{arith}
 use lib.Arith.{digits-lt, lt-one}
-use lib.Dec.{T, T-not, eqb, eqb→eq, eqb-refl}
+use lib.Dec.{T, eqb, eqb→eq, eqb-refl}
 use lib.Pow.{pow-pos, pow-mono, pow-add, shr-lt, low, mod-pow-add, mod-mod-pow}
 use Rattle.shares.specs.Test.{same-test, and-intro, and-left, and-right}
 use Rattle.shares.specs.Below.{someBelow, firstBelow}
-use Rattle.shares.specs.BelowLaws.{some-found, some-intro, first-longer, first-passes, first-some, first-not-some}
+use Rattle.shares.specs.BelowLaws.{some-found, some-intro, first-longer}
 use Rattle.shares.specs.Constant.{bit}
 use Rattle.words.specs.Choices.{wordCount, someOwn, Periodic}
 use Rattle.beside.specs.Beside.{Merged, Shared}
@@ -142,20 +142,3 @@ periodic-some n p h =
 
 pub periodic-first : (n : ℕ) (p : ℕ → Bool) → T (someBelow (2 ^ n) p) → firstBelow (64 * wordCount n) p ≡ firstBelow (2 ^ n) p
 periodic-first n p = first-longer (2 ^ n) (64 * wordCount n) p (choices-le n)
-
--- a search by words finds what a search of the numbers below 2 ^ n finds
-module _ (n : ℕ) (p : ℕ → Bool) (periodic : Periodic n p) where
-  pub words-found : firstBelow (64 * wordCount n) p < 64 * wordCount n → (firstBelow (2 ^ n) p < 2 ^ n) × (firstBelow (64 * wordCount n) p ≡ firstBelow (2 ^ n) p)
-  words-found l =
-      let t : T (someBelow (2 ^ n) p) = rw (periodic-some n p periodic) at (first-some (64 * wordCount n) p l) in
-      let (i, u, v) = some-found (2 ^ n) p t in
-      (first-passes (2 ^ n) p i u v .0, periodic-first n p t)
-
-  pub words-none : 64 * wordCount n ≤ firstBelow (64 * wordCount n) p → 2 ^ n ≤ firstBelow (2 ^ n) p
-  words-none l = go (decLt (firstBelow (2 ^ n) p) (2 ^ n))
-    where
-      go : Dec (firstBelow (2 ^ n) p < 2 ^ n) → 2 ^ n ≤ firstBelow (2 ^ n) p
-      go (no m) = omega arith
-      go (yes m) =
-          absurd (T-not (someBelow (64 * wordCount n) p) (first-not-some (64 * wordCount n) p l)
-          (rw (periodic-some n p periodic) (first-some (2 ^ n) p m)))

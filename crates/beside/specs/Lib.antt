@@ -1,5 +1,4 @@
 pub mod Beside
-pub mod SearchLaws
 pub mod GatherLaws
 pub mod MergeLaws
 pub mod StoreLaws

@@ -18,13 +18,6 @@ power-bit i k = ap (λ x. bit x k) (sym (one-mul (2 ^ i))) ∙ bit-digit 1 i k (
 
 -- set where a test passes: it was set already, or it is set now, or the test fails
 module _ (x i : ℕ) (p : Bool) where
-  pub bit-already : bit x i ≡ true → (k : ℕ) → bit x k ≡ (bit x k || (eqb k i && p))
-  bit-already e k = go (ℕ-discrete k i)
-    where
-      go : Dec (k ≡ i) → bit x k ≡ (bit x k || (eqb k i && p))
-      go (yes q) = let t : bit x k ≡ true = ap (bit x) q ∙ e in rw t
-      go (no n) = rw (ne-eqb k i n) (sym (or-false (bit x k)))
-
   pub bit-added : p ≡ true → (k : ℕ) → bit (bitOr x (2 ^ i)) k ≡ (bit x k || (eqb k i && p))
   bit-added e k = bit-or x (2 ^ i) k ∙ ap (_||_ (bit x k)) (power-bit i k ∙ sym (and-true (eqb k i)) ∙ ap (_&&_ (eqb k i)) (sym e))
 

@@ -1,24 +1,22 @@
 -- Laws of entries: one word more. Assumes nothing.
 use mathlib.Core.Path.{_≡_, refl, sym, ap, _∙_}
-use mathlib.Core.Bool.{Bool, true, false, not, _&&_, _||_, or-false, or-true}
+use mathlib.Core.Bool.{Bool, true, false, not, _||_, or-false, or-true}
 use mathlib.Core.List.{List}
-use mathlib.Core.Logic.{_⊎_, inl, inr}
 use Prim.Native.Nat.{ℕ, _+_, _*_, _^_, _≤_, _<_}
-use native.Mathlib.Decide.{decLt, ℕ-discrete}
+use native.Mathlib.Decide.{ℕ-discrete}
 use native.Mathlib.Omega.{arith}
 use lib.Bits.{bitOr}
-use lib.Dec.{T, T-not, eqb}
+use lib.Dec.{T, T-not}
 use lib.ListN.{length, getD, set}
 use lib.Seq.{getD-set-same, getD-set-other}
 use borrow.Author.Tests.{eq-eqb, ne-eqb}
 use Rattle.shares.specs.Test.{is-true, is-false, of-true, of-false}
 use Rattle.shares.specs.Below.{someBelow, firstBelow}
-use Rattle.shares.specs.BelowLaws.{some-none, some-add, some-intro, first-longer, first-is, first-none, first-below, first-least}
+use Rattle.shares.specs.BelowLaws.{some-none, some-add, some-intro, first-longer}
 use Rattle.shares.specs.Constant.{bit}
-use Rattle.shares.specs.BitLaws.{bit-zero, bit-or}
 use Rattle.words.specs.LowestLaws.{lowest-lt}
-use Rattle.entries.specs.BitLaws.{power-bit, bit-added}
-use Rattle.entries.specs.SearchLaws.{found-in-word, none-in-word}
+use Rattle.entries.specs.BitLaws.{bit-added}
+use Rattle.entries.specs.SearchLaws.{found-in-word}
 use Rattle.entries.specs.Entry.{Entry, WordOf, Kept, KeptAll}
 
 -- one word more of a test

@@ -10,8 +10,7 @@ use lib.Dec.{T, T-not, eqb}
 use lib.ListN.{length, getD, set}
 use lib.Seq.{getD-set-same, getD-set-other}
 use borrow.Author.Tests.{eq-eqb, ne-eqb}
-use Rattle.shares.specs.Test.{is-true, is-false, of-false}
-use Rattle.shares.specs.Below.{someBelow}
+use Rattle.shares.specs.Test.{is-true, of-false}
 use Rattle.shares.specs.BelowLaws.{some-none, some-ext, first-some}
 use Rattle.shares.specs.Constant.{bit}
 use Rattle.shares.specs.BitLaws.{bit-zero, bit-and}

@@ -1,17 +1,13 @@
 -- Laws of a search by words of 64 choices. Assumes nothing.
-use mathlib.Core.Path.{_≡_, sym, ap, ap₂, _∙_}
+use mathlib.Core.Path.{_≡_, sym, ap, _∙_}
 use mathlib.Core.Bool.{Bool, false}
-use mathlib.Core.List.{List}
-use Prim.Native.Nat.{ℕ, _+_, _-_, _*_, _/_, _%_, _^_, _<_}
-use native.Mathlib.Nat.{mod-lt}
+use Prim.Native.Nat.{ℕ, _+_, _-_, _*_, _^_, _<_}
 use native.Mathlib.Decide.{decLt}
 use native.Mathlib.Omega.{arith}
-use lib.ListN.{getD}
 use Rattle.shares.specs.Test.{is-true, is-false}
 use Rattle.shares.specs.Below.{firstBelow}
 use Rattle.shares.specs.BelowLaws.{first-least, first-below, first-is}
 use Rattle.shares.specs.Constant.{bit}
-use Rattle.shares.specs.BitLaws.{bit-zero}
 use Rattle.words.specs.LowestLaws.{lowest-lt}
 
 -- what fails below 64 * w, and at the d choices from there, fails below 64 * w + d
@@ -30,9 +26,3 @@ found-in-word p w count x hw hx n before word =
     (first-is (64 * count) p (64 * w + r) (omega arith)
     (none-more p w r before (λ i k. sym (word i (omega arith)) ∙ is-false (bit x i) (first-least 64 (bit x) i k)))
     (sym (word r l) ∙ is-true (bit x r) (first-below 64 (bit x) l)))
-
--- after a word that is 0 nothing has passed yet
-pub none-in-word : (p : ℕ → Bool) (w x : ℕ) → x ≡ 0 → ((z : ℕ) → z < 64 * w → p z ≡ false)
-    → ((i : ℕ) → i < 64 → bit x i ≡ p (64 * w + i)) → (z : ℕ) → z < 64 * (w + 1) → p z ≡ false
-none-in-word p w x e before word z l =
-    none-more p w 64 before (λ i k. sym (word i k) ∙ ap (λ y. bit y i) e ∙ bit-zero i) z (omega arith)

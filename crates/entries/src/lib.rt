@@ -5,7 +5,6 @@ ghost use mathlib.Core.Bool.{_&&_, _||_, not};
 ghost use Prim.Native.Nat.{ℕ, _+_, _*_, _<_, _≤_};
 ghost use lib.Dec.{eqb};
 ghost use lib.ListN.{length, getD};
-ghost use Rattle.shares.specs.Below.{someBelow};
 ghost use Rattle.shares.specs.Constant.{bit};
 ghost use Rattle.words.specs.Clause.{clauseTest, Clauses};
 ghost use Rattle.entries.specs.Entry.{Kept, KeptAll, common, Marked, MarkedAll};

@@ -13,14 +13,13 @@ use lib.Dec.{T, T-not, not-T}
 use lib.ListN.{length, getD, set}
 use lib.Seq.{getD-set-same, getD-set-other}
 use borrow.Author.Tests.{eq-eqb, ne-eqb}
-use Rattle.shares.specs.Test.{is-true, is-false, of-true, of-false, same-test, and-left, and-right, and-intro}
-use Rattle.shares.specs.Below.{everyBelow, someBelow, firstBelow}
-use Rattle.shares.specs.BelowLaws.{every-more, every-at, some-found, some-intro, some-ext, first-longer}
+use Rattle.shares.specs.Test.{of-true, of-false, same-test, and-left, and-intro}
+use Rattle.shares.specs.Below.{someBelow, firstBelow}
+use Rattle.shares.specs.BelowLaws.{every-more, every-at, some-found, some-intro, first-longer}
 use Rattle.shares.specs.Constant.{bit}
 use Rattle.shares.specs.BitLaws.{bit-zero, bit-and}
 use Rattle.questions.specs.Stored.{Stored}
 use Rattle.words.specs.Choices.{wordCount}
-use Rattle.beside.specs.GatherLaws.{words-pos}
 use Rattle.entries.specs.BitLaws.{bit-added}
 use Rattle.entries.specs.Entry.{Entry}
 use Rattle.entries.specs.EntryLaws.{entry-same, some-stays}

@@ -1,20 +1,19 @@
 -- A whole pass: before the first leaf, after the last, and where a leaf has no choice. Assumes nothing.
-use mathlib.Core.Path.{_≡_, refl, sym, ap, _∙_}
-use mathlib.Core.Bool.{Bool, true, false, not, _&&_}
+use mathlib.Core.Path.{_≡_, sym, ap, _∙_}
+use mathlib.Core.Bool.{Bool, false, not}
 use mathlib.Core.List.{List}
-use Prim.Native.Nat.{ℕ, _+_, _-_, _*_, _^_, _≤_, _<_}
+use Prim.Native.Nat.{ℕ, _+_, _-_, _*_, _^_, _<_}
 use native.Mathlib.Nat.{zero-mul}
 use native.Mathlib.Decide.{decLt}
 use native.Mathlib.Omega.{arith}
-use lib.Dec.{T, T-not, ltb}
+use lib.Dec.{T, T-not}
 use lib.ListN.{length, getD, set}
 use lib.Seq.{getD-set-same, getD-set-other}
 use borrow.Author.Tests.{le-ltb}
-use Rattle.shares.specs.Test.{is-true, is-false, of-true, of-false}
-use Rattle.shares.specs.Below.{everyBelow, someBelow, firstBelow}
+use Rattle.shares.specs.Test.{is-true, is-false, of-false}
+use Rattle.shares.specs.Below.{everyBelow, someBelow}
 use Rattle.shares.specs.BelowLaws.{every-at, every-intro}
-use Rattle.shares.specs.Blocks.{firstOf}
-use Rattle.shares.specs.Constant.{constantLevels, bit}
+use Rattle.shares.specs.Constant.{bit}
 use Rattle.shares.specs.BitLaws.{bit-zero, bit-number, number-lt}
 use Rattle.shares.specs.BitParts.{bit-ones, bit-beyond}
 use Rattle.questions.specs.Stored.{Stored}
@@ -24,7 +23,7 @@ use Rattle.entries.specs.Entry.{Entry}
 use Rattle.plans.specs.Pairs.{leafWidth}
 use Rattle.steps.specs.Tests.{leafValues, allowedIn}
 use Rattle.steps.specs.Steps.{onPairs, meetsHere, unmetHere}
-use Rattle.pass.specs.Pass.{missedBelow, After, Visited, Passed}
+use Rattle.pass.specs.Pass.{After, Visited, Passed}
 use Rattle.steps.specs.declared.Search.{Search}
 use Rattle.steps.specs.declared.Search.the-variants.{Missed}
 use Rattle.steps.specs.declared.Seen.{Seen}

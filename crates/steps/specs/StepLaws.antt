@@ -1,6 +1,6 @@
 -- One word more of a leaf. Assumes nothing.
 use mathlib.Core.Path.{_≡_, refl, sym, ap, ap₂, _∙_, subst}
-use mathlib.Core.Bool.{Bool, true, false, not, _&&_, _||_, or-false}
+use mathlib.Core.Bool.{Bool, false, not, _&&_, _||_, or-false}
 use mathlib.Core.List.{List, []}
 use Prim.Native.Nat.{ℕ, _+_, _*_, _/_, _%_, _≤_, _<_}
 use native.Mathlib.Omega.{arith}
@@ -22,11 +22,10 @@ use Rattle.entries.specs.EntryLaws.{some-word, entry-none, entry-same}
 use Rattle.plans.specs.Pairs.{leafWidth}
 use Rattle.steps.specs.Tests.{leafValues, firstMeets, firstDiffers, secondMeets, secondDiffers, allowedIn}
 use Rattle.steps.specs.Steps.{storedBy, onPairs, meetsHere, unmetHere, Second, Amid, OthersKept}
-use Rattle.steps.specs.TestLaws.{differs-bits, first-not-unmet, missed-not-unmet}
+use Rattle.steps.specs.TestLaws.{differs-bits}
 use Rattle.steps.specs.declared.Search.{Search}
 use Rattle.steps.specs.declared.Search.the-variants.{First, Unmet, Missed}
 use Rattle.steps.specs.declared.Seen.{Seen}
-use Rattle.steps.specs.declared.Allowed.{Allowed}
 
 -- ---- pairs
 

@@ -53,10 +53,6 @@ clauses-at {clauses} {start} {count} c k h =
           rw (add-assoc start (4 * k) j) (c .terms (4 * k + j) (omega arith));
     }
 
--- fewer clauses of a section
-pub clauses-fewer : {clauses : List ℕ} {start count k : ℕ} → Clauses clauses start count → k ≤ count → Clauses clauses start k
-clauses-fewer C l = record { room = omega (arith, C .room); terms = λ i m. C .terms i (omega arith) }
-
 -- a clause reads terms below 64 alone
 pub clause-ext : (x y : ℕ → Bool) {clauses : List ℕ} {at : ℕ} → Clauses clauses at 1 → ((t : ℕ) → t < 64 → x t ≡ y t)
     → clauseTest clauses x at ≡ clauseTest clauses y at

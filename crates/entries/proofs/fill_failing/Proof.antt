@@ -1,6 +1,6 @@
 -- `entries::fill_failing` meets its contract. The loop's invariant: the first i words are those of their disequations, and no other has changed. Assumes nothing.
-use mathlib.Core.Bool.{Bool, _&&_, not}
-use mathlib.Core.Path.{_≡_, refl, ap, _∙_, subst, sym}
+use mathlib.Core.Bool.{_&&_, not}
+use mathlib.Core.Path.{_≡_, refl}
 use Prim.Native.Nat.{ℕ, _+_, _-_, _*_, _≤_, _<_}
 use native.Mathlib.Omega.{arith}
 use lib.ListN.{length, getD, length-set}

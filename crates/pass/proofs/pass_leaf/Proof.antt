@@ -1,6 +1,6 @@
 -- `pass::pass_leaf` meets its contract. The loop's invariant: w words of the leaf are done. Assumes nothing.
 use mathlib.Core.List.{List}
-use mathlib.Core.Path.{_≡_, sym, ap, _∙_}
+use mathlib.Core.Path.{_≡_}
 use Prim.Native.Nat.{ℕ, _-_, _≤_}
 use native.Mathlib.Omega.{arith}
 use Rattle.pass.specs.LeafLaws.{amid-start, leaf-done, others-none, others-more}

@@ -1,6 +1,6 @@
 -- `pass::pass_leaves` meets its contract. The loop's invariant: b leaves are done, and their values are kept. Assumes nothing.
-use mathlib.Core.Path.{_≡_, refl, sym, ap, _∙_}
-use Prim.Native.Nat.{ℕ, _+_, _-_, _^_, _≤_, _<_}
+use mathlib.Core.Path.{_≡_, refl, sym, _∙_}
+use Prim.Native.Nat.{ℕ, _-_, _^_, _≤_, _<_}
 use native.Mathlib.Omega.{arith}
 use lib.ListN.{length, getD, length-set, getD-replicate}
 use lib.Pow.{pow-mono, pow-pos}

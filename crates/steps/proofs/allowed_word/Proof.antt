@@ -1,6 +1,5 @@
 -- `steps::allowed_word` meets its contract, by cases on the search. Assumes nothing.
 use mathlib.Core.Path.{refl}
-use mathlib.Core.Path.{sym, _∙_}
 use borrow.Author.Needs.{needs}
 use Rattle.steps.specs.TestLaws.{first-not-unmet, missed-not-unmet}
 use Rattle.steps.proofs.allowed_word.Statement.{statement}

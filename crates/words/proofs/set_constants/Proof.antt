@@ -1,11 +1,9 @@
 -- `words::set_constants` meets its contract. The loop's invariant: the words of the first i constants are set, and no other has changed. Assumes nothing.
-use mathlib.Core.Path.{_≡_, refl, ap, _∙_}
-use Prim.Native.Nat.{ℕ, _+_, _-_, _≤_, _<_}
+use mathlib.Core.Path.{_≡_, _∙_}
+use Prim.Native.Nat.{_-_, _≤_}
 use native.Mathlib.Omega.{arith}
-use lib.ListN.{length, getD, length-set}
+use lib.ListN.{length, length-set}
 use borrow.Author.Needs.{needs}
-use Rattle.shares.specs.Constant.{bit}
-use Rattle.words.specs.Stores.{store-law}
 use Rattle.words.specs.Table.{ConstantWords}
 use Rattle.words.specs.TableLaws.{constants-none, constants-more, terms-changed}
 use Rattle.words.proofs.set_constants.Statement.{statement}
