@@ -1,11 +1,6 @@
-pub mod Asking
 pub mod Packing
 pub mod Calls
-pub mod Exact
-pub mod Demand3
-pub mod Given
-pub mod AskingLaws
 pub mod PackingLaws
+pub mod FitLaws
+pub mod PackedRight
 pub mod CallLaws
-pub mod AskedRight
-pub mod DecidedLaws

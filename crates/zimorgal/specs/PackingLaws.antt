@@ -2,7 +2,7 @@
 use mathlib.Core.Path.{_≡_}
 use Prim.Native.Nat.{_/_, _%_, _^_, _<_}
 use native.Mathlib.Omega.{arith}
-use Rattle.zimorgal.specs.declared.Outcome.{Outcome}
+use Rattle.asking.specs.declared.Outcome.{Outcome}
 use Rattle.zimorgal.specs.Packing.{packed, unpacked}
 
 -- each field fits its bytes

@@ -1,10 +1,10 @@
 // The printing program: reads one question from standard input, asks it, and prints the answer.
+use asking::Outcome;
 use libc::STDERR_FILENO;
 use libc::STDIN_FILENO;
 use libc::STDOUT_FILENO;
 use text::LONGEST_TEXT;
 use text::Written;
-use zimorgal::Outcome;
 ghost use mathlib.Core.Path.{_≡_};
 ghost use mathlib.Core.Bool.{cond};
 ghost use mathlib.Core.List.{[], _∷_};
@@ -150,7 +150,7 @@ fn main() {
         );
         return;
     }
-    let outcome = zimorgal::ask(&question[..n], &mut answer, &mut work);
+    let outcome = asking::ask(&question[..n], &mut answer, &mut work);
     if !say(&question[..n], &answer, outcome) {
         io::write_all(
             STDERR_FILENO,

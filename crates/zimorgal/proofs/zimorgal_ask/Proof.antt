@@ -1,8 +1,8 @@
 -- `zimorgal::zimorgal_ask` gives what asking gives as one number, and every field fits its bytes. Assumes nothing.
 use mathlib.Core.Path.{sym, subst}
 use Rattle.zimorgal.specs.PackingLaws.{InBytes}
-use Rattle.zimorgal.specs.AskingLaws.{outcome-fits}
-use Rattle.zimorgal.specs.AskedRight.{given-packed}
+use Rattle.zimorgal.specs.FitLaws.{outcome-fits}
+use Rattle.zimorgal.specs.PackedRight.{given-packed}
 use borrow.Author.Needs.{needs}
 use Rattle.zimorgal.proofs.zimorgal_ask.Statement.{statement}
 use Rattle.zimorgal.proofs.zimorgal_ask.Tie as tie

@@ -1,12 +1,12 @@
--- `zimorgal::ask` meets its contract: each refusal by what was read and the lengths, an answer by what was decided. Assumes nothing.
+-- `asking::ask` meets its contract: each refusal by what was read and the lengths, an answer by what was decided. Assumes nothing.
 use lib.ListN.{length}
 use Rattle.questions.specs.Callers.{answer-taken, answer-refused}
-use Rattle.zimorgal.specs.AskingLaws.{asked-refused, asked-11, asked-12}
-use Rattle.zimorgal.specs.AskedRight.{given-refused}
-use Rattle.zimorgal.specs.DecidedLaws.{given-answer}
+use Rattle.asking.specs.AskingLaws.{asked-refused, asked-11, asked-12}
+use Rattle.asking.specs.AskedRight.{given-refused}
+use Rattle.asking.specs.DecidedLaws.{given-answer}
 use borrow.Author.Needs.{needs}
-use Rattle.zimorgal.proofs.ask.Statement.{statement}
-use Rattle.zimorgal.proofs.ask.Tie as tie
+use Rattle.asking.proofs.ask.Statement.{statement}
+use Rattle.asking.proofs.ask.Tie as tie
 
 read-requires : tie.Need-read-requires
 read-requires c κs = search needs

@@ -1,7 +1,7 @@
--- `zimorgal::outcome_of` gives the numbers of each finding. Assumes nothing.
+-- `asking::outcome_of` gives the numbers of each finding. Assumes nothing.
 use borrow.Author.Needs.{needs}
-use Rattle.zimorgal.proofs.outcome_of.Statement.{statement}
-use Rattle.zimorgal.proofs.outcome_of.Tie as tie
+use Rattle.asking.proofs.outcome_of.Statement.{statement}
+use Rattle.asking.proofs.outcome_of.Tie as tie
 
 enum-told : tie.Need-enum-told
 enum-told c = search needs

@@ -1,4 +1,4 @@
--- Which case of asking is met, and how large its numbers are. Assumes nothing.
+-- Which case of asking is met, how large the height given is, and the work area. Assumes nothing.
 use mathlib.Core.Path.{_≡_, refl, ap, _∙_}
 use mathlib.Core.Bool.{Bool, true, false}
 use mathlib.Core.List.{List, _++_}
@@ -7,19 +7,16 @@ use native.Mathlib.Omega.{arith}
 use borrow.Author.Tests.{lt-ltb, le-ltb, ltb-false}
 use lib.Dec.{ltb}
 use lib.ListN.{drop, replicate}
-use Rattle.shares.specs.Test.{cond-law}
-use Rattle.leaves.specs.Heights.{c, anyHeight}
+use Rattle.leaves.specs.Heights.{c}
 use Rattle.leaves.specs.HeightLaws.{c-most}
 use Rattle.systems.specs.Questions.{Question, WellFormed, questionHeight, firstCount}
-use Rattle.systems.specs.Answers.{Answer, satisfied, unsatisfied, vacuous, entailed, unmet, missed, Says, verdict, reason, disequationNumber, heightGiven}
-use Rattle.systems.specs.Decide.{decide}
-use Rattle.systems.specs.Heights.{question-bounds, exact}
+use Rattle.systems.specs.Answers.{Answer, satisfied, unsatisfied, vacuous, entailed, unmet, missed, heightGiven}
+use Rattle.systems.specs.Heights.{question-bounds}
 use Rattle.questions.specs.Format.{Result, refused, accepted, read}
-use Rattle.questions.specs.FormatLaws.{longest, Limited, accepted-formed, accepted-limited, refusal-number, refusal-place}
-use Rattle.questions.specs.declared.Section.the-variants.{FirstDisequation, SecondDisequation}
+use Rattle.questions.specs.FormatLaws.{Limited}
+use Rattle.questions.specs.declared.Section.the-variants.{FirstDisequation}
 use Rattle.rows.specs.Rows.{rowLevels, answerBytes, zeros}
-use Rattle.zimorgal.specs.Asking.{workBytes, Asked, turnedAway, answered, lentTo, asked, outcomeOf}
-use Rattle.zimorgal.specs.PackingLaws.{InBytes}
+use Rattle.asking.specs.Asking.{workBytes, turnedAway, answered, lentTo, asked}
 
 -- ---- the cases
 
@@ -68,7 +65,7 @@ granted s a w q e = go (read s) refl (ltb a answerBytes) refl (ltb w workBytes) 
       work = ltb-false w workBytes hy;
     }
 
--- ---- the numbers
+-- ---- the height given
 
 module _ (q : Question) (F : WellFormed q) (L : Limited q) where
   level-low : questionHeight q ≤ 5
@@ -89,64 +86,7 @@ module _ (q : Question) (F : WellFormed q) (L : Limited q) where
   height-low unmet = omega (arith, level-low, more-low)
   height-low (missed j) = omega (arith, level-low, more-low)
 
-  number-low : (a : Answer) → Says anyHeight q a → disequationNumber a < 31
-  number-low satisfied s = omega arith
-  number-low unsatisfied s = omega arith
-  number-low vacuous s = omega arith
-  number-low entailed s = omega arith
-  number-low unmet s = omega arith
-  number-low (missed j) s = omega (arith, s .0, L .sections SecondDisequation)
-
-verdict-low : (a : Answer) → verdict a ≤ 2
-verdict-low satisfied = omega arith
-verdict-low unsatisfied = omega arith
-verdict-low vacuous = omega arith
-verdict-low entailed = omega arith
-verdict-low unmet = omega arith
-verdict-low (missed j) = omega arith
-
-reason-low : (a : Answer) → reason a ≤ 3
-reason-low satisfied = omega arith
-reason-low unsatisfied = omega arith
-reason-low vacuous = omega arith
-reason-low entailed = omega arith
-reason-low unmet = omega arith
-reason-low (missed j) = omega arith
-
--- every result fits its bytes
-refusal-fits : (n place : ℕ) → n ≤ 12 → place ≤ longest → InBytes (outcomeOf (turnedAway n place))
-refusal-fits n place l m = record {
-  verdict = omega arith;
-  refusal = omega arith;
-  place = omega arith;
-  height = omega arith;
-  reason = omega arith;
-  number = omega arith;
-}
-
-answer-fits : (q : Question) → WellFormed q → Limited q → InBytes (outcomeOf (answered q))
-answer-fits q F L = record {
-  verdict = omega (arith, verdict-low (decide q));
-  refusal = omega arith;
-  place = omega arith;
-  height = omega (arith, height-low q F L (decide q));
-  reason = omega (arith, reason-low (decide q));
-  number = omega (arith, number-low q F L (decide q) (exact q F (decide q) .1 refl .1));
-}
-
-pub outcome-fits : (s : List ℕ) (a w : ℕ) → InBytes (outcomeOf (asked s a w))
-unfolding asked
-outcome-fits s a w = go (read s) refl
-  where
-    M : Asked → Type 0
-    M g = InBytes (outcomeOf g)
-
-    go : (o : Result) → read s ≡ o → InBytes (outcomeOf (lentTo o a w))
-    go (refused n place) h = refusal-fits n place (omega (arith, refusal-number s n place h)) (refusal-place s n place h)
-    go (accepted q) h =
-        cond-law M (ltb a answerBytes) _ _ (λ _. refusal-fits 11 0 (omega arith) (omega arith))
-        (λ _. cond-law M (ltb w workBytes) _ _ (λ _. refusal-fits 12 0 (omega arith) (omega arith))
-        (λ _. answer-fits q (accepted-formed s q h) (accepted-limited s q h)))
+-- ---- the work area
 
 -- a work area whose first bytes are filled
 pub cleared : (work part : List ℕ) (k : ℕ) → part ≡ replicate k 0 → k ≡ workBytes → part ++ drop workBytes work ≡ zeros workBytes ++ drop workBytes work

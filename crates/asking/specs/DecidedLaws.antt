@@ -15,11 +15,11 @@ use Rattle.rows.specs.RowLaws.{filled-ext}
 use Rattle.show.specs.Plans as shown
 use Rattle.decide.specs.declared.Decision.{Decision}
 use Rattle.decide.specs.Decision.{answerOf, Decided, StandsFor, DecidedFor, Planned}
-use Rattle.zimorgal.specs.declared.Outcome.{Outcome}
-use Rattle.zimorgal.specs.Asking.{workBytes, answered, answerOutcome, outcomeOf, answerAfter, workAfter}
-use Rattle.zimorgal.specs.AskingLaws.{asked-answered}
-use Rattle.zimorgal.specs.Given.{Given}
-use Rattle.zimorgal.specs.AskedRight.{given}
+use Rattle.asking.specs.declared.Outcome.{Outcome}
+use Rattle.asking.specs.Asking.{workBytes, answered, answerOutcome, outcomeOf, answerAfter, workAfter}
+use Rattle.asking.specs.AskingLaws.{asked-answered}
+use Rattle.asking.specs.Given.{Given}
+use Rattle.asking.specs.AskedRight.{given}
 
 module _ (q : Question) (x : Stored) (d : Decision) (D : Decided x q d) where
   -- the answer that was found is the question's, and so is the height given with it

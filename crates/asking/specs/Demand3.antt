@@ -11,7 +11,7 @@ use Rattle.systems.specs.Questions.{Question, questionHeight}
 use Rattle.systems.specs.Answers.{Answer, Answers, shows, heightGiven, Shown}
 use Rattle.systems.specs.HeightRule.{HeightRule}
 use Rattle.rows.specs.Rows.{rowLevels, rowBytes, rowCount, rowTree, rowPart, zeros}
-use Rattle.zimorgal.specs.declared.Outcome.{Outcome}
+use Rattle.asking.specs.declared.Outcome.{Outcome}
 
 -- the shares that the rows of an answer buffer stand for
 abbrev pub rowShares : List ℕ → Assignment

@@ -3,11 +3,10 @@ use mathlib.Core.Path.{_≡_}
 use mathlib.Core.List.{List}
 use Prim.Native.Nat.{ℕ}
 use Rattle.systems.specs.Questions.{Question}
-use Rattle.zimorgal.specs.declared.Outcome.{Outcome}
-use Rattle.zimorgal.specs.Asking.{answered, askedWith, outcomeOf, answerAfter, workAfter}
-use Rattle.zimorgal.specs.Packing.{packed, unpacked}
-use Rattle.zimorgal.specs.Exact.{Exact}
-use Rattle.zimorgal.specs.Demand3.{Demand3}
+use Rattle.asking.specs.declared.Outcome.{Outcome}
+use Rattle.asking.specs.Asking.{answered, askedWith, outcomeOf, answerAfter, workAfter}
+use Rattle.asking.specs.Exact.{Exact}
+use Rattle.asking.specs.Demand3.{Demand3}
 
 module _ (s answer work : List ℕ) where
   -- the bytes that are left, and what they and the result mean
@@ -19,7 +18,3 @@ module _ (s answer work : List ℕ) where
   -- with the result
   abbrev pub Given : Outcome → List ℕ → List ℕ → Type 0
   Given r answer′ work′ = (r ≡ outcomeOf (askedWith s answer work)) × Left r answer′ work′
-
-  -- with the result as one number
-  abbrev pub GivenPacked : ℕ → List ℕ → List ℕ → Type 0
-  GivenPacked r answer′ work′ = (r ≡ packed (outcomeOf (askedWith s answer work))) × Left (unpacked r) answer′ work′

@@ -4,7 +4,7 @@ use mathlib.Core.Logic.{_↔_}
 use Rattle.leaves.specs.Heights.{anyHeight}
 use Rattle.systems.specs.Questions.{Question}
 use Rattle.systems.specs.Answers.{Answer, Answers, Yes, verdict, reason, disequationNumber}
-use Rattle.zimorgal.specs.declared.Outcome.{Outcome}
+use Rattle.asking.specs.declared.Outcome.{Outcome}
 
 pub record Exact (q : Question) (r : Outcome) : Type 0 where
   -- there is a right answer, and it is the only one

@@ -1,11 +1,11 @@
--- `zimorgal::show_solution` shows the plan where there is a solution to show. Assumes nothing.
+-- `asking::show_solution` shows the plan where there is a solution to show. Assumes nothing.
 use mathlib.Core.Path.{sym, _∙_}
 use native.Mathlib.Omega.{arith}
 use borrow.Author.Needs.{needs}
 use Rattle.shares.specs.Test.{of-true}
-use Rattle.zimorgal.specs.DecidedLaws.{answer-shown, answer-kept}
-use Rattle.zimorgal.proofs.show_solution.Statement.{statement}
-use Rattle.zimorgal.proofs.show_solution.Tie as tie
+use Rattle.asking.specs.DecidedLaws.{answer-shown, answer-kept}
+use Rattle.asking.proofs.show_solution.Statement.{statement}
+use Rattle.asking.proofs.show_solution.Tie as tie
 
 is-shown-requires : tie.Need-is-shown-requires
 is-shown-requires c κs = search needs

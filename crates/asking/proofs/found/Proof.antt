@@ -1,7 +1,7 @@
--- `zimorgal::found` gives the numbers of what was found, with the height given. Assumes nothing.
+-- `asking::found` gives the numbers of what was found, with the height given. Assumes nothing.
 use borrow.Author.Needs.{needs}
-use Rattle.zimorgal.proofs.found.Statement.{statement}
-use Rattle.zimorgal.proofs.found.Tie as tie
+use Rattle.asking.proofs.found.Statement.{statement}
+use Rattle.asking.proofs.found.Tie as tie
 
 height-given-requires : tie.Need-height-given-requires
 height-given-requires c κs = search needs

@@ -10,7 +10,7 @@ use Rattle.systems.specs.Answers.{Answer, verdict, reason, disequationNumber, s
 use Rattle.systems.specs.Decide.{decide, shownAt}
 use Rattle.questions.specs.Format.{Result, refused, accepted, read}
 use Rattle.rows.specs.Rows.{rowLevels, answerBytes, zeros, filledWith}
-use Rattle.zimorgal.specs.declared.Outcome.{Outcome}
+use Rattle.asking.specs.declared.Outcome.{Outcome}
 
 -- ---- whether a question is answered
 

@@ -17,14 +17,12 @@ use Rattle.systems.specs.Heights.{height-rule, exact, verdict-exact}
 use Rattle.questions.specs.FormatLaws.{Limited, accepted-formed, accepted-limited}
 use Rattle.rows.specs.Rows.{rowLevels, answerBytes, filledWith}
 use Rattle.rows.specs.RowLaws.{filled-tree, filled-zero}
-use Rattle.zimorgal.specs.Asking.{Asked, turnedAway, answered, askedWith, refusalOutcome, outcomeOf, shownTrees, answerAfter, workAfter}
-use Rattle.zimorgal.specs.AskingLaws.{granted, height-low, outcome-fits}
-use Rattle.zimorgal.specs.Packing.{packed, unpacked}
-use Rattle.zimorgal.specs.PackingLaws.{reads-back}
-use Rattle.zimorgal.specs.declared.Outcome.{Outcome}
-use Rattle.zimorgal.specs.Exact.{Exact}
-use Rattle.zimorgal.specs.Demand3.{rowShares, RowsShow, Demand3}
-use Rattle.zimorgal.specs.Given.{Given, GivenPacked}
+use Rattle.asking.specs.Asking.{Asked, turnedAway, answered, askedWith, refusalOutcome, outcomeOf, shownTrees, answerAfter, workAfter}
+use Rattle.asking.specs.AskingLaws.{granted, height-low}
+use Rattle.asking.specs.declared.Outcome.{Outcome}
+use Rattle.asking.specs.Exact.{Exact}
+use Rattle.asking.specs.Demand3.{rowShares, RowsShow, Demand3}
+use Rattle.asking.specs.Given.{Given}
 
 -- ---- the rows of the solution that is shown
 
@@ -106,10 +104,3 @@ module _ (s answer work : List ℕ) where
       → Given s answer work r answer work
   unfolding answerAfter workAfter
   given-refused n place e r er = given (turnedAway n place) e r answer work er refl refl
-
-  -- a result is read back from its number
-  pub given-packed : (o : Outcome) (answer′ work′ : List ℕ) → Given s answer work o answer′ work′ → (r : ℕ) → r ≡ packed o
-      → GivenPacked s answer work r answer′ work′
-  given-packed o answer′ work′ (eo, (ea, (ew, m))) r er =
-      let back : unpacked r ≡ o = ap unpacked er ∙ reads-back o (rw eo (outcome-fits s (length answer) (length work))) in
-      (er ∙ ap packed eo, (ea, (ew, λ q f. rw back (m q f))))

@@ -1,10 +1,10 @@
--- `zimorgal::clear_work` sets the first bytes of the work area to zero. Assumes nothing.
+-- `asking::clear_work` sets the first bytes of the work area to zero. Assumes nothing.
 use mathlib.Core.Path.{sym}
 use native.Mathlib.Omega.{arith}
-use Rattle.zimorgal.specs.AskingLaws.{cleared}
+use Rattle.asking.specs.AskingLaws.{cleared}
 use borrow.Author.Needs.{needs}
-use Rattle.zimorgal.proofs.clear_work.Statement.{statement}
-use Rattle.zimorgal.proofs.clear_work.Tie as tie
+use Rattle.asking.proofs.clear_work.Statement.{statement}
+use Rattle.asking.proofs.clear_work.Tie as tie
 
 sub-fill : tie.Need-sub-fill
 sub-fill c = search needs

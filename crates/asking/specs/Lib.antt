@@ -1,0 +1,7 @@
+pub mod Asking
+pub mod Exact
+pub mod Demand3
+pub mod Given
+pub mod AskingLaws
+pub mod AskedRight
+pub mod DecidedLaws
