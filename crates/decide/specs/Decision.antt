@@ -22,6 +22,7 @@ use Rattle.steps.specs.Tests.{extraOf, roomOf}
 use Rattle.steps.specs.declared.Search.{Search}
 use Rattle.steps.specs.declared.Search.the-variants.{First, Unmet, Missed}
 use Rattle.search.specs.Found.{SolvedAs}
+use Rattle.named.specs.Names.{SameSearches}
 use Rattle.decide.specs.declared.Finding.{Finding}
 use Rattle.decide.specs.declared.Finding.the-variants.{Satisfied, Unsatisfied, Vacuous, Entailed, Unmet, Missed}
 use Rattle.decide.specs.declared.Decision.{Decision}
@@ -68,10 +69,11 @@ pub record Decided (x : Stored) (q : Asked) (r : Decision) : Type 0 where
   pub solved : T (shows (decide q)) → SolvedAs x (questionHeight q) (searchOf (r .finding)) true (r .pairs)
   pub no-pairs : T (not (shows (decide q))) → r .pairs ≡ replicate 64 0
 
--- the same of every question of a kind that numbers, clauses' bytes and constants stand for
+-- the same of every question of a kind that numbers, clauses' bytes and constants stand for, where those kept of the constants pose the same tests
 abbrev pub DecidedAs : Kind → Sizes → List ℕ → List ℕ → Decision → Type 0
-DecidedAs kind sizes clauses constants r =
-    (k : ℕ) (q : Asked) → Stands k (storedBy sizes clauses constants) q → q .kind ≡ kind → sizes .height ≡ questionHeight q
+DecidedAs kind sizes clauses kept r =
+    (constants : List ℕ) → SameSearches (storedBy sizes clauses kept) (storedBy sizes clauses constants)
+    → (k : ℕ) (q : Asked) → Stands k (storedBy sizes clauses constants) q → q .kind ≡ kind → sizes .height ≡ questionHeight q
     → Decided (storedBy sizes clauses constants) q r
 
 -- a question that was read stands for q, with some clauses

@@ -5,4 +5,5 @@ pub mod PlannedLaws
 pub mod QuestionHeightLaws
 pub mod StoredLaws
 pub mod StandsLaws
+pub mod NamedLaws
 pub mod ReadableLaws

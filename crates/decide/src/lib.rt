@@ -94,7 +94,7 @@ fn nothing_shown(finding: Finding) -> Decision
     }
 }
 
-// Decides satisfiability.
+// Decides satisfiability, by those of the constants that are kept.
 fn decide_satisfiability(clauses: &[u8; 768], sizes: Sizes, constants: &[u64; 32]) -> Decision
     requires { ⌜ Readable (now clauses) (sizes .counts) (sizes .free) (sizes .own) × (sizes .defined ≤ 32) × (sizes .height ≤ 5) ⌝ }
     ensures { λ r. ⌜ DecidedAs satisfiability sizes (now (clauses .entry)) (now (constants .entry)) r ⌝ }
@@ -109,7 +109,8 @@ fn decide_satisfiability(clauses: &[u8; 768], sizes: Sizes, constants: &[u64; 32
     nothing_shown(Finding::Unsatisfied)
 }
 
-// Decides an entailment: one pass says everything but which pairs a solution has that misses a disequation.
+// Decides an entailment, by those of the constants that are kept: one pass says everything but which pairs a solution has that misses a
+// disequation.
 fn decide_entailment(clauses: &[u8; 768], sizes: Sizes, constants: &[u64; 32]) -> Decision
     requires { ⌜ Readable (now clauses) (sizes .counts) (sizes .free) (sizes .own) × (sizes .defined ≤ 32) × (sizes .height ≤ 5) ⌝ }
     ensures { λ r. ⌜ DecidedAs entailment sizes (now (clauses .entry)) (now (constants .entry)) r ⌝ }
@@ -137,16 +138,19 @@ fn decide_entailment(clauses: &[u8; 768], sizes: Sizes, constants: &[u64; 32]) -
     nothing_shown(Finding::Entailed)
 }
 
-// Decides a question that was read, whose clauses are lent.
+// Decides a question that was read, whose clauses are lent. Its height is that of all its constants; the tests at the leaves read those that
+// some clause names.
 pub fn decide(question: Question, clauses: &[u8; 768]) -> Decision
     requires { ⌜ Standing question (now clauses) ⌝ }
     ensures { λ r. ⌜ ((q : Asked) → Stands (question .kind) (storedOf question (now (clauses .entry))) q → WellFormed q → Decided (storedOf question (now (clauses .entry))) q r) ⌝ }
 {
     let sizes = sizes_of(question);
+    let mut constants = question.constants;
+    named::keep_named(clauses, sizes, &mut constants);
     if question.kind == 0 {
-        return decide_satisfiability(clauses, sizes, &question.constants);
+        return decide_satisfiability(clauses, sizes, &constants);
     }
-    decide_entailment(clauses, sizes, &question.constants)
+    decide_entailment(clauses, sizes, &constants)
 }
 
 // ---- the solution that is shown

@@ -28,7 +28,7 @@ module _ {X : Type 0} (C : Picker X) (h : ℕ) (P Q : Problem X) (count : P .cou
       (every-ext (2 ^ h) _ _ plain-same)
       (every-ext (P .count) _ _ (λ j m. some-ext (2 ^ h) _ _ (special-same j m)) ∙ ap (λ k. everyBelow k (λ j. someBelow (2 ^ h) (specialAt C Q j))) count)
 
-  block-same : (j : ℕ) → j < P .count → blockFor C h P j ≡ blockFor C h Q j
+  pub block-same : (j : ℕ) → j < P .count → blockFor C h P j ≡ blockFor C h Q j
   unfolding blockFor
   block-same j m = first-ext (2 ^ h) _ _ (special-same j m)
 

@@ -2,6 +2,8 @@
 use mathlib.Core.Path.{refl}
 use borrow.Author.Needs.{needs}
 use Rattle.decide.specs.DecideLaws.{decided-satisfied, decided-unsatisfied}
+use Rattle.decide.specs.NamedLaws.{solved-same}
+use Rattle.steps.specs.declared.Search.the-variants.{First}
 use Rattle.decide.proofs.decide_satisfiability.Statement.{statement}
 use Rattle.decide.proofs.decide_satisfiability.Tie as tie
 
@@ -9,15 +11,18 @@ solve-requires : tie.Need-solve-requires
 solve-requires c κs = (c .before .pre .0, (tt, c .before .pre .1, c .before .pre .2, refl))
 
 returns : tie.Need-returns
-returns c = λ k q St kind e. decided-satisfied _ q St _ _ (rw e at (c .before .solve .ensures)) kind (c .if1 .taken)
+returns c =
+    λ constants same k q St kind e.
+    decided-satisfied _ q St _ _ (rw e at (solved-same _ _ _ constants _ _ _ same _ First tt (c .before .solve .ensures))) kind (c .if1 .taken)
 
 nothing-shown-requires : tie.Need-nothing-shown-requires
 nothing-shown-requires c κs = search needs
 
 returns-2 : tie.Need-returns-2
 returns-2 c =
-    λ k q St kind e.
-    rw (c .nothing-shown .ensures) (decided-unsatisfied _ q St _ _ (rw e at (c .before .before .solve .ensures)) kind (c .before .if1 .left))
+    λ constants same k q St kind e.
+    rw (c .nothing-shown .ensures)
+    (decided-unsatisfied _ q St _ _ (rw e at (solved-same _ _ _ constants _ _ _ same _ First tt (c .before .before .solve .ensures))) kind (c .before .if1 .left))
 
 pub decide-satisfiability-spec : {M : Type 1} → statement M
 decide-satisfiability-spec =
