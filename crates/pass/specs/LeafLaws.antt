@@ -18,7 +18,7 @@ use Rattle.shares.specs.Below.{everyBelow, someBelow, firstBelow}
 use Rattle.shares.specs.BelowLaws.{every-more, every-at, some-found, some-intro, some-ext, first-longer}
 use Rattle.shares.specs.Constant.{bit}
 use Rattle.shares.specs.BitLaws.{bit-zero, bit-and}
-use Rattle.questions.specs.Stored.{Stored}
+use Rattle.format.specs.Stored.{Stored}
 use Rattle.words.specs.Choices.{wordCount}
 use Rattle.beside.specs.GatherLaws.{words-pos}
 use Rattle.entries.specs.BitLaws.{bit-added}

@@ -17,7 +17,7 @@ use Rattle.shares.specs.Blocks.{firstOf}
 use Rattle.shares.specs.Constant.{constantLevels, bit}
 use Rattle.shares.specs.BitLaws.{bit-zero, bit-number, number-lt}
 use Rattle.shares.specs.BitParts.{bit-ones, bit-beyond}
-use Rattle.questions.specs.Stored.{Stored}
+use Rattle.format.specs.Stored.{Stored}
 use Rattle.words.specs.Choices.{wordCount, valuesAt}
 use Rattle.words.specs.Table.{Within}
 use Rattle.entries.specs.Entry.{Entry}

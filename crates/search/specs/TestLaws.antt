@@ -8,7 +8,7 @@ use native.Mathlib.Omega.{arith}
 use lib.Dec.{ltb}
 use lib.ListN.{getD}
 use borrow.Author.Tests.{le-ltb}
-use Rattle.questions.specs.Stored.{Stored}
+use Rattle.format.specs.Stored.{Stored}
 use Rattle.words.specs.Choices.{clauseFails, someOwn, Periodic}
 use Rattle.words.specs.TermLaws.{pass-mod, fails-mod}
 use Rattle.pass.specs.Tests.{leafValues, firstMeets, secondMeets, specialIn, extraOf, allowedIn, testsOf}

@@ -14,9 +14,9 @@ use Rattle.systems.specs.Questions.{Question, WellFormed, questionHeight, first
 use Rattle.systems.specs.Answers.{Answer, satisfied, unsatisfied, vacuous, entailed, unmet, missed, Says, verdict, reason, disequationNumber, heightGiven}
 use Rattle.systems.specs.Decide.{decide}
 use Rattle.systems.specs.Heights.{question-bounds, exact}
-use Rattle.questions.specs.Format.{Result, refused, accepted, read}
-use Rattle.questions.specs.FormatLaws.{longest, Limited, accepted-formed, accepted-limited, refusal-number, refusal-place}
-use Rattle.questions.specs.declared.Section.the-variants.{FirstDisequation, SecondDisequation}
+use Rattle.format.specs.Format.{Result, refused, accepted, read}
+use Rattle.format.specs.FormatLaws.{longest, Limited, accepted-formed, accepted-limited, refusal-number, refusal-place}
+use Rattle.format.specs.declared.Section.the-variants.{FirstDisequation, SecondDisequation}
 use Rattle.rows.specs.Rows.{rowLevels, answerBytes, zeros}
 use Rattle.zimorgal.specs.Asking.{workBytes, Asked, turnedAway, answered, lentTo, asked, outcomeOf}
 use Rattle.zimorgal.specs.PackingLaws.{InBytes}

@@ -1,7 +1,7 @@
 // Asking a question, and every call that other programs link.
 use decide::Decision;
 use decide::Finding;
-use questions::Question;
+use format::Question;
 use rows::ANSWER_BYTES;
 use shares::Joined;
 use text::Written;
