@@ -14,7 +14,7 @@ use Rattle.systems.specs.Answers.{shows, heightGiven}
 use Rattle.systems.specs.Decide.{decide, shownAt}
 use Rattle.systems.specs.ShownLaws.{shown-past, shown-low}
 use Rattle.systems.specs.Heights.{height-rule, exact, verdict-exact}
-use Rattle.questions.specs.FormatLaws.{Limited, accepted-formed, accepted-limited}
+use Rattle.format.specs.FormatLaws.{Limited, accepted-formed, accepted-limited}
 use Rattle.rows.specs.Rows.{rowLevels, answerBytes, filledWith}
 use Rattle.rows.specs.RowLaws.{filled-tree, filled-zero}
 use Rattle.asking.specs.Asking.{Asked, turnedAway, answered, askedWith, refusalOutcome, outcomeOf, shownTrees, answerAfter, workAfter}

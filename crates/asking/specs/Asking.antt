@@ -8,7 +8,7 @@ use Rattle.shares.specs.Tree.{Tree}
 use Rattle.systems.specs.Questions.{Question, questionHeight}
 use Rattle.systems.specs.Answers.{Answer, verdict, reason, disequationNumber, shows, heightGiven}
 use Rattle.systems.specs.Decide.{decide, shownAt}
-use Rattle.questions.specs.Format.{Result, refused, accepted, read}
+use Rattle.format.specs.Format.{Result, refused, accepted, read}
 use Rattle.rows.specs.Rows.{rowLevels, answerBytes, zeros, filledWith}
 use Rattle.asking.specs.declared.Outcome.{Outcome}
 

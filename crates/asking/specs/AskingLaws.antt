@@ -12,9 +12,9 @@ use Rattle.leaves.specs.HeightLaws.{c-most}
 use Rattle.systems.specs.Questions.{Question, WellFormed, questionHeight, firstCount}
 use Rattle.systems.specs.Answers.{Answer, satisfied, unsatisfied, vacuous, entailed, unmet, missed, heightGiven}
 use Rattle.systems.specs.Heights.{question-bounds}
-use Rattle.questions.specs.Format.{Result, refused, accepted, read}
-use Rattle.questions.specs.FormatLaws.{Limited}
-use Rattle.questions.specs.declared.Section.the-variants.{FirstDisequation}
+use Rattle.format.specs.Format.{Result, refused, accepted, read}
+use Rattle.format.specs.FormatLaws.{Limited}
+use Rattle.format.specs.declared.Section.the-variants.{FirstDisequation}
 use Rattle.rows.specs.Rows.{rowLevels, answerBytes, zeros}
 use Rattle.asking.specs.Asking.{workBytes, turnedAway, answered, lentTo, asked}
 

@@ -7,9 +7,9 @@ use lib.ListN.{length, drop}
 use Rattle.systems.specs.Questions.{Question, questionHeight}
 use Rattle.systems.specs.Answers.{shows, heightGiven}
 use Rattle.plans.specs.declared.Plan.{Plan}
-use Rattle.questions.specs.Stored.{Stored}
-use Rattle.questions.specs.declared.Reading.{Reading}
-use Rattle.questions.specs.Callers.{Taken}
+use Rattle.format.specs.Stored.{Stored}
+use Rattle.format.specs.declared.Reading.{Reading}
+use Rattle.format.specs.Callers.{Taken}
 use Rattle.rows.specs.Rows.{rowLevels, answerBytes, zeros}
 use Rattle.rows.specs.RowLaws.{filled-ext}
 use Rattle.show.specs.Plans as shown

@@ -1,7 +1,7 @@
 // Asking: reads a question, decides it, and leaves its answer in the lent bytes.
 use decide::Decision;
 use decide::Finding;
-use questions::Question;
+use format::Question;
 use rows::ANSWER_BYTES;
 ghost use mathlib.Core.Path.{_≡_};
 ghost use mathlib.Core.List.{_++_};

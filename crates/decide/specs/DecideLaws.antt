@@ -17,9 +17,9 @@ use Rattle.systems.specs.Questions.{satisfiability, entailment, Question, quest
 use Rattle.systems.specs.Answers.{satisfied, unsatisfied, vacuous, entailed, unmet, missed, shows}
 use Rattle.systems.specs.AtLeaves.{firstAt, secondAt}
 use Rattle.systems.specs.Decide.{canSolve, someUnmet, lowestMissed, decideKind, decide}
-use Rattle.questions.specs.Stored.{Stored, Stands}
-use Rattle.questions.specs.KeepingLaws.{section-count}
-use Rattle.questions.specs.declared.Section.the-variants.{SecondDisequation}
+use Rattle.format.specs.Stored.{Stored, Stands}
+use Rattle.format.specs.KeepingLaws.{section-count}
+use Rattle.format.specs.declared.Section.the-variants.{SecondDisequation}
 use Rattle.steps.specs.Tests.{testsOf}
 use Rattle.steps.specs.declared.Search.{Search}
 use Rattle.steps.specs.declared.Search.the-variants.{First, Unmet, Missed}

@@ -10,8 +10,8 @@ use Rattle.leaves.specs.Heights.{c}
 use Rattle.systems.specs.Questions.{Kind, Question as Asked, WellFormed, tallestConstant, questionHeight, firstCount}
 use Rattle.systems.specs.Answers.{Answer, satisfied, unsatisfied, vacuous, entailed, unmet, missed, shows, heightGiven}
 use Rattle.systems.specs.Decide.{decide, shownAt}
-use Rattle.questions.specs.Stored.{Stored, storedOf, Stands}
-use Rattle.questions.specs.declared.Question.{Question}
+use Rattle.format.specs.Stored.{Stored, storedOf, Stands}
+use Rattle.format.specs.declared.Question.{Question}
 use Rattle.beside.specs.declared.Sizes.{Sizes}
 use Rattle.plans.specs.declared.Plan.{Plan}
 use Rattle.plans.specs.declared.Outline.{Outline}

@@ -9,7 +9,7 @@ use Rattle.leaves.specs.Choices.{least}
 use Rattle.leaves.specs.Problem.{Problem, solvable}
 use Rattle.leaves.specs.Numbers.{numbered, leafFor, specialChoice}
 use Rattle.leaves.specs.SameLaws.{solvable-same, block-same}
-use Rattle.questions.specs.Stored.{Stored, stored}
+use Rattle.format.specs.Stored.{Stored, stored}
 use Rattle.plans.specs.Pairs.{leafWidth, PairsOf}
 use Rattle.steps.specs.Tests.{Named}
 use Rattle.steps.specs.declared.Search.{Search}

@@ -9,9 +9,9 @@ use Rattle.leaves.specs.Heights.{c}
 use Rattle.leaves.specs.HeightLaws.{c-most}
 use Rattle.systems.specs.Questions.{Question, tallestConstant, questionHeight, firstCount}
 use Rattle.systems.specs.Answers.{shows, heightGiven}
-use Rattle.questions.specs.Stored.{Stored, Stands}
-use Rattle.questions.specs.KeepingLaws.{section-count}
-use Rattle.questions.specs.declared.Section.the-variants.{FirstDisequation}
+use Rattle.format.specs.Stored.{Stored, Stands}
+use Rattle.format.specs.KeepingLaws.{section-count}
+use Rattle.format.specs.declared.Section.the-variants.{FirstDisequation}
 use Rattle.steps.specs.Tests.{extraOf, roomOf}
 use Rattle.steps.specs.declared.Search.{Search}
 use Rattle.steps.specs.declared.Search.the-variants.{First, Unmet, Missed}

@@ -29,9 +29,9 @@ use Rattle.systems.specs.Questions.{Kind, satisfiability, entailment, Question,
 use Rattle.systems.specs.Answers.{Answer, satisfied, unsatisfied, vacuous, entailed, unmet, missed, shows, heightGiven}
 use Rattle.systems.specs.AtLeaves.{firstAt}
 use Rattle.systems.specs.Decide.{canSolve, someUnmet, lowestMissed, decideKind, decide, sharesOf, fixed, shownWith}
-use Rattle.questions.specs.Stored.{Stored, Stands}
-use Rattle.questions.specs.KeepingLaws.{section-count}
-use Rattle.questions.specs.declared.Section.the-variants.{SecondDisequation}
+use Rattle.format.specs.Stored.{Stored, Stands}
+use Rattle.format.specs.KeepingLaws.{section-count}
+use Rattle.format.specs.declared.Section.the-variants.{SecondDisequation}
 use Rattle.plans.specs.declared.Plan.{Plan}
 use Rattle.plans.specs.Shown as shown
 use Rattle.plans.specs.ShownLaws.{plan-shows}

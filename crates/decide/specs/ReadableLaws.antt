@@ -15,13 +15,13 @@ use Rattle.shares.specs.Constant.{constantLevels}
 use Rattle.systems.specs.Questions.{Question, questionHeight, tallestConstant}
 use Rattle.systems.specs.Heights.{tallest-low}
 use Rattle.words.specs.Clause.{testValue, clauseTest, Clauses}
-use Rattle.questions.specs.Format.{names, allNamed}
-use Rattle.questions.specs.Stored.{sectionStart, Stored, countOf, StoredClause, Stands}
-use Rattle.questions.specs.SectionLaws.{section-room, variables-le}
-use Rattle.questions.specs.Callers.{bytes-small}
-use Rattle.questions.specs.declared.Section.{Section}
-use Rattle.questions.specs.declared.Section.the-variants.{FirstPositive, FirstDisequation, SecondPositive, SecondDisequation}
-use Rattle.questions.specs.declared.Test.the-variants.{Join, Equality}
+use Rattle.format.specs.Format.{names, allNamed}
+use Rattle.format.specs.Stored.{sectionStart, Stored, countOf, StoredClause, Stands}
+use Rattle.format.specs.SectionLaws.{section-room, variables-le}
+use Rattle.format.specs.Callers.{bytes-small}
+use Rattle.format.specs.declared.Section.{Section}
+use Rattle.format.specs.declared.Section.the-variants.{FirstPositive, FirstDisequation, SecondPositive, SecondDisequation}
+use Rattle.format.specs.declared.Test.the-variants.{Join, Equality}
 use Rattle.beside.specs.Beside.{ReadsFree, Readable}
 
 -- one of four bytes

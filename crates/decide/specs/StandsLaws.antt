@@ -19,12 +19,12 @@ use Rattle.systems.specs.AtLeaves.{atomAt, allAt, bothAt, firstAt, secondAt}
 use Rattle.words.specs.Clause.{termValue}
 use Rattle.words.specs.Choices.{allPass, clauseFails, allPassBut, someOwn}
 use Rattle.words.specs.TermLaws.{position-free, value-variable, value-free, value-own}
-use Rattle.questions.specs.Format.{inSection, variablesFor}
-use Rattle.questions.specs.Stored.{sectionStart, Stored, countOf, StoredClause, Stands}
-use Rattle.questions.specs.KeepingLaws.{section-count}
-use Rattle.questions.specs.Callers.{atoms-at}
-use Rattle.questions.specs.declared.Section.{Section}
-use Rattle.questions.specs.declared.Section.the-variants.{FirstPositive, FirstDisequation, SecondPositive, SecondDisequation}
+use Rattle.format.specs.Format.{inSection, variablesFor}
+use Rattle.format.specs.Stored.{sectionStart, Stored, countOf, StoredClause, Stands}
+use Rattle.format.specs.KeepingLaws.{section-count}
+use Rattle.format.specs.Callers.{atoms-at}
+use Rattle.format.specs.declared.Section.{Section}
+use Rattle.format.specs.declared.Section.the-variants.{FirstPositive, FirstDisequation, SecondPositive, SecondDisequation}
 use Rattle.leaves.specs.Numbers.{numbered}
 use Rattle.leaves.specs.SameLaws.{solvable-same, candidate-same}
 use Rattle.steps.specs.Tests.{leafValues, firstMeets, firstDiffers, secondMeets, secondDiffers, specialIn, testsOf}

@@ -25,9 +25,9 @@ use Rattle.words.specs.Choices.{valuesAt}
 use Rattle.shares.specs.BitParts.{bit-low, bit-high}
 use Rattle.shares.specs.BelowLaws.{every-more}
 use Rattle.words.specs.TermLaws.{value-constant}
-use Rattle.questions.specs.Format.{termOf, names, allNamed, atomOf}
-use Rattle.questions.specs.declared.Test.the-variants.{Join, Equality}
-use Rattle.questions.specs.Stored.{storedAtom, atomsOf, Stored, StoredClause}
+use Rattle.format.specs.Format.{termOf, names, allNamed, atomOf}
+use Rattle.format.specs.declared.Test.the-variants.{Join, Equality}
+use Rattle.format.specs.Stored.{storedAtom, atomsOf, Stored, StoredClause}
 use Rattle.steps.specs.Tests.{leafValues}
 
 -- ---- a row's values are the digits of its number

@@ -1,8 +1,8 @@
 // Deciding a question that was read: which searches have a solution, and the plan of the one to show.
 use beside::Sizes;
+use format::Question;
 use plans::Outline;
 use plans::Plan;
-use questions::Question;
 use steps::Search;
 ghost use mathlib.Core.Path.{_≡_};
 ghost use Prim.Native.Nat.{ℕ, _^_, _<_, _≤_, max};
@@ -11,7 +11,7 @@ ghost use lib.ListN.{length, getD, take, replicate};
 ghost use Rattle.shares.specs.Constant.{constantLevels};
 ghost use Rattle.systems.specs.Questions.{satisfiability, entailment, Question as Asked, WellFormed, tallestConstant, questionHeight};
 ghost use Rattle.systems.specs.Answers.{shows, heightGiven};
-ghost use Rattle.questions.specs.Stored.{storedOf, Stands};
+ghost use Rattle.format.specs.Stored.{storedOf, Stands};
 ghost use Rattle.beside.specs.Beside.{Readable};
 ghost use Rattle.steps.specs.Tests.{extraOf, roomOf};
 ghost use Rattle.decide.specs.Decision.{Standing, sizesOf, answerOf, searchOf, Decided, DecidedAs, StandsFor, DecidedFor, outlineOf, Planned};

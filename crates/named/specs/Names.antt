@@ -8,7 +8,7 @@ use lib.Dec.{ltb, eqb}
 use lib.ListN.{getD}
 use Rattle.shares.specs.Below.{someBelow}
 use Rattle.leaves.specs.Problem.{Problem}
-use Rattle.questions.specs.Stored.{Stored}
+use Rattle.format.specs.Stored.{Stored}
 use Rattle.steps.specs.Tests.{Named, testsOf}
 use Rattle.steps.specs.declared.Search.{Search}
 

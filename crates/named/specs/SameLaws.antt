@@ -14,7 +14,7 @@ use Rattle.shares.specs.Blocks.{firstOf}
 use Rattle.shares.specs.Constant.{bit, constantLevels}
 use Rattle.shares.specs.BitLaws.{bit-number}
 use Rattle.shares.specs.Test.{is-true}
-use Rattle.questions.specs.Stored.{Stored, stored}
+use Rattle.format.specs.Stored.{Stored, stored}
 use Rattle.words.specs.Clause.{clauseTest, allClauses, termValue, Clauses}
 use Rattle.words.specs.Choices.{valuesAt, allPass, clauseFails, allPassBut, someOwn}
 use Rattle.words.specs.TermLaws.{value-variable, value-constant, value-none}

@@ -18,7 +18,7 @@ use Rattle.shares.specs.Below.{someBelow, firstBelow}
 use Rattle.shares.specs.BelowLaws.{every-more, every-at, some-found, some-intro, first-longer}
 use Rattle.shares.specs.Constant.{bit}
 use Rattle.shares.specs.BitLaws.{bit-zero, bit-and}
-use Rattle.questions.specs.Stored.{Stored}
+use Rattle.format.specs.Stored.{Stored}
 use Rattle.words.specs.Choices.{wordCount}
 use Rattle.entries.specs.BitLaws.{bit-added}
 use Rattle.entries.specs.Entry.{Entry}

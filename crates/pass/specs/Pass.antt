@@ -7,7 +7,7 @@ use lib.Dec.{T}
 use lib.ListN.{getD}
 use Rattle.shares.specs.Below.{everyBelow, someBelow, firstBelow}
 use Rattle.shares.specs.Constant.{bit}
-use Rattle.questions.specs.Stored.{Stored}
+use Rattle.format.specs.Stored.{Stored}
 use Rattle.words.specs.Choices.{wordCount}
 use Rattle.entries.specs.Entry.{Entry}
 use Rattle.plans.specs.Pairs.{leafWidth}

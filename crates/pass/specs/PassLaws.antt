@@ -16,7 +16,7 @@ use Rattle.shares.specs.BelowLaws.{every-at, every-intro}
 use Rattle.shares.specs.Constant.{bit}
 use Rattle.shares.specs.BitLaws.{bit-zero, bit-number, number-lt}
 use Rattle.shares.specs.BitParts.{bit-ones, bit-beyond}
-use Rattle.questions.specs.Stored.{Stored}
+use Rattle.format.specs.Stored.{Stored}
 use Rattle.words.specs.Choices.{wordCount, valuesAt}
 use Rattle.words.specs.Table.{Within}
 use Rattle.entries.specs.Entry.{Entry}

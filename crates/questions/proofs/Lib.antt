@@ -1,2 +1,1 @@
-pub mod CommandFacts
 pub mod Turns

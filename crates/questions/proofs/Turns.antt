@@ -9,19 +9,19 @@ use lib.Dec.{eqb}
 use lib.ListN.{length, getD, replicate}
 use Rattle.systems.specs.Clauses.{positives, disequations}
 use Rattle.systems.specs.Questions.{Question, satisfiability, entailment}
-use Rattle.questions.specs.declared.Section.{Section}
-use Rattle.questions.specs.declared.Section.the-variants.{FirstPositive, FirstDisequation, SecondPositive, SecondDisequation}
-use Rattle.questions.specs.declared.Command.{Command}
-use Rattle.questions.specs.declared.Head.{Head}
-use Rattle.questions.specs.declared.Head.the-variants.{Opens, Wrong}
-use Rattle.questions.specs.declared.Step.{Step}
-use Rattle.questions.specs.declared.Step.the-variants.{Take, Refused}
-use Rattle.questions.specs.declared.Reading.{Reading}
-use Rattle.questions.specs.Format.{Result, refused, accepted, readAt, fault, judged, taken, ended, go, stop, onward, turn, following, run, headFits, kindFrom, mostOf, inSection, opened, headOf, read}
-use Rattle.questions.specs.Stored.{kindNumber, clauseBytes, sectionStart, atomsOf, Stored, stored, storedOf, countOf, Stands, readingOf, writtenOnward, writtenBy, clausesAfter}
-use Rattle.questions.specs.Keeping.{keptConstants, constantCount, keptClauses, clauseCounts, judgedOf, refusalOf, isEnd, wrongOf}
-use Rattle.questions.specs.FormatLaws.{judged-take, size-some, Whole, read-whole, branch, Sound, Stay, Kept, turn-kept, head-fits, opened-sound, HeadRight, head-right}
-use Rattle.questions.specs.KeepingLaws.{Bytes, ProperStep, read-proper, judged-same, kept, ZerosPast, zeros-kept, written-same, stands-taken, held-as}
+use Rattle.format.specs.declared.Section.{Section}
+use Rattle.format.specs.declared.Section.the-variants.{FirstPositive, FirstDisequation, SecondPositive, SecondDisequation}
+use Rattle.format.specs.declared.Command.{Command}
+use Rattle.format.specs.declared.Head.{Head}
+use Rattle.format.specs.declared.Head.the-variants.{Opens, Wrong}
+use Rattle.format.specs.declared.Step.{Step}
+use Rattle.format.specs.declared.Step.the-variants.{Take, Refused}
+use Rattle.format.specs.declared.Reading.{Reading}
+use Rattle.format.specs.Format.{Result, refused, accepted, readAt, fault, judged, taken, ended, go, stop, onward, turn, following, run, headFits, kindFrom, mostOf, inSection, opened, headOf, read}
+use Rattle.format.specs.Stored.{kindNumber, clauseBytes, sectionStart, atomsOf, Stored, stored, storedOf, countOf, Stands, readingOf, writtenOnward, writtenBy, clausesAfter}
+use Rattle.format.specs.Keeping.{keptConstants, constantCount, keptClauses, clauseCounts, judgedOf, refusalOf, isEnd, wrongOf}
+use Rattle.format.specs.FormatLaws.{judged-take, size-some, Whole, read-whole, branch, Sound, Stay, Kept, turn-kept, head-fits, opened-sound, HeadRight, head-right}
+use Rattle.format.specs.KeepingLaws.{Bytes, ProperStep, read-proper, judged-same, kept, ZerosPast, zeros-kept, written-same, stands-taken, held-as}
 
 -- ---- where the reading stands: some turns from here give what the whole reading gives
 

@@ -1,12 +1,11 @@
 // A command that has no fault is kept: a constant, or a clause in its section.
-use crate::Command;
-use crate::fault;
-use crate::table;
+use faults::sections;
+use format::Command;
 ghost use mathlib.Core.Path.{_≡_};
 ghost use Prim.Native.Nat.{_+_, _≤_};
 ghost use lib.ListN.{length};
-ghost use Rattle.questions.specs.Stored.{clauseBytes, clauseWritten};
-ghost use Rattle.questions.specs.Keeping.{keptConstants, constantCount, keptClauses, clauseCounts, Slot};
+ghost use Rattle.format.specs.Stored.{clauseBytes, clauseWritten};
+ghost use Rattle.format.specs.Keeping.{keptConstants, constantCount, keptClauses, clauseCounts, Slot};
 
 pub fn keep_constant(constants: &mut [u64], count: usize, command: Command) -> usize
     requires { ⌜ constantCount count command ≤ length (now constants) ⌝ }
@@ -55,8 +54,8 @@ pub fn keep_clause(clauses: &mut [u8], counts: &[usize; 4], command: Command)
             b,
             c,
         } => {
-            let i = table::section_start(section) + 4 * fault::section_count(counts, section);
-            store(clauses, i, table::test_number(test), a, b, c)
+            let i = sections::section_start(section) + 4 * faults::section_count(counts, section);
+            store(clauses, i, sections::test_number(test), a, b, c)
         }
     }
 }
@@ -76,7 +75,7 @@ pub fn count_clause(counts: &mut [usize; 4], command: Command)
             b: _,
             c: _,
         } => {
-            let i = table::section_number(section);
+            let i = sections::section_number(section);
             counts[i] += 1;
         }
     }

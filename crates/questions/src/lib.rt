@@ -1,90 +1,20 @@
 // The reader of questions: a byte string becomes a question, or is refused with a number and a place.
-mod commands;
-mod fault;
 mod keep;
-mod opening;
-mod table;
 
+use commands::opening;
+use format::Command;
+use format::Head;
+use format::Question;
+use format::Reading;
+use format::Step;
 ghost use mathlib.Core.Path.{_≡_};
 ghost use mathlib.Core.Bool.{true};
 ghost use Prim.Native.Nat.{_≤_};
 ghost use lib.ListN.{length};
 ghost use Rattle.systems.specs.Questions.{Question as Asked};
-ghost use Rattle.questions.specs.Format.{refused, accepted, headFits, opened, run, read};
-ghost use Rattle.questions.specs.Stored.{clauseBytes, storedOf, Stands, readingOf, writtenBy, clausesAfter};
-ghost use Rattle.questions.specs.Keeping.{isEnd};
-
-// The positive clauses and the disequations of each system.
-pub enum Section {
-    FirstPositive,
-    FirstDisequation,
-    SecondPositive,
-    SecondDisequation,
-}
-
-// What a clause says or denies: "a join b is c", or "a is b".
-pub enum Test {
-    Join,
-    Equality,
-}
-
-// What a command byte announces.
-pub enum Shape {
-    End,
-    Head,
-    Constant,
-    Clause(Section, Test),
-}
-
-pub enum Entry {
-    Known(Shape),
-    Unknown,
-}
-
-// A command with its operands.
-pub enum Command {
-    End,
-    Head,
-    Constant(u64),
-    Clause {
-        section: Section,
-        test: Test,
-        a: u8,
-        b: u8,
-        c: u8,
-    },
-}
-
-// What reading one command gives: the command and the offset after it, or the number of its refusal.
-pub enum Step {
-    Take { command: Command, next: usize },
-    Refused(u8),
-}
-
-pub enum Head {
-    Opens { kind: u8, free: usize, own: usize },
-    Wrong(u8),
-}
-
-// A question that was read: its kind (0 satisfiability, 1 entailment), its free and own variables, its constants, of which so many are
-// defined, and how many clauses each section has. The clauses themselves are bytes beside it, four a clause: its test (0 join, 1
-// equality) and its terms (the third is 0 for an equality). Sections: 0 first positive, from byte 0; 1 first disequations, from 256;
-// 2 second positive, from 384; 3 second disequations, from 640.
-pub struct Question {
-    pub kind: u8,
-    pub free: usize,
-    pub own: usize,
-    pub constants: [u64; 32],
-    pub defined: usize,
-    pub counts: [usize; 4],
-}
-
-// What reading gives: refusal 0 and the question, or a refusal with its place and a question whose fields are 0.
-pub struct Reading {
-    pub refusal: u8,
-    pub place: usize,
-    pub question: Question,
-}
+ghost use Rattle.format.specs.Format.{refused, accepted, headFits, opened, run, read};
+ghost use Rattle.format.specs.Stored.{clauseBytes, storedOf, Stands, readingOf, writtenBy, clausesAfter};
+ghost use Rattle.format.specs.Keeping.{isEnd};
 
 fn refused(refusal: u8, place: usize) -> Reading
     ensures { λ r. ⌜ r ≡ readingOf (refused refusal place) ⌝ }
@@ -135,9 +65,9 @@ fn read_commands(bytes: &[u8], kind: u8, free: usize, own: usize, clauses: &mut 
     let mut defined: usize = 0;
     let mut at: usize = 4;
     loop {
-        let r = fault::read_command(bytes, at, kind, free, own, defined, &counts);
+        let r = faults::read_command(bytes, at, kind, free, own, defined, &counts);
         let Step::Take { command, next } = r else {
-            return refused(fault::refusal_of(r), at);
+            return refused(faults::refusal_of(r), at);
         };
         if is_end(command) {
             if next == bytes.len() {

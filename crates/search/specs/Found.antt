@@ -10,7 +10,7 @@ use Rattle.shares.specs.Constant.{bit}
 use Rattle.leaves.specs.Choices.{least}
 use Rattle.leaves.specs.Problem.{solvable}
 use Rattle.leaves.specs.Numbers.{numbered}
-use Rattle.questions.specs.Stored.{Stored}
+use Rattle.format.specs.Stored.{Stored}
 use Rattle.plans.specs.Pairs.{PairsOf}
 use Rattle.steps.specs.Tests.{extraOf, testsOf}
 use Rattle.steps.specs.declared.Search.{Search}

@@ -13,7 +13,7 @@ use Rattle.shares.specs.Test.{is-true, of-true, of-false, and-left, and-right}
 use Rattle.shares.specs.Below.{everyBelow, someBelow, firstBelow}
 use Rattle.shares.specs.BelowLaws.{every-at, every-ext, some-ext, first-ext}
 use Rattle.shares.specs.Constant.{bit}
-use Rattle.questions.specs.Stored.{Stored}
+use Rattle.format.specs.Stored.{Stored}
 use Rattle.words.specs.Choices.{wordCount}
 use Rattle.entries.specs.Entry.{Entry}
 use Rattle.plans.specs.Pairs.{leafWidth, slotOf, PairsOf}

@@ -6,7 +6,7 @@ use Prim.Native.Nat.{ℕ, _+_, _-_, _*_}
 use native.Mathlib.Omega.{arith}
 use lib.Dec.{ltb}
 use borrow.Author.Tests.{le-ltb}
-use Rattle.questions.specs.Stored.{Stored}
+use Rattle.format.specs.Stored.{Stored}
 use Rattle.words.specs.Choices.{clauseFails, Periodic}
 use Rattle.steps.specs.Tests.{leafValues, secondMeets, specialIn, extraOf, testsOf}
 use Rattle.steps.specs.TestLaws.{fails-periodic, meets-periodic, allowed-periodic}

@@ -10,7 +10,7 @@ use lib.ListN.{getD}
 use Rattle.shares.specs.Below.{someBelow}
 use Rattle.shares.specs.BelowLaws.{some-ext, some-none}
 use Rattle.shares.specs.Constant.{bit}
-use Rattle.questions.specs.Stored.{Stored}
+use Rattle.format.specs.Stored.{Stored}
 use Rattle.words.specs.Clause.{clauseTest}
 use Rattle.words.specs.Choices.{wordCount}
 use Rattle.words.specs.Table.{Terms}

@@ -8,7 +8,7 @@ use lib.Dec.{T}
 use lib.ListN.{getD}
 use Rattle.shares.specs.Below.{someBelow}
 use Rattle.shares.specs.Constant.{bit}
-use Rattle.questions.specs.Stored.{Stored, stored}
+use Rattle.format.specs.Stored.{Stored, stored}
 use Rattle.words.specs.Choices.{wordCount}
 use Rattle.words.specs.Table.{Terms, Within}
 use Rattle.beside.specs.declared.Sizes.{Sizes}

@@ -8,7 +8,7 @@ use native.Mathlib.Omega.{arith}
 use lib.ListN.{getD}
 use Rattle.shares.specs.BelowLaws.{every-ext}
 use Rattle.shares.specs.Constant.{bit}
-use Rattle.questions.specs.Stored.{Stored}
+use Rattle.format.specs.Stored.{Stored}
 use Rattle.words.specs.Clause.{clauseTest, allClauses, termValue}
 use Rattle.words.specs.ClauseLaws.{clauses-at}
 use Rattle.words.specs.Choices.{wordCount, allPass, clauseFails, someOwn, Periodic}

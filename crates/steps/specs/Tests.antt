@@ -5,7 +5,7 @@ use Prim.Native.Nat.{ℕ, _+_, _-_, _*_, _%_, _^_, _<_}
 use lib.Dec.{ltb}
 use lib.ListN.{getD}
 use Rattle.leaves.specs.Problem.{Problem}
-use Rattle.questions.specs.Stored.{Stored}
+use Rattle.format.specs.Stored.{Stored}
 use Rattle.words.specs.Choices.{valuesAt, allPass, clauseFails, allPassBut, someOwn}
 use Rattle.steps.specs.declared.Search.{Search}
 use Rattle.steps.specs.declared.Search.the-variants.{First, Unmet, Missed}

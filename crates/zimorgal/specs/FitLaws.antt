@@ -10,9 +10,9 @@ use Rattle.systems.specs.Questions.{Question, WellFormed}
 use Rattle.systems.specs.Answers.{Answer, satisfied, unsatisfied, vacuous, entailed, unmet, missed, Says, verdict, reason, disequationNumber}
 use Rattle.systems.specs.Decide.{decide}
 use Rattle.systems.specs.Heights.{exact}
-use Rattle.questions.specs.Format.{Result, refused, accepted, read}
-use Rattle.questions.specs.FormatLaws.{longest, Limited, accepted-formed, accepted-limited, refusal-number, refusal-place}
-use Rattle.questions.specs.declared.Section.the-variants.{SecondDisequation}
+use Rattle.format.specs.Format.{Result, refused, accepted, read}
+use Rattle.format.specs.FormatLaws.{longest, Limited, accepted-formed, accepted-limited, refusal-number, refusal-place}
+use Rattle.format.specs.declared.Section.the-variants.{SecondDisequation}
 use Rattle.rows.specs.Rows.{answerBytes}
 use Rattle.asking.specs.Asking.{workBytes, Asked, turnedAway, answered, lentTo, asked, outcomeOf}
 use Rattle.asking.specs.AskingLaws.{height-low}

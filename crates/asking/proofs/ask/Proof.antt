@@ -1,6 +1,6 @@
 -- `asking::ask` meets its contract: each refusal by what was read and the lengths, an answer by what was decided. Assumes nothing.
 use lib.ListN.{length}
-use Rattle.questions.specs.Callers.{answer-taken, answer-refused}
+use Rattle.format.specs.Callers.{answer-taken, answer-refused}
 use Rattle.asking.specs.AskingLaws.{asked-refused, asked-11, asked-12}
 use Rattle.asking.specs.AskedRight.{given-refused}
 use Rattle.asking.specs.DecidedLaws.{given-answer}

@@ -1,7 +1,7 @@
 -- `decide::decide` meets its contract: the kind of the question says what is decided. Assumes nothing.
 use native.Mathlib.Omega.{arith}
 use borrow.Author.Needs.{needs}
-use Rattle.questions.specs.Callers.{kind-satisfiability, kind-entailment}
+use Rattle.format.specs.Callers.{kind-satisfiability, kind-entailment}
 use Rattle.decide.specs.ReadableLaws.{readable, height-is, question-low}
 use Rattle.decide.proofs.decide.Statement.{statement}
 use Rattle.decide.proofs.decide.Tie as tie

@@ -2,7 +2,7 @@
 use native.Mathlib.Omega.{arith}
 use lib.ListN.{getD}
 use borrow.Author.Needs.{needs}
-use Rattle.questions.specs.declared.Section.the-variants.{FirstDisequation}
+use Rattle.format.specs.declared.Section.the-variants.{FirstDisequation}
 use Rattle.decide.specs.OutlineLaws.{room-most, outline-is}
 use Rattle.decide.proofs.outline.Statement.{statement}
 use Rattle.decide.proofs.outline.Tie as tie

@@ -4,10 +4,10 @@ use Prim.Native.Nat.{_-_}
 use native.Mathlib.Omega.{arith}
 use lib.ListN.{length}
 use borrow.Author.Needs.{needs}
-use Rattle.questions.specs.Format.{fault, opened}
-use Rattle.questions.specs.Stored.{stored}
-use Rattle.questions.specs.FormatLaws.{size-some}
-use Rattle.questions.specs.KeepingLaws.{room-constant, room-clause}
+use Rattle.format.specs.Format.{fault, opened}
+use Rattle.format.specs.Stored.{stored}
+use Rattle.format.specs.FormatLaws.{size-some}
+use Rattle.format.specs.KeepingLaws.{room-constant, room-clause}
 use Rattle.questions.proofs.Turns.{Going, begins, refused-turn, whole, no-fault, accepted-turn, after-end, goes, going-kept}
 use Rattle.questions.proofs.read_commands.Statement.{statement}
 use Rattle.questions.proofs.read_commands.Tie as tie

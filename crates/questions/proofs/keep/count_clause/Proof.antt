@@ -2,8 +2,8 @@
 use mathlib.Core.Path.{subst}
 use native.Mathlib.Omega.{arith}
 use borrow.Author.Needs.{needs}
-use Rattle.questions.specs.Keeping.{Slot}
-use Rattle.questions.specs.SectionLaws.{section-below}
+use Rattle.format.specs.Keeping.{Slot}
+use Rattle.format.specs.SectionLaws.{section-below}
 use Rattle.questions.proofs.keep.count_clause.Statement.{statement}
 use Rattle.questions.proofs.keep.count_clause.Tie as tie
 

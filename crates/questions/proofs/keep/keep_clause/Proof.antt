@@ -2,7 +2,7 @@
 use mathlib.Core.Path.{subst}
 use native.Mathlib.Omega.{arith}
 use borrow.Author.Needs.{needs}
-use Rattle.questions.specs.Keeping.{Slot}
+use Rattle.format.specs.Keeping.{Slot}
 use Rattle.questions.proofs.keep.keep_clause.Statement.{statement}
 use Rattle.questions.proofs.keep.keep_clause.Tie as tie
 

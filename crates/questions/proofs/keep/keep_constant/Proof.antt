@@ -2,7 +2,7 @@
 use mathlib.Core.Path.{refl, ap}
 use native.Mathlib.Omega.{arith}
 use borrow.Author.Needs.{needs}
-use Rattle.questions.specs.Keeping.{constantCount}
+use Rattle.format.specs.Keeping.{constantCount}
 use Rattle.questions.proofs.keep.keep_constant.Statement.{statement}
 use Rattle.questions.proofs.keep.keep_constant.Tie as tie
 

@@ -1,0 +1,33 @@
+-- Facts of commands and the head that the functions' proofs cite. Assumes nothing.
+use mathlib.Core.Path.{_≡_}
+use mathlib.Core.Bool.{Bool, cond}
+use mathlib.Core.List.{List}
+use Prim.Native.Nat.{ℕ, suc, _+_, _*_, _≤_}
+use native.Mathlib.Numerals.{add-one, add-two, add-three}
+use native.Mathlib.Omega.{arith}
+use borrow.Author.Tests.{lt-ltb, le-ltb, eq-eqb}
+use lib.ListN.{length, getD, take, drop}
+use lib.Seq.{drop-cons}
+use Rattle.shares.specs.Constant.{number}
+use Rattle.format.specs.declared.Test.{Test}
+use Rattle.format.specs.declared.Test.the-variants.{Join, Equality}
+use Rattle.format.specs.declared.Head.the-variants.{Opens, Wrong}
+use Rattle.format.specs.Format.{termCount, headFits, headOf}
+
+pub two-terms : (t : Test) → 2 ≤ termCount t
+two-terms Join = omega arith
+two-terms Equality = omega arith
+
+-- four bytes of a list, as the number that they make
+pub four-bytes : (s : List ℕ) (i : ℕ) → i + 4 ≤ length s
+    → number (take 4 (drop i s)) ≡ ((getD s (i + 3) 0 * 256 + getD s (i + 2) 0) * 256 + getD s (i + 1) 0) * 256 + getD s i 0
+unfolding number
+four-bytes s i h =
+    rw (drop-cons s i 0 (omega arith), drop-cons s (suc i) 0 (omega arith), drop-cons s (suc (suc i)) 0 (omega arith), drop-cons s (suc (suc (suc i))) 0 (omega arith))
+    (rw (add-one i, add-two i, add-three i) (omega arith))
+
+-- a head that is there and whole fits or is refused by 5
+pub whole-head : (s : List ℕ) (n m : ℕ) (b : Bool) → 1 ≤ length s → getD s 0 0 ≡ 1 → 4 ≤ length s → n ≡ getD s 2 0 → m ≡ getD s 3 0
+    → b ≡ headFits (getD s 1 0) n m → cond b (Opens (getD s 1 0) n m) (Wrong 5) ≡ headOf s
+unfolding headOf
+whole-head s n m b l e w p q r = rw (r, p, q) (simp (lt-ltb 0 (length s) l, eq-eqb (getD s 0 0) 1 e, le-ltb (length s) 4 w))

@@ -1,0 +1,59 @@
+// The numbers of sections and tests.
+use format::Section;
+use format::Test;
+ghost use mathlib.Core.Path.{_≡_};
+ghost use Rattle.format.specs.Format.{isSecond, mostOf};
+ghost use Rattle.format.specs.Stored.{sectionNumber, testNumber, sectionStart};
+
+pub fn test_number(test: Test) -> u8
+    ensures { λ r. ⌜ r ≡ testNumber test ⌝ }
+{
+    match test {
+        Test::Join => 0,
+        Test::Equality => 1,
+    }
+}
+
+pub fn section_number(section: Section) -> usize
+    ensures { λ r. ⌜ r ≡ sectionNumber section ⌝ }
+{
+    match section {
+        Section::FirstPositive => 0,
+        Section::FirstDisequation => 1,
+        Section::SecondPositive => 2,
+        Section::SecondDisequation => 3,
+    }
+}
+
+// Where each section starts among the clauses' bytes.
+const STARTS: [usize; 4] = [0, 256, 384, 640];
+
+pub fn section_start(section: Section) -> usize
+    ensures { λ r. ⌜ r ≡ sectionStart section ⌝ }
+{
+    let i = section_number(section);
+    STARTS[i]
+}
+
+// How many clauses a section may have.
+pub fn most_of(section: Section) -> usize
+    ensures { λ r. ⌜ r ≡ mostOf section ⌝ }
+{
+    match section {
+        Section::FirstPositive => 64,
+        Section::FirstDisequation => 31,
+        Section::SecondPositive => 64,
+        Section::SecondDisequation => 31,
+    }
+}
+
+pub fn is_second(section: Section) -> bool
+    ensures { λ r. ⌜ r ≡ isSecond section ⌝ }
+{
+    match section {
+        Section::FirstPositive => false,
+        Section::FirstDisequation => false,
+        Section::SecondPositive => true,
+        Section::SecondDisequation => true,
+    }
+}

@@ -1,0 +1,85 @@
+-- What a caller of the reader may rely on: its answer, and what is stored of the question. Assumes nothing.
+use mathlib.Core.Path.{_≡_, refl, sym, ap, _∙_}
+use mathlib.Core.List.{List, [], _∷_, _++_}
+use mathlib.Core.Logic.{_⊎_, inl, inr}
+use Prim.Native.Nat.{ℕ, zero, suc, _+_, _*_, _≤_, _<_}
+use native.Mathlib.Nat.{eq-or-lt-of-le, le-of-suc-le-suc, not-suc-le-zero}
+use native.Mathlib.Omega.{arith}
+use lib.Dec.{T}
+use lib.ListN.{getD, List·getD-append}
+use lib.Seq.{getD-at}
+use Rattle.shares.specs.Test.{and-left, and-right}
+use Rattle.systems.specs.Clauses.{Atom}
+use Rattle.systems.specs.Questions.{Kind, satisfiability, entailment, Question, WellFormed}
+use Rattle.format.specs.declared.Reading.{Reading}
+use Rattle.format.specs.Format.{Result, refused, accepted, names, read}
+use Rattle.format.specs.Stored.{kindNumber, storedAtom, atomsOf, Stored, storedOf, StoredClause, Stands, readingOf}
+use Rattle.format.specs.FormatLaws.{accepted-formed, refusal-number}
+use Rattle.format.specs.KeepingLaws.{atoms-length, named-small}
+
+-- ---- the answer
+
+-- refusal 0: the bytes are those of a question, and what is stored stands for it
+pub record Taken (s : List ℕ) (r : Reading) (clauses : List ℕ) : Type 0 where
+  pub question : Question
+  pub read : read s ≡ accepted question
+  pub stands : Stands (r .question .kind) (storedOf (r .question) clauses) question
+  pub formed : WellFormed question
+
+module _ (s : List ℕ) (r : Reading) (e : r ≡ readingOf (read s)) where
+  pub answer-taken : (clauses : List ℕ) → ((q : Question) → read s ≡ accepted q → Stands (r .question .kind) (storedOf (r .question) clauses) q)
+      → r .refusal ≡ 0 → Taken s r clauses
+  answer-taken clauses d z = pick (read s) refl e
+    where
+      pick : (o : Result) → read s ≡ o → r ≡ readingOf o → Taken s r clauses
+      pick (accepted q) h b = record { question = q; read = h; stands = d q h; formed = accepted-formed s q h }
+      pick (refused n p) h b = absurd (omega (arith, refusal-number s n p h .0, ap (λ r. r .refusal) b))
+
+  -- any other: its number and its place are those of the definition
+  pub answer-refused : (r .refusal ≡ 0 → ⊥) → read s ≡ refused (r .refusal) (r .place)
+  answer-refused z = pick (read s) refl e
+    where
+      pick : (o : Result) → read s ≡ o → r ≡ readingOf o → read s ≡ refused (r .refusal) (r .place)
+      pick (accepted q) h b = absurd (z (ap (λ r. r .refusal) b))
+      pick (refused n p) h b = rw b h
+
+-- ---- the kind
+
+module _ {k : ℕ} (x : Stored) (q : Question) (d : Stands k x q) where
+  pub kind-satisfiability : k ≡ 0 → q .kind ≡ satisfiability
+  kind-satisfiability e = pick (q .kind) (sym (d .kind) ∙ e)
+    where
+      pick : (o : Kind) → kindNumber o ≡ 0 → o ≡ satisfiability
+      pick satisfiability f = refl
+      pick entailment f = absurd (omega arith)
+
+  pub kind-entailment : (k ≡ 0 → ⊥) → q .kind ≡ entailment
+  kind-entailment e = pick (q .kind) (d .kind)
+    where
+      pick : (o : Kind) → k ≡ kindNumber o → o ≡ entailment
+      pick satisfiability f = absurd (e f)
+      pick entailment f = refl
+
+-- ---- clauses in bytes
+
+-- clause number i of n that start at an offset
+pub atoms-at : (l : List ℕ) (start n i : ℕ) (a : Atom) → i < n → getD (atomsOf l start n) i a ≡ storedAtom l (start + 4 * i)
+unfolding atomsOf
+atoms-at l start zero i a h = absurd (not-suc-le-zero h)
+atoms-at l start (suc n) i a h = pick (eq-or-lt-of-le (le-of-suc-le-suc h)) (atoms-at l start n i a)
+  where
+    pick : (i ≡ n) ⊎ (i < n) → (i < n → getD (atomsOf l start n) i a ≡ storedAtom l (start + 4 * i))
+        → getD (atomsOf l start n ++ (storedAtom l (start + 4 * n) ∷ [])) i a ≡ storedAtom l (start + 4 * i)
+    pick (inl e) ih = getD-at (atomsOf l start n) (storedAtom l (start + 4 * n)) [] a i (atoms-length l start n ∙ sym e) ∙ ap (λ j. storedAtom l (start + 4 * j)) (sym e)
+    pick (inr k) ih = List·getD-append (atomsOf l start n) (storedAtom l (start + 4 * n) ∷ []) a i (rw atoms-length k) ∙ ih k
+
+-- the terms of a stored clause
+module _ (n k t a b c : ℕ) (d : StoredClause n k t a b c) where
+  first-named : T (names n k a)
+  first-named = and-left (names n k a) _ (d .named)
+
+  second-named : T (names n k b)
+  second-named = and-left (names n k b) _ (and-right (names n k a) _ (d .named))
+
+  pub bytes-small : n ≤ 32 → k ≤ 32 → (a < 64) × (b < 64) × (c < 64)
+  bytes-small hn hk = (named-small n k a hn hk first-named, named-small n k b hn hk second-named, d .third)

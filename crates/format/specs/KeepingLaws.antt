@@ -1,0 +1,462 @@
+-- Laws of what is kept of a question: its counts, its faults, and one command more. Assumes nothing.
+use mathlib.Core.Path.{_≡_, refl, sym, ap, ap₂, _∙_}
+use mathlib.Core.Bool.{Bool, true, false, cond}
+use mathlib.Core.List.{List, [], _∷_, _++_}
+use mathlib.Core.Logic.{_⊎_, inl, inr, _≢_}
+use Prim.Native.Nat.{ℕ, zero, suc, _+_, _-_, _*_, _^_, _≤_, _<_}
+use native.Mathlib.Nat.{eq-or-lt-of-le, le-of-suc-le-suc, le-trans}
+use native.Mathlib.Numerals.{add-one}
+use native.Mathlib.Omega.{arith}
+use lib.Dec.{T, eqb, ltb, leb, ltb→lt}
+use lib.ListN.{length, getD, set, take, drop, replicate, length-set, length-append, length-take, length-drop, length-replicate, getD-replicate, take-append-drop}
+use lib.Pow.{pow-add, pow-mono}
+use lib.Seq.{length-take-le, take-suc-set, getD-set-same, getD-set-other, getD-drop, ext-getD}
+use Rattle.shares.specs.Constant.{constantLevels, number}
+use Rattle.shares.specs.Test.{and-right}
+use Rattle.systems.specs.Questions.{Kind, satisfiability, entailment, Question}
+use Rattle.format.specs.declared.Section.{Section}
+use Rattle.format.specs.declared.Section.the-variants.{FirstPositive, FirstDisequation, SecondPositive, SecondDisequation}
+use Rattle.format.specs.declared.Test.{Test}
+use Rattle.format.specs.declared.Test.the-variants.{Join, Equality}
+use Rattle.format.specs.declared.Shape.{Shape}
+use Rattle.format.specs.declared.Entry.{Entry}
+use Rattle.format.specs.declared.Entry.the-variants.{Known, Unknown}
+use Rattle.format.specs.declared.Command.{Command}
+use Rattle.format.specs.declared.Head.{Head}
+use Rattle.format.specs.declared.Step.{Step}
+use Rattle.format.specs.declared.Question.{Question as Struct}
+use Rattle.format.specs.declared.Step.the-variants.{Take, Refused}
+use Rattle.format.specs.Format.{mostConstants, constantBytes, entryOf, operands, commandOf, wholeAt, readAt, mostOf, inSection, names, variablesFor, allNamed, atomOf, isForeign, constantFault, fault, judged, withClause, withConstant, taken}
+use Rattle.format.specs.Stored.{kindNumber, sectionNumber, testNumber, testOf, clauseBytes, sectionStart, storedAtom, atomsOf, Stored, stored, countOf, Counted, StoredClause, StoredAt, Stands, heldAs, clauseWritten, commandWritten}
+use Rattle.format.specs.Keeping.{nextSlot, keptConstants, constantCount, keptClauses, clauseCounts, Slot, clauseTotal, foreignTo, faultOf, judgedOf}
+use Rattle.format.specs.SectionLaws.{both-counts, added, Apart, Alike, same, other, alike, constant-sections, clause-keeps, section-below, slot-fits, variables-le}
+use Rattle.format.specs.FormatLaws.{branch, ClauseFits, clause-fits, ConstantFits, constant-fits}
+
+-- ---- what a command of bytes holds
+
+-- each is a byte
+abbrev pub Bytes : List ℕ → Type 0
+Bytes s = (i : ℕ) → getD s i 0 < 2 ^ 8
+
+number-fits : (l : List ℕ) → Bytes l → number l < 2 ^ (8 * length l)
+unfolding number
+number-fits [] h = omega arith
+number-fits (b ∷ bs) h = omega (arith, number-fits bs (λ i. h (suc i)), h 0, power)
+  where
+    power : 2 ^ (8 * suc (length bs)) ≡ 2 ^ (8 * length bs) * 256
+    power = ap (λ n. 2 ^ n) (omega arith) ∙ pow-add 2 (8 * length bs) 8
+
+take-bytes : (n : ℕ) (l : List ℕ) → Bytes l → Bytes (take n l)
+take-bytes zero l h j = omega arith
+take-bytes (suc n) [] h j = omega arith
+take-bytes (suc n) (a ∷ l) h zero = h zero
+take-bytes (suc n) (a ∷ l) h (suc j) = take-bytes n l (λ i. h (suc i)) j
+
+-- a constant fits its bytes, and an equality has 0 for its third term
+abbrev pub Proper : Command → Type 0
+Proper Command.End = Unit {0}
+Proper Command.Head = Unit {0}
+Proper (Command.Constant x) = x < 2 ^ (8 * constantBytes)
+Proper (Command.Clause σ Join a b c) = Unit {0}
+Proper (Command.Clause σ Equality a b c) = c ≡ 0
+
+abbrev pub ProperStep : Step → Type 0
+ProperStep (Take c next) = Proper c
+ProperStep (Refused n) = Unit {0}
+
+command-proper : (s : List ℕ) → Bytes s → (i : ℕ) (h : Shape) → Proper (commandOf s i h)
+unfolding commandOf
+command-proper s h i Shape.End = tt
+command-proper s h i Shape.Head = tt
+command-proper s h i Shape.Constant =
+    let l = take constantBytes (drop i s) in
+    let n : 8 * length l ≤ 8 * constantBytes = simp length-take (omega arith) in
+    le-trans (number-fits l (take-bytes constantBytes (drop i s) (λ j. rw getD-drop (h (i + j))))) (pow-mono n)
+command-proper s h i (Shape.Clause σ Join) = tt
+command-proper s h i (Shape.Clause σ Equality) = refl
+
+pub read-proper : (s : List ℕ) → Bytes s → (at : ℕ) → ProperStep (readAt s at)
+unfolding readAt wholeAt
+read-proper s h at = branch ProperStep (ltb at (length s)) _ (Refused 2) (λ _. entry (entryOf (getD s at 0))) (λ _. tt)
+  where
+    entry : (e : Entry) → ProperStep (wholeAt s at e)
+    entry Unknown = tt
+    entry (Known k) =
+        branch ProperStep (ltb (length s - (at + 1)) (operands k)) (Refused 2) (Take (commandOf s (at + 1) k) (at + 1 + operands k)) (λ _. tt)
+        (λ _. command-proper s h (at + 1) k)
+
+-- ---- four bytes written
+
+module _ (l : List ℕ) (i t a b c : ℕ) where
+  pub stored-length : length (clauseWritten l i t a b c) ≡ length l
+  stored-length = simp length-set
+
+  pub stored-other : (j : ℕ) → (j < i) ⊎ (i + 4 ≤ j) → getD (clauseWritten l i t a b c) j 0 ≡ getD l j 0
+  stored-other j h = past (apart h)
+    where
+      apart : (j < i) ⊎ (i + 4 ≤ j) → (j ≢ i) × (j ≢ i + 1) × (j ≢ i + 2) × (j ≢ i + 3)
+      apart (inl k) = (omega arith, omega arith, omega arith, omega arith)
+      apart (inr k) = (omega arith, omega arith, omega arith, omega arith)
+
+      past : (j ≢ i) × (j ≢ i + 1) × (j ≢ i + 2) × (j ≢ i + 3) → getD (clauseWritten l i t a b c) j 0 ≡ getD l j 0
+      past n =
+          getD-set-other (set (set (set l i t) (i + 1) a) (i + 2) b) (i + 3) j c 0 (n .3)
+          ∙ getD-set-other (set (set l i t) (i + 1) a) (i + 2) j b 0 (n .2)
+          ∙ getD-set-other (set l i t) (i + 1) j a 0 (n .1)
+          ∙ getD-set-other l i j t 0 (n .0)
+
+  module _ (h : i + 4 ≤ length l) where
+    byte-0 : getD (clauseWritten l i t a b c) i 0 ≡ t
+    byte-0 =
+        getD-set-other (set (set (set l i t) (i + 1) a) (i + 2) b) (i + 3) i c 0 (omega arith)
+        ∙ getD-set-other (set (set l i t) (i + 1) a) (i + 2) i b 0 (omega arith)
+        ∙ getD-set-other (set l i t) (i + 1) i a 0 (omega arith)
+        ∙ getD-set-same l i t 0 (omega arith)
+
+    byte-1 : getD (clauseWritten l i t a b c) (i + 1) 0 ≡ a
+    byte-1 =
+        getD-set-other (set (set (set l i t) (i + 1) a) (i + 2) b) (i + 3) (i + 1) c 0 (omega arith)
+        ∙ getD-set-other (set (set l i t) (i + 1) a) (i + 2) (i + 1) b 0 (omega arith)
+        ∙ getD-set-same (set l i t) (i + 1) a 0 (simp length-set (omega arith))
+
+    byte-2 : getD (clauseWritten l i t a b c) (i + 2) 0 ≡ b
+    byte-2 =
+        getD-set-other (set (set (set l i t) (i + 1) a) (i + 2) b) (i + 3) (i + 2) c 0 (omega arith)
+        ∙ getD-set-same (set (set l i t) (i + 1) a) (i + 2) b 0 (simp length-set (omega arith))
+
+    byte-3 : getD (clauseWritten l i t a b c) (i + 3) 0 ≡ c
+    byte-3 = getD-set-same (set (set (set l i t) (i + 1) a) (i + 2) b) (i + 3) c 0 (simp length-set (omega arith))
+
+test-number : (t : Test) → testOf (testNumber t) ≡ t
+test-number Join = refl
+test-number Equality = refl
+
+stored-atom : (l : List ℕ) (i : ℕ) (t : Test) (a b c : ℕ) → i + 4 ≤ length l → storedAtom (clauseWritten l i (testNumber t) a b c) i ≡ atomOf t a b c
+unfolding storedAtom
+stored-atom l i t a b c h =
+    let n = testNumber t in
+    rw (byte-0 l i n a b c h, byte-1 l i n a b c h, byte-2 l i n a b c h, byte-3 l i n a b c h, test-number t)
+
+-- ---- clauses of two lists that have the same bytes
+
+-- l′ has the bytes of l from one offset to another
+abbrev Agrees : List ℕ → List ℕ → ℕ → ℕ → Type 0
+Agrees l l′ from to = (j : ℕ) → from ≤ j → j < to → getD l′ j 0 ≡ getD l j 0
+
+atom-agrees : (l l′ : List ℕ) (i : ℕ) → Agrees l l′ i (i + 4) → storedAtom l′ i ≡ storedAtom l i
+unfolding storedAtom
+atom-agrees l l′ i h =
+    rw (h i (omega arith) (omega arith), h (i + 1) (omega arith) (omega arith), h (i + 2) (omega arith) (omega arith), h (i + 3) (omega arith) (omega arith))
+
+atoms-agree : (l l′ : List ℕ) (start n : ℕ) → Agrees l l′ start (start + 4 * n) → atomsOf l′ start n ≡ atomsOf l start n
+unfolding atomsOf
+atoms-agree l l′ start zero h = refl
+atoms-agree l l′ start (suc n) h =
+    ap₂ (λ k x. k ++ (x ∷ [])) (atoms-agree l l′ start n (λ j f t. h j f (omega arith))) (atom-agrees l l′ (start + 4 * n) (λ j f t. h j (omega arith) (omega arith)))
+
+clause-agrees : (l l′ : List ℕ) (n k i : ℕ) → Agrees l l′ i (i + 4)
+    → StoredClause n k (getD l i 0) (getD l (i + 1) 0) (getD l (i + 2) 0) (getD l (i + 3) 0)
+    → StoredClause n k (getD l′ i 0) (getD l′ (i + 1) 0) (getD l′ (i + 2) 0) (getD l′ (i + 3) 0)
+clause-agrees l l′ n k i h d =
+    rw (h i (omega arith) (omega arith), h (i + 1) (omega arith) (omega arith), h (i + 2) (omega arith) (omega arith), h (i + 3) (omega arith) (omega arith)) d
+
+pub atoms-length : (l : List ℕ) (start n : ℕ) → length (atomsOf l start n) ≡ n
+unfolding atomsOf
+atoms-length l start zero = refl
+atoms-length l start (suc n) = simp length-append (omega (arith, atoms-length l start n))
+
+-- ---- terms are small
+
+pub named-small : (n k t : ℕ) → n ≤ 32 → k ≤ 32 → T (names n k t) → t < 64
+unfolding names
+named-small n k t hn hk h = pick (ltb t 0x20) h
+  where
+    pick : (b : Bool) → T (cond b (ltb t n) (ltb (t - 0x20) k)) → t < 64
+    pick true u = omega (arith, ltb→lt t n u)
+    pick false u = omega (arith, ltb→lt (t - 0x20) k u)
+
+third-small : (n k : ℕ) (σ : Section) (t : Test) (a b c : ℕ) → n ≤ 32 → k ≤ 32 → T (allNamed n k t a b c) → Proper (Command.Clause σ t a b c) → c < 64
+third-small n k σ Join a b c hn hk h p =
+    named-small n k c hn hk (and-right (names n k b) (names n k c) (and-right (names n k a) _ h))
+third-small n k σ Equality a b c hn hk h p = omega arith
+
+test-small : (t : Test) → testNumber t < 2
+test-small Join = omega arith
+test-small Equality = omega arith
+
+foreign-same : (k : Kind) (σ : Section) → foreignTo (kindNumber k) σ ≡ isForeign k σ
+foreign-same satisfiability σ = refl
+foreign-same entailment σ = refl
+
+-- ---- what is stored, with one command more
+
+abbrev pub kept : Stored → Command → Stored
+kept x c = record {
+  free = x .free;
+  own = x .own;
+  constants = keptConstants (x .constants) (x .defined) c;
+  defined = constantCount (x .defined) c;
+  clauses = keptClauses (x .clauses) (x .counts) c;
+  counts = clauseCounts (x .counts) c;
+}
+
+-- the constants past those that are defined are 0
+abbrev pub ZerosPast : Stored → Type 0
+ZerosPast x = (i : ℕ) → x .defined ≤ i → getD (x .constants) i 0 ≡ 0
+
+pub zeros-kept : (x : Stored) (c : Command) → ZerosPast x → ZerosPast (kept x c)
+zeros-kept x Command.End z = z
+zeros-kept x Command.Head z = z
+zeros-kept x (Command.Constant v) z = λ i h. getD-set-other (x .constants) (x .defined) i v 0 (omega arith) ∙ z i (omega arith)
+zeros-kept x (Command.Clause σ t a b c) z = z
+
+module _ {kind : ℕ} (x : Stored) (q : Question) (d : Stands kind x q) where
+  pub defined-count : length (q .constants .numbers) ≡ x .defined
+  defined-count =
+      ap (λ cs. length (cs .numbers)) (d .constants) ∙ length-take-le (x .defined) (x .constants) (omega (arith, d .constantCounted, d .sizes .0))
+
+  pub section-count : (σ : Section) → length (inSection q σ) ≡ countOf (x .counts) σ
+  section-count σ = ap length (sym (d .sections σ)) ∙ atoms-length (x .clauses) (sectionStart σ) (countOf (x .counts) σ)
+
+  pub clause-count : clauseTotal (x .counts) ≡ length (q .first) + length (q .second)
+  clause-count =
+      omega (
+        arith,
+        both-counts (q .first),
+        both-counts (q .second),
+        section-count FirstPositive,
+        section-count FirstDisequation,
+        section-count SecondPositive,
+        section-count SecondDisequation,
+      )
+
+  fault-same : (c : Command) → faultOf kind (x .free) (x .own) (x .defined) (x .counts) c ≡ fault q c
+  unfolding faultOf fault
+  fault-same Command.End = refl
+  fault-same Command.Head = refl
+  fault-same (Command.Constant v) = ap₂ (λ m n. constantFault (ltb 0 m) (leb mostConstants n)) clause-count (sym defined-count)
+  fault-same (Command.Clause σ t a b c) = rw (d .kind, d .free, d .own, ← section-count σ, ← defined-count, foreign-same (q .kind) σ)
+
+  -- the counts that the code keeps judge as the definition does
+  pub judged-same : (r : Step) → judgedOf kind (x .free) (x .own) (x .defined) (x .counts) r ≡ judged q r
+  judged-same (Refused n) = refl
+  judged-same (Take c next) = ap (λ f. cond (eqb f 0) (Take c next) (Refused f)) (fault-same c)
+
+  no-clause : ConstantFits q → (σ : Section) → countOf (x .counts) σ ≡ 0
+  no-clause f FirstPositive = omega (arith, section-count FirstPositive, both-counts (q .first), f .before)
+  no-clause f FirstDisequation = omega (arith, section-count FirstDisequation, both-counts (q .first), f .before)
+  no-clause f SecondPositive = omega (arith, section-count SecondPositive, both-counts (q .second), f .before)
+  no-clause f SecondDisequation = omega (arith, section-count SecondDisequation, both-counts (q .second), f .before)
+
+  stands-constant : (v : ℕ) → v < 2 ^ (8 * constantBytes) → ConstantFits q → Stands kind (kept x (Command.Constant v)) (withConstant q v)
+  stands-constant v small f =
+      let n = x .defined in
+      let l = x .constants in
+      let room : n < mostConstants = omega (arith, f .room, defined-count) in
+      let fits : n < length l = omega (arith, d .sizes .0) in
+      record {
+        kind = d .kind;
+        free = d .free;
+        own = d .own;
+        constants =
+            ap (λ cs. record { levels = cs .levels; numbers = cs .numbers ++ (v ∷ []) }) (d .constants)
+            ∙ ap (λ k. record { levels = constantLevels; numbers = k }) (sym (rw add-one (take-suc-set l n v fits)));
+        sections = λ σ. d .sections σ ∙ sym (constant-sections q v σ);
+        variables = d .variables;
+        counted = d .counted;
+        constantCounted = omega arith;
+        small = λ i h. below i (eq-or-lt-of-le (le-of-suc-le-suc (rw add-one at h))) fits;
+        clauses = λ σ i h. absurd (omega (arith, no-clause f σ));
+        sizes = (simp length-set (d .sizes .0), d .sizes .1, d .sizes .2);
+      }
+    where
+      below : (i : ℕ) → (i ≡ x .defined) ⊎ (i < x .defined) → x .defined < length (x .constants) → getD (set (x .constants) (x .defined) v) i 0 < 2 ^ (8 * constantBytes)
+      below i (inl e) fits = rw e (rw (getD-set-same (x .constants) (x .defined) v 0 fits) small)
+      below i (inr h) fits = rw (getD-set-other (x .constants) (x .defined) i v 0 (omega arith)) (d .small i h)
+
+  -- a clause more: σ is its section
+  module _ (σ : Section) (t : Test) (a b c : ℕ) (f : ClauseFits q σ t a b c) (p : Proper (Command.Clause σ t a b c)) where
+    counts′ : List ℕ
+    counts′ = set (x .counts) (sectionNumber σ) (countOf (x .counts) σ + 1)
+
+    clauses′ : List ℕ
+    clauses′ = clauseWritten (x .clauses) (nextSlot (x .counts) σ) (testNumber t) a b c
+
+    clause-room : countOf (x .counts) σ < mostOf σ
+    clause-room = omega (arith, f .room, section-count σ)
+
+    clause-slot : nextSlot (x .counts) σ + 4 ≤ clauseBytes
+    clause-slot = slot-fits (x .counts) σ clause-room
+
+    count-more : countOf counts′ σ ≡ countOf (x .counts) σ + 1
+    unfolding counts′
+    count-more = getD-set-same (x .counts) (sectionNumber σ) (countOf (x .counts) σ + 1) 0 (omega (arith, section-below σ, d .sizes .2))
+
+    count-other : (τ : Section) → Apart σ τ → countOf counts′ τ ≡ countOf (x .counts) τ
+    unfolding counts′
+    count-other τ o = getD-set-other (x .counts) (sectionNumber σ) (sectionNumber τ) (countOf (x .counts) σ + 1) 0 (o .number)
+
+    -- the clauses before it, and those of another section, keep their bytes
+    before-it : Agrees (x .clauses) clauses′ (sectionStart σ) (nextSlot (x .counts) σ)
+    unfolding clauses′
+    before-it j from to = stored-other (x .clauses) (nextSlot (x .counts) σ) (testNumber t) a b c j (inl to)
+
+    elsewhere : (τ : Section) → Apart σ τ → Agrees (x .clauses) clauses′ (sectionStart τ) (nextSlot (x .counts) τ)
+    unfolding clauses′
+    elsewhere τ o j from to = stored-other (x .clauses) (nextSlot (x .counts) σ) (testNumber t) a b c j (side (o .clear))
+      where
+        side : (sectionStart τ + 4 * mostOf τ ≤ sectionStart σ) ⊎ (sectionStart σ + 4 * mostOf σ ≤ sectionStart τ)
+            → (j < nextSlot (x .counts) σ) ⊎ (nextSlot (x .counts) σ + 4 ≤ j)
+        side (inl h) = inl (omega (arith, d .counted τ))
+        side (inr h) = inr (omega (arith, clause-room))
+
+    the-atom : storedAtom clauses′ (nextSlot (x .counts) σ) ≡ atomOf t a b c
+    unfolding clauses′
+    the-atom = stored-atom (x .clauses) (nextSlot (x .counts) σ) t a b c (omega (arith, clause-slot, d .sizes .1))
+
+    sections′ : (τ : Section) → atomsOf clauses′ (sectionStart τ) (countOf counts′ τ) ≡ inSection (withClause q σ (atomOf t a b c)) τ
+    unfolding atomsOf
+    sections′ τ = pick (alike σ τ) before-it the-atom count-more elsewhere count-other
+      where
+        pick : {σ τ : Section} → Alike σ τ → Agrees (x .clauses) clauses′ (sectionStart σ) (nextSlot (x .counts) σ)
+            → storedAtom clauses′ (nextSlot (x .counts) σ) ≡ atomOf t a b c → countOf counts′ σ ≡ countOf (x .counts) σ + 1
+            → ((υ : Section) → Apart σ υ → Agrees (x .clauses) clauses′ (sectionStart υ) (nextSlot (x .counts) υ))
+            → ((υ : Section) → Apart σ υ → countOf counts′ υ ≡ countOf (x .counts) υ)
+            → atomsOf clauses′ (sectionStart τ) (countOf counts′ τ) ≡ inSection (withClause q σ (atomOf t a b c)) τ
+        pick (same {σ = υ}) h e n g m =
+            ap (atomsOf clauses′ (sectionStart υ)) (n ∙ add-one (countOf (x .counts) υ))
+            ∙ ap₂ (λ k y. k ++ (y ∷ [])) (atoms-agree (x .clauses) clauses′ (sectionStart υ) (countOf (x .counts) υ) h ∙ d .sections υ) e
+            ∙ sym (added q υ (atomOf t a b c))
+        pick (other {τ = υ} o) h e n g m =
+            ap (atomsOf clauses′ (sectionStart υ)) (m υ o)
+            ∙ atoms-agree (x .clauses) clauses′ (sectionStart υ) (countOf (x .counts) υ) (g υ o)
+            ∙ d .sections υ
+            ∙ sym (o .kept q (atomOf t a b c))
+
+    its-terms : T (allNamed (variablesFor (x .free) (x .own) σ) (x .defined) t a b c)
+    its-terms = rw (d .free, d .own, ← defined-count) (f .named)
+
+    the-clause : StoredClause (variablesFor (x .free) (x .own) σ) (x .defined) (testNumber t) a b c
+    the-clause = record {
+      test = test-small t;
+      named = rw (test-number t) its-terms;
+      third = third-small (variablesFor (x .free) (x .own) σ) (x .defined) σ t a b c (omega (arith, variables-le (x .free) (x .own) σ, d .variables)) (d .constantCounted) its-terms p;
+    }
+
+    -- what is stored after the clause
+    abbrev after : Stored
+    after = stored clauses′ counts′ (x .constants) (x .defined) (x .free) (x .own)
+
+    new-stored : StoredAt after σ (nextSlot (x .counts) σ)
+    unfolding clauses′
+    new-stored =
+        let l = x .clauses in
+        let i = nextSlot (x .counts) σ in
+        let n = testNumber t in
+        let h : i + 4 ≤ length l = omega (arith, clause-slot, d .sizes .1) in
+        rw (byte-0 l i n a b c h, byte-1 l i n a b c h, byte-2 l i n a b c h, byte-3 l i n a b c h) the-clause
+
+    all-stored : (τ : Section) (i : ℕ) → i < countOf counts′ τ → StoredAt after τ (sectionStart τ + 4 * i)
+    unfolding clauses′
+    all-stored τ i h = pick (alike σ τ) before-it new-stored count-more elsewhere count-other h
+      where
+        old : (υ : Section) → Agrees (x .clauses) clauses′ (sectionStart υ) (nextSlot (x .counts) υ) → i < countOf (x .counts) υ → StoredAt after υ (sectionStart υ + 4 * i)
+        old υ g l = clause-agrees (x .clauses) clauses′ _ _ (sectionStart υ + 4 * i) (λ j from to. g j (omega arith) (omega arith)) (d .clauses υ i l)
+
+        ends : (υ : Section) → Agrees (x .clauses) clauses′ (sectionStart υ) (nextSlot (x .counts) υ) → StoredAt after υ (nextSlot (x .counts) υ)
+            → (i ≡ countOf (x .counts) υ) ⊎ (i < countOf (x .counts) υ) → StoredAt after υ (sectionStart υ + 4 * i)
+        ends υ g w (inl e) = rw e w
+        ends υ g w (inr l) = old υ g l
+
+        pick : {σ τ : Section} → Alike σ τ → Agrees (x .clauses) clauses′ (sectionStart σ) (nextSlot (x .counts) σ)
+            → StoredAt after σ (nextSlot (x .counts) σ) → countOf counts′ σ ≡ countOf (x .counts) σ + 1
+            → ((υ : Section) → Apart σ υ → Agrees (x .clauses) clauses′ (sectionStart υ) (nextSlot (x .counts) υ))
+            → ((υ : Section) → Apart σ υ → countOf counts′ υ ≡ countOf (x .counts) υ)
+            → i < countOf counts′ τ → StoredAt after τ (sectionStart τ + 4 * i)
+        pick (same {σ = υ}) h w n g m l = ends υ h w (eq-or-lt-of-le (le-of-suc-le-suc (rw (n, add-one (countOf (x .counts) υ)) at l)))
+        pick (other {τ = υ} o) h w n g m l = old υ (g υ o) (rw (m υ o) at l)
+
+    counted′ : Counted counts′
+    counted′ τ = pick (alike σ τ) clause-room count-more count-other
+      where
+        pick : {σ τ : Section} → Alike σ τ → countOf (x .counts) σ < mostOf σ → countOf counts′ σ ≡ countOf (x .counts) σ + 1
+            → ((υ : Section) → Apart σ υ → countOf counts′ υ ≡ countOf (x .counts) υ) → countOf counts′ τ ≤ mostOf τ
+        pick same r n m = omega arith
+        pick (other {τ = υ} o) r n m = rw (m υ o) (d .counted υ)
+
+    stands-clause : Stands kind (kept x (Command.Clause σ t a b c)) (withClause q σ (atomOf t a b c))
+    unfolding counts′ clauses′
+    stands-clause =
+        let k = clause-keeps q σ (atomOf t a b c) in
+        record {
+          kind = rw (k .kind) (d .kind);
+          free = rw (k .free) (d .free);
+          own = rw (k .own) (d .own);
+          constants = k .constants ∙ d .constants;
+          sections = sections′;
+          variables = d .variables;
+          counted = counted′;
+          constantCounted = d .constantCounted;
+          small = d .small;
+          clauses = all-stored;
+          sizes = (d .sizes .0, stored-length (x .clauses) (nextSlot (x .counts) σ) (testNumber t) a b c ∙ d .sizes .1, simp length-set (d .sizes .2));
+        }
+
+  -- the clause's bytes go where the definition says
+  pub written-same : (c : Command) → commandWritten q (x .clauses) c ≡ keptClauses (x .clauses) (x .counts) c
+  written-same Command.End = refl
+  written-same Command.Head = refl
+  written-same (Command.Constant v) = refl
+  written-same (Command.Clause σ t a b c) = ap (λ n. clauseWritten (x .clauses) (sectionStart σ + 4 * n) (testNumber t) a b c) (section-count σ)
+
+  -- there is room for a command with no fault
+  pub room-constant : (c : Command) → fault q c ≡ 0 → constantCount (x .defined) c ≤ length (x .constants)
+  room-constant Command.End e = omega (arith, d .constantCounted, d .sizes .0)
+  room-constant Command.Head e = omega (arith, d .constantCounted, d .sizes .0)
+  room-constant (Command.Constant v) e = omega (arith, constant-fits q v e .room, defined-count, d .sizes .0)
+  room-constant (Command.Clause σ t a b c) e = omega (arith, d .constantCounted, d .sizes .0)
+
+  pub room-clause : (c : Command) → fault q c ≡ 0 → Slot (x .counts) c
+  room-clause Command.End e = tt
+  room-clause Command.Head e = tt
+  room-clause (Command.Constant v) e = tt
+  room-clause (Command.Clause σ t a b c) e = slot-fits (x .counts) σ (omega (arith, clause-fits q σ t a b c e .room, section-count σ))
+
+  -- a command with no fault, kept, stands for the question that has it
+  pub stands-taken : (c : Command) → fault q c ≡ 0 → Proper c → Stands kind (kept x c) (taken q c)
+  unfolding taken
+  stands-taken Command.End e p = d
+  stands-taken Command.Head e p = d
+  stands-taken (Command.Constant v) e p = stands-constant v p (constant-fits q v e)
+  stands-taken (Command.Clause σ t a b c) e p = stands-clause σ t a b c (clause-fits q σ t a b c e) p
+
+  -- ---- the struct that holds the question
+
+  counts-are : (l : List ℕ) → length l ≡ 4 → l ≡ getD l 0 0 ∷ getD l 1 0 ∷ getD l 2 0 ∷ getD l 3 0 ∷ []
+  counts-are [] e = absurd (omega arith)
+  counts-are (a ∷ []) e = absurd (omega arith)
+  counts-are (a ∷ b ∷ []) e = absurd (omega arith)
+  counts-are (a ∷ b ∷ c ∷ []) e = absurd (omega arith)
+  counts-are (a ∷ b ∷ c ∷ d ∷ []) e = refl
+  counts-are (a ∷ b ∷ c ∷ d ∷ f ∷ l) e = absurd (omega arith)
+
+  zeros-past : ZerosPast x → drop (x .defined) (x .constants) ≡ replicate (mostConstants - x .defined) 0
+  zeros-past z =
+      let n : length (drop (x .defined) (x .constants)) ≡ mostConstants - x .defined = length-drop (x .defined) (x .constants) ∙ ap (λ m. m - x .defined) (d .sizes .0) in
+      ext-getD 0 _ _ (n ∙ sym (length-replicate (mostConstants - x .defined) 0)) (λ i l.
+      getD-drop (x .defined) (x .constants) i 0 ∙ z (x .defined + i) (omega arith) ∙ sym (getD-replicate (mostConstants - x .defined) i 0 0 (rw n at l)))
+
+  pub held-as : ZerosPast x
+      → record { kind = kind; free = x .free; own = x .own; constants = x .constants; defined = x .defined; counts = x .counts } ≡ heldAs q
+  held-as z =
+      let numbers : q .constants .numbers ≡ take (x .defined) (x .constants) = ap (λ cs. cs .numbers) (d .constants) in
+      let constants : x .constants ≡ q .constants .numbers ++ replicate (mostConstants - length (q .constants .numbers)) 0 =
+      sym (rw (defined-count, numbers, ← zeros-past z) (take-append-drop (x .defined) (x .constants))) in
+      let counts : x .counts ≡ length (inSection q FirstPositive) ∷ length (inSection q FirstDisequation) ∷ length (inSection q SecondPositive) ∷ length (inSection q SecondDisequation) ∷ [] =
+      rw (section-count FirstPositive, section-count FirstDisequation, section-count SecondPositive, section-count SecondDisequation) (counts-are (x .counts) (d .sizes .2)) in
+      same (d .kind) (d .free) (d .own) constants (sym defined-count) counts
+    where
+      same : {k k′ f f′ o o′ n n′ : ℕ} {cs cs′ cl cl′ : List ℕ} → k ≡ k′ → f ≡ f′ → o ≡ o′ → cs ≡ cs′ → n ≡ n′ → cl ≡ cl′
+          → _≡_ {A = Struct} (record { kind = k; free = f; own = o; constants = cs; defined = n; counts = cl })
+          (record { kind = k′; free = f′; own = o′; constants = cs′; defined = n′; counts = cl′ })
+      same e f g h i j = rw (e, f, g, h, i, j)

@@ -1,0 +1,175 @@
+-- A question as it is stored once it is read: the fields of a struct and the clauses' bytes, and when they stand for a question of the
+-- model. Assumes nothing.
+use mathlib.Core.Path.{_≡_}
+use mathlib.Core.Bool.{cond}
+use mathlib.Core.List.{List, [], _∷_, _++_}
+use Prim.Native.Nat.{ℕ, zero, suc, _+_, _-_, _*_, _^_, _≤_, _<_}
+use lib.Dec.{T, eqb}
+use lib.ListN.{length, getD, set, take, replicate}
+use Rattle.shares.specs.Constant.{constantLevels}
+use Rattle.systems.specs.Clauses.{Atom}
+use Rattle.systems.specs.Questions.{Kind, satisfiability, entailment, Question as Asked}
+use Rattle.format.specs.declared.Section.{Section}
+use Rattle.format.specs.declared.Section.the-variants.{FirstPositive, FirstDisequation, SecondPositive, SecondDisequation}
+use Rattle.format.specs.declared.Test.{Test}
+use Rattle.format.specs.declared.Test.the-variants.{Join, Equality}
+use Rattle.format.specs.declared.Command.{Command}
+use Rattle.format.specs.declared.Step.{Step}
+use Rattle.format.specs.declared.Step.the-variants.{Take, Refused}
+use Rattle.format.specs.declared.Head.{Head}
+use Rattle.format.specs.declared.Head.the-variants.{Opens, Wrong}
+use Rattle.format.specs.declared.Question.{Question}
+use Rattle.format.specs.declared.Reading.{Reading}
+use Rattle.format.specs.Format.{Result, refused, accepted, mostVariables, mostConstants, constantBytes, mostOf, inSection, allNamed, variablesFor, atomOf, readAt, judged, taken, opened, headOf}
+
+-- ---- the numbers of the cases
+
+abbrev pub kindNumber : Kind → ℕ
+kindNumber satisfiability = 0
+kindNumber entailment = 1
+
+abbrev pub sectionNumber : Section → ℕ
+sectionNumber FirstPositive = 0
+sectionNumber FirstDisequation = 1
+sectionNumber SecondPositive = 2
+sectionNumber SecondDisequation = 3
+
+abbrev pub testNumber : Test → ℕ
+testNumber Join = 0
+testNumber Equality = 1
+
+abbrev pub testOf : ℕ → Test
+testOf n = cond (eqb n 0) Join Equality
+
+-- ---- the clauses' bytes: four a clause, its test and its three terms, section after section
+
+abbrev pub clauseBytes : ℕ
+clauseBytes = 768
+
+-- where a section starts
+abbrev pub sectionStart : Section → ℕ
+sectionStart FirstPositive = 0
+sectionStart FirstDisequation = 256
+sectionStart SecondPositive = 384
+sectionStart SecondDisequation = 640
+
+-- the clause whose four bytes start at an offset
+unfoldable pub storedAtom : List ℕ → ℕ → Atom
+storedAtom l i = atomOf (testOf (getD l i 0)) (getD l (i + 1) 0) (getD l (i + 2) 0) (getD l (i + 3) 0)
+
+-- the n clauses that start at an offset, in order
+unfoldable pub atomsOf : List ℕ → ℕ → ℕ → List Atom
+atomsOf l start zero = []
+atomsOf l start (suc n) = atomsOf l start n ++ (storedAtom l (start + 4 * n) ∷ [])
+
+-- ---- what is stored of a question
+
+-- the clauses' bytes and how many clauses each section has, the constants and how many are defined, and how many variables there are
+pub record Stored : Type 0 where
+  pub clauses : List ℕ
+  pub counts : List ℕ
+  pub constants : List ℕ
+  pub defined : ℕ
+  pub free : ℕ
+  pub own : ℕ
+
+-- from its parts
+abbrev pub stored : List ℕ → List ℕ → List ℕ → ℕ → ℕ → ℕ → Stored
+stored clauses counts constants defined free own = record { clauses = clauses; counts = counts; constants = constants; defined = defined; free = free; own = own }
+
+-- from the struct and the clauses' bytes
+abbrev pub storedOf : Question → List ℕ → Stored
+storedOf x clauses = stored clauses (x .counts) (x .constants) (x .defined) (x .free) (x .own)
+
+-- how many clauses a section has
+abbrev pub countOf : List ℕ → Section → ℕ
+countOf counts σ = getD counts (sectionNumber σ) 0
+
+-- no section has more clauses than it may
+abbrev pub Counted : List ℕ → Type 0
+Counted counts = (σ : Section) → countOf counts σ ≤ mostOf σ
+
+-- a stored clause: a test that there is, terms that each name something defined, and a third byte below 64, also where the test is an equality,
+-- which does not read it
+pub record StoredClause (n k t a b c : ℕ) : Type 0 where
+  pub test : t < 2
+  pub named : T (allNamed n k (testOf t) a b c)
+  pub third : c < 64
+
+-- the four bytes at an offset are such a clause, of a section
+abbrev pub StoredAt : Stored → Section → ℕ → Type 0
+StoredAt x σ i =
+    StoredClause (variablesFor (x .free) (x .own) σ) (x .defined) (getD (x .clauses) i 0) (getD (x .clauses) (i + 1) 0)
+    (getD (x .clauses) (i + 2) 0) (getD (x .clauses) (i + 3) 0)
+
+-- a kind and what is stored stand for the question q, and what is safe to rely on in them
+pub record Stands (k : ℕ) (x : Stored) (q : Asked) : Type 0 where
+  pub kind : k ≡ kindNumber (q .kind)
+  pub free : x .free ≡ q .free
+  pub own : x .own ≡ q .own
+  pub constants : q .constants ≡ record { levels = constantLevels; numbers = take (x .defined) (x .constants) }
+  pub sections : (σ : Section) → atomsOf (x .clauses) (sectionStart σ) (countOf (x .counts) σ) ≡ inSection q σ
+  pub variables : x .free + x .own ≤ mostVariables
+  pub counted : Counted (x .counts)
+  pub constantCounted : x .defined ≤ mostConstants
+  pub small : (i : ℕ) → i < x .defined → getD (x .constants) i 0 < 2 ^ (8 * constantBytes)
+  pub clauses : (σ : Section) (i : ℕ) → i < countOf (x .counts) σ → StoredAt x σ (sectionStart σ + 4 * i)
+  pub sizes : (length (x .constants) ≡ mostConstants) × (length (x .clauses) ≡ clauseBytes) × (length (x .counts) ≡ 4)
+
+-- ---- what reading hands over
+
+-- the struct of a question: its constants, then 0, and its number of clauses in each section
+abbrev pub heldAs : Asked → Question
+heldAs q = record {
+  kind = kindNumber (q .kind);
+  free = q .free;
+  own = q .own;
+  constants = q .constants .numbers ++ replicate (mostConstants - length (q .constants .numbers)) 0;
+  defined = length (q .constants .numbers);
+  counts =
+      length (inSection q FirstPositive)
+      ∷ length (inSection q FirstDisequation)
+      ∷ length (inSection q SecondPositive)
+      ∷ length (inSection q SecondDisequation)
+      ∷ [];
+}
+
+-- a refusal holds no question: each field is 0
+abbrev pub noQuestion : Question
+noQuestion = record { kind = 0; free = 0; own = 0; constants = replicate mostConstants 0; defined = 0; counts = replicate 4 0 }
+
+abbrev pub readingOf : Result → Reading
+readingOf (refused n place) = record { refusal = n; place = place; question = noQuestion }
+readingOf (accepted q) = record { refusal = 0; place = 0; question = heldAs q }
+
+-- four bytes written at an offset
+abbrev pub clauseWritten : List ℕ → ℕ → ℕ → ℕ → ℕ → ℕ → List ℕ
+clauseWritten l i t a b c = set (set (set (set l i t) (i + 1) a) (i + 2) b) (i + 3) c
+
+-- the clauses' bytes with one command more, after q was read before it: a clause takes the next four bytes of its section
+abbrev pub commandWritten : Asked → List ℕ → Command → List ℕ
+commandWritten q l Command.End = l
+commandWritten q l Command.Head = l
+commandWritten q l (Command.Constant x) = l
+commandWritten q l (Command.Clause σ t a b c) = clauseWritten l (sectionStart σ + 4 * length (inSection q σ)) (testNumber t) a b c
+
+-- a refusal and the end leave them; any other command goes on
+abbrev pub writtenOnward : (Command → ℕ → List ℕ) → List ℕ → Step → List ℕ
+writtenOnward f l (Refused n) = l
+writtenOnward f l (Take Command.End next) = l
+writtenOnward f l (Take Command.Head next) = f Command.Head next
+writtenOnward f l (Take (Command.Constant x) next) = f (Command.Constant x) next
+writtenOnward f l (Take (Command.Clause σ t a b c) next) = f (Command.Clause σ t a b c) next
+
+-- command by command, as `run` reads them
+unfoldable pub writtenBy : ℕ → List ℕ → ℕ → Asked → List ℕ → List ℕ
+writtenBy zero s at q l = l
+writtenBy (suc k) s at q l = writtenOnward (λ c next. writtenBy k s next (taken q c) (commandWritten q l c)) l (judged q (readAt s at))
+
+abbrev pub writtenAfterHead : List ℕ → List ℕ → Head → List ℕ
+writtenAfterHead s l (Opens kind n m) = writtenBy (length s) s 4 (opened kind n m) l
+writtenAfterHead s l (Wrong n) = l
+
+-- what the clauses' bytes hold once a byte string is read, refused or not: each clause before the end or the first fault is written
+unfoldable pub clausesAfter : List ℕ → List ℕ → List ℕ
+clausesAfter s l = writtenAfterHead s l (headOf s)
