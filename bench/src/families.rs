@@ -1,5 +1,11 @@
 //! The families of questions. Seeds are fixed: every run asks the same ones.
 
+// With paths, since others/families has this file as a module too.
+#[path = "families/constants.rs"]
+mod constants;
+#[path = "families/twelve.rs"]
+mod twelve;
+
 use brute::make::{
     entailment, hidden_question, largest, random_question, Change, Counts, Size, ALL_CLAUSES,
 };
@@ -30,6 +36,8 @@ pub fn all() -> Vec<Family> {
         largest_satisfiable(),
         largest_entailments(),
     ];
+    families.extend(constants::all());
+    families.extend(twelve::all());
     for shape in [Shape::Any, Shape::OnlyLast] {
         for own in 0..=MOST_VARIABLES {
             families.push(split(own, shape));

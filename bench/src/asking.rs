@@ -1,0 +1,50 @@
+//! Asks the questions of a family, in rounds.
+
+use crate::families::Family;
+use brute::judge::ANSWER_BYTES;
+use brute::library::{self, ASK_WORK_BYTES};
+use std::hint::black_box;
+use std::time::{Duration, Instant};
+
+const MOST_ROUNDS: usize = 2001;
+
+/// What a caller lends, for one question after another. It is aligned, and so is the stack below one that lies there:
+/// the C library's copying goes by the address, and takes the same steps in every run.
+#[repr(align(64))]
+pub struct Buffers {
+    answer: [u8; ANSWER_BYTES],
+    work: [u8; ASK_WORK_BYTES],
+}
+
+impl Buffers {
+    pub fn new() -> Self {
+        Buffers {
+            answer: [0; ANSWER_BYTES],
+            work: [0; ASK_WORK_BYTES],
+        }
+    }
+
+    pub fn ask(&mut self, bytes: &[u8]) -> u64 {
+        black_box(library::ask(
+            black_box(bytes),
+            &mut self.answer,
+            &mut self.work,
+        ))
+    }
+}
+
+/// Asks all questions in rounds for so long, once at least; gives the nanoseconds per question of the median round.
+pub fn median_round<T>(family: &Family, long: Duration, mut ask: impl FnMut(&[u8]) -> T) -> f64 {
+    let mut rounds = Vec::new();
+    let began = Instant::now();
+    while rounds.is_empty() || (began.elapsed() < long && rounds.len() < MOST_ROUNDS) {
+        let round = Instant::now();
+        for question in &family.questions {
+            ask(question);
+        }
+        rounds.push(round.elapsed());
+    }
+    rounds.sort();
+    let median = rounds[rounds.len() / 2];
+    median.as_nanos() as f64 / family.questions.len() as f64
+}

@@ -1,0 +1,89 @@
+//! Counts instructions inside zimorgal_ask with valgrind's callgrind.
+
+use crate::asking::Buffers;
+use crate::families;
+use std::hint::black_box;
+use std::io::ErrorKind;
+use std::path::{Path, PathBuf};
+use std::process::Command;
+
+/// The argument with which this program asks all questions once.
+pub const ASK_ONCE: &str = "ask-once";
+
+/// Settings of the C library: no `rep stosb` and no `rep movsb` in its memset and memcpy. Callgrind would count the one
+/// that clears the work area 4,096 times.
+const NO_REPEATS: &str = "glibc.cpu.x86_rep_stosb_threshold=1000000000:\
+                           glibc.cpu.x86_rep_movsb_threshold=1000000000";
+
+/// Asks all questions once, for callgrind.
+pub fn ask_once() {
+    let mut buffers = Buffers::new();
+    for family in families::all() {
+        for question in &family.questions {
+            buffers.ask(question);
+        }
+        bench_family_ends();
+    }
+}
+
+/// Callgrind writes what it counted whenever this returns.
+#[no_mangle]
+#[inline(never)]
+extern "C" fn bench_family_ends() {
+    black_box(());
+}
+
+/// The instructions of each family, all questions together, or why there are none.
+pub fn count(program: &Path) -> Result<Vec<u64>, String> {
+    let folder = Folder::new().map_err(|error| error.to_string())?;
+    let counts = folder.0.join("counts");
+    let run = Command::new("valgrind")
+        .args(["--tool=callgrind", "--toggle-collect=zimorgal_ask"])
+        .arg("--dump-after=bench_family_ends")
+        .arg(format!("--callgrind-out-file={}", counts.display()))
+        .arg(program)
+        .arg(ASK_ONCE)
+        .env("LD_BIND_NOW", "1")
+        .env("GLIBC_TUNABLES", NO_REPEATS)
+        .output()
+        .map_err(|error| match error.kind() {
+            ErrorKind::NotFound => "valgrind is not installed".to_string(),
+            _ => format!("valgrind: {error}"),
+        })?;
+    if !run.status.success() {
+        let said = String::from_utf8_lossy(&run.stderr);
+        let last = said.lines().last().unwrap_or_default();
+        return Err(format!("valgrind failed: {last}"));
+    }
+    let count = |number: usize| count_of_file(&counts.with_extension(number.to_string()));
+    (1..=families::all().len()).map(count).collect()
+}
+
+/// The number that a file of callgrind gives as its total.
+fn count_of_file(file: &Path) -> Result<u64, String> {
+    let text = std::fs::read_to_string(file)
+        .map_err(|error| format!("callgrind's {}: {error}", file.display()))?;
+    let total = text.lines().find_map(|line| line.strip_prefix("totals: "));
+    match total.and_then(|number| number.trim().parse().ok()) {
+        Some(0) | None => Err("callgrind counted nothing".to_string()),
+        Some(number) => Ok(number),
+    }
+}
+
+/// A folder that is there as long as this.
+struct Folder(PathBuf);
+
+impl Folder {
+    fn new() -> std::io::Result<Folder> {
+        let name = format!("zimorgal-bench-{}", std::process::id());
+        let folder = std::env::temp_dir().join(name);
+        std::fs::create_dir(&folder)?;
+        Ok(Folder(folder))
+    }
+}
+
+impl Drop for Folder {
+    fn drop(&mut self) {
+        let _ = std::fs::remove_dir_all(&self.0);
+    }
+}

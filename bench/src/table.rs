@@ -1,0 +1,133 @@
+//! The table.
+
+use crate::families::{self, Family};
+use crate::instructions;
+use crate::route_b::{self, TOO_LONG};
+use crate::turns::{by_turns, Program};
+use std::path::Path;
+
+/// An archive that is measured.
+struct Archive {
+    program: Program,
+    /// The instructions of each family, or why they are not counted.
+    counts: Result<Vec<u64>, String>,
+}
+
+impl Archive {
+    fn new(program: &Path) -> Archive {
+        Archive {
+            counts: instructions::count(program),
+            program: Program::start(program),
+        }
+    }
+
+    /// The instructions per question.
+    fn instructions(&self, number: usize, family: &Family) -> String {
+        match &self.counts {
+            Ok(counts) => {
+                let count = counts[number] as f64 / family.questions.len() as f64;
+                format!("{count:.0}")
+            }
+            Err(_) => "-".to_string(),
+        }
+    }
+}
+
+/// Prints the table of the library that is linked here, and of another program's beside it.
+pub fn print(other: Option<&Path>) {
+    let own = std::env::current_exe().expect("the path of this program");
+    let mut archives = vec![Archive::new(&own)];
+    archives.extend(other.map(Archive::new));
+    print_line("family", "questions", &head(other.is_some()));
+    let mut differs = false;
+    for (number, family) in families::all().iter().enumerate() {
+        route_b::must_agree(family);
+        let times = times(number, &mut archives);
+        differs |= times.contains(&None);
+        let cells = cells(number, family, &archives, &times);
+        print_line(&family.name, &family.questions.len().to_string(), &cells);
+    }
+    if differs {
+        println!(
+            "differs: the other archive gives another result for some question, and is not measured"
+        );
+    }
+    if let Some(why) = archives
+        .iter()
+        .find_map(|archive| archive.counts.as_ref().err())
+    {
+        println!("-: instructions are not counted: {why}");
+    }
+}
+
+fn print_line(family: &str, questions: &str, cells: &[String]) {
+    print!("{family:<52} {questions:>9}");
+    for cell in cells {
+        print!(" {cell:>14}");
+    }
+    println!();
+}
+
+fn head(with_other: bool) -> Vec<String> {
+    let other: &[&str] = match with_other {
+        true => &["other ns", "instructions"],
+        false => &[],
+    };
+    let cells = [
+        &["library ns", "instructions"],
+        other,
+        &["route B ns", "ratio"],
+    ];
+    cells.concat().into_iter().map(String::from).collect()
+}
+
+/// The nanoseconds per question of each archive; none where it gives other results than the first.
+fn times(number: usize, archives: &mut [Archive]) -> Vec<Option<f64>> {
+    let programs = archives.iter_mut().map(|archive| &mut archive.program);
+    let results: Vec<String> = programs.map(|program| program.results(number)).collect();
+    let mut alike = Vec::new();
+    for (archive, result) in archives.iter_mut().zip(&results) {
+        if *result == results[0] {
+            alike.push(&mut archive.program);
+        }
+    }
+    let mut times = by_turns(&mut alike, number).into_iter();
+    let time = |result| {
+        if result == &results[0] {
+            times.next()
+        } else {
+            None
+        }
+    };
+    results.iter().map(time).collect()
+}
+
+fn cells(
+    number: usize,
+    family: &Family,
+    archives: &[Archive],
+    times: &[Option<f64>],
+) -> Vec<String> {
+    let mut cells = Vec::new();
+    for (archive, time) in archives.iter().zip(times) {
+        cells.extend(match time {
+            Some(ns) => [format!("{ns:.0}"), archive.instructions(number, family)],
+            None => ["differs".to_string(), "differs".to_string()],
+        });
+    }
+    let by_library = times[0].expect("the first is alike itself");
+    cells.extend(route_b_cells(family, by_library));
+    cells
+}
+
+/// Route B's nanoseconds per question, and how many times the library's they are.
+fn route_b_cells(family: &Family, by_library: f64) -> [String; 2] {
+    match route_b::time(family) {
+        Some(ns) => [format!("{ns:.0}"), format!("{:.1}", ns / by_library)],
+        None => {
+            let least = TOO_LONG.as_nanos() as f64;
+            let ratio = least / by_library;
+            [format!("over {least:.0}"), format!("over {ratio:.0}")]
+        }
+    }
+}
