@@ -6,11 +6,11 @@
 //! - `single`: route B, one choice of values at a time, leaf by leaf, and the fixed solution;
 //! - `judge`: whether shown rows are a solution, and do not extend for the reason given;
 //! - `random`, `make`, `hidden`, `damage`, `worked`, `refusals`, `limits`, `every_byte`: questions and bytes;
-//! - `draft`: questions while they are built;
+//! - `draft`, `pinned`: questions whose answer is told by how they were built;
 //! - `library`, `lent`, `due`, `asking`: the exported calls, what is lent to them and what they are to give;
 //! - `options`, `report`, `seen`: what a run is told, what it counts and what it must have seen;
 //! - `plain`, `routes`, `judging`: families of the solver alone;
-//! - `calls`, `documents`, `by_hand`, `made`: families of the library.
+//! - `calls`, `documents`, `by_hand`, `made`, `splits`, `numbers`, `terms`, `loose`: families of the library.
 
 pub mod asking;
 pub mod by_hand;
@@ -26,9 +26,12 @@ pub mod judging;
 pub mod lent;
 pub mod library;
 pub mod limits;
+pub mod loose;
 pub mod made;
 pub mod make;
+pub mod numbers;
 pub mod options;
+pub mod pinned;
 pub mod plain;
 pub mod question;
 pub mod random;
@@ -37,6 +40,8 @@ pub mod report;
 pub mod routes;
 pub mod seen;
 pub mod single;
+pub mod splits;
+pub mod terms;
 pub mod tree;
 pub mod whole;
 pub mod worked;
@@ -50,6 +55,10 @@ pub const WITH_THE_LIBRARY: &[&[Family]] = &[
     documents::FAMILIES,
     by_hand::FAMILIES,
     made::FAMILIES,
+    splits::FAMILIES,
+    numbers::FAMILIES,
+    terms::FAMILIES,
+    loose::FAMILIES,
 ];
 
 /// The families that have no part of the library in them.
