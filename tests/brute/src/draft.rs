@@ -77,7 +77,7 @@ impl Draft {
     }
 
     /// The system in which a variable is held to a value: the first for a free one.
-    fn home(&mut self, variable: usize) -> &mut Clauses {
+    pub fn home(&mut self, variable: usize) -> &mut Clauses {
         match variable < self.free {
             true => &mut self.first,
             false => &mut self.second,

@@ -42,6 +42,11 @@ impl Verdict {
     }
 }
 
+/// How many constants there are at most after the pins, and after the clauses that fill a system up: room is left for
+/// one that decides, and for some that no clause names.
+const WITH_PINS: usize = 24;
+const WITH_FILLING: usize = 28;
+
 /// What is to be built.
 pub struct Wanted {
     pub verdict: Verdict,
@@ -91,15 +96,6 @@ pub fn pinned(random: &mut Random, wanted: &Wanted) -> Built {
     builder.finish(wanted.verdict)
 }
 
-/// The leaves at which a relation fails between these values.
-fn failing(values: (u32, u32), third: Option<u32>) -> u32 {
-    let (a, b) = values;
-    match third {
-        Some(c) => (a & b) | ((a | b) ^ c),
-        None => a ^ b,
-    }
-}
-
 impl Builder<'_> {
     fn value(&self, term: Term) -> u32 {
         match term {
@@ -108,11 +104,12 @@ impl Builder<'_> {
         }
     }
 
+    /// The leaves at which a relation fails.
     fn failing(&self, relation: Relation) -> u32 {
         let at = |term| self.value(term);
         match relation {
-            Relation::Join(a, b, c) => failing((at(a), at(b)), Some(at(c))),
-            Relation::Equal(a, b) => failing((at(a), at(b)), None),
+            Relation::Join(a, b, c) => (at(a) & at(b)) | ((at(a) | at(b)) ^ at(c)),
+            Relation::Equal(a, b) => at(a) ^ at(b),
         }
     }
 
@@ -128,15 +125,7 @@ impl Builder<'_> {
         order.extend(own);
         for at in 0..order.len() {
             let relation = self.pin(order[at], &order[..at]);
-            let system = self.system_of(order[at]);
-            self.draft.system(system).positive.push(relation);
-        }
-    }
-
-    fn system_of(&self, variable: usize) -> System {
-        match variable < self.draft.free {
-            true => System::First,
-            false => System::Second,
+            self.draft.home(order[at]).positive.push(relation);
         }
     }
 
@@ -147,11 +136,8 @@ impl Builder<'_> {
         }
         let constant = self.draft.constant(value);
         let (empty, full) = (self.draft.constant(EMPTY), self.draft.constant(FULL));
-        let most = 24;
-        match (
-            self.random.below(5),
-            self.draft.constant_within(!value, most),
-        ) {
+        let other = self.draft.constant_within(!value, WITH_PINS);
+        match (self.random.below(5), other) {
             (0, _) => Relation::Equal(constant, v),
             (1, _) => Relation::Join(v, empty, constant),
             (2, _) => Relation::Join(empty, v, constant),
@@ -243,7 +229,7 @@ impl Builder<'_> {
         while self.draft.system(system).positive.len() < positive {
             let fails = second && verdict == Verdict::Vacuous;
             let leaves = if fails { self.some_leaves() } else { 0 };
-            let relation = self.relation(system, leaves, 28);
+            let relation = self.relation(system, leaves, WITH_FILLING);
             self.draft.system(system).positive.push(relation);
         }
         while self.draft.system(system).disequations.len() < disequations {
@@ -252,13 +238,10 @@ impl Builder<'_> {
                 true => 0,
                 false => self.some_leaves(),
             };
-            let relation = self.relation(system, leaves, 28);
+            let relation = self.relation(system, leaves, WITH_FILLING);
             self.draft.system(system).disequations.push(relation);
         }
-        let clauses = match system {
-            System::First => &mut self.draft.first,
-            System::Second => &mut self.draft.second,
-        };
+        let clauses = self.draft.system(system);
         shuffle(self.random, &mut clauses.positive);
         shuffle(self.random, &mut clauses.disequations);
     }
