@@ -66,8 +66,12 @@ def command(name, *arguments, given=b""):
 
 
 def program(string):
-    """What the printing program says of a byte string, as lines."""
-    return subprocess.run([os.environ["ZIMORGAL_CLI"]], input=string, stdout=subprocess.PIPE, check=True).stdout.decode().splitlines()
+    """What the printing program says of a byte string, as lines, each ended by byte 0A. It says nothing on standard error."""
+    done = subprocess.run([os.environ["ZIMORGAL_CLI"]], input=string, stdout=subprocess.PIPE, stderr=subprocess.PIPE, check=True)
+    *lines, rest = done.stdout.decode("ascii").split("\n")
+    if rest or done.stderr:
+        raise ValueError(f"the program says {done.stdout!r} and {done.stderr!r}")
+    return lines
 
 
 def program_says(string):

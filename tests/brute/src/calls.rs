@@ -1,52 +1,31 @@
-//! Compares the calls beside asking with the plain trees: the row of a variable, tree text, join and height
-//! of constants.
+//! Families of the calls beside asking: the row of a variable, tree text, join and height of constants. What is due
+//! comes from the plain trees.
 
-use crate::asking::Lent;
 use crate::judge::{ANSWER_BYTES, ROW_BYTES};
-use crate::library;
+use crate::lent::{Lent, CONTENTS};
+use crate::library::{self, LONGEST_TEXT};
 use crate::make::{random_leaves, random_row};
-use crate::question::hex;
+use crate::question::{hex, MOST_VARIABLES};
 use crate::random::Random;
-use crate::report::Report;
+use crate::report::{Family, Report};
 use crate::tree::{number_of_tree, tree_of_number, tree_of_row};
 
-/// The longest text that a row has.
-const LONGEST_TEXT: usize = 3070;
+pub const FAMILIES: &[Family] = &[
+    ("the row call", rows),
+    ("the text call", texts),
+    ("join and height of constants", constants),
+];
 
-pub fn compare_calls(report: &mut Report) {
-    rows(report);
-    texts(report);
-    constants(report);
-}
-
-/// The row of a variable: its offset and length, both 0 for the empty part.
-fn rows(report: &mut Report) {
-    report.family("the row call");
-    let mut random = Random::new(20);
-    for bytes in [0, 1, 127, 128, 1535, 1536, 1537, 4096] {
-        let variables = (0..=16).chain([127, 255, 256, 1 << 32, usize::MAX / 128, usize::MAX]);
-        for variable in variables {
-            let answer = Lent::new(&mut random, bytes);
-            let before = answer.all().to_vec();
-            let given = library::row(answer.part(), variable);
-            let (offset, length) = if bytes >= ANSWER_BYTES && variable <= 11 {
-                (variable * ROW_BYTES, ROW_BYTES)
-            } else {
-                (0, 0)
-            };
-            let due = offset as u64 + ((length as u64) << 32);
-            report.same("row", (bytes, variable, given), (bytes, variable, due));
-            report.same(
-                "the answer buffer is unchanged",
-                answer.all() == before,
-                true,
-            );
-        }
+/// The row of a variable: its offset in the low half, its length in the high one; 0 for the empty part.
+pub fn row_due(answer_bytes: usize, variable: usize) -> u64 {
+    if answer_bytes < ANSWER_BYTES || variable >= MOST_VARIABLES {
+        return 0;
     }
+    (variable * ROW_BYTES) as u64 + ((ROW_BYTES as u64) << 32)
 }
 
 /// The number that the text call is to give, and the text that it is to write.
-fn text_due(row: &[u8], text_bytes: usize) -> (u64, Vec<u8>) {
+pub fn text_due(row: &[u8], text_bytes: usize) -> (u64, Vec<u8>) {
     if row.len() != ROW_BYTES {
         return (14 << 32, Vec::new());
     }
@@ -57,79 +36,122 @@ fn text_due(row: &[u8], text_bytes: usize) -> (u64, Vec<u8>) {
     (text.len() as u64, text)
 }
 
-/// One call of the text call, with a row of any length.
-fn text_case(report: &mut Report, random: &mut Random, row: &[u8], text_bytes: usize) {
-    let lent = Lent::holding(random, row);
-    let mut text = Lent::new(random, text_bytes);
-    let row_before = lent.all().to_vec();
-    let mut all_due = text.all().to_vec();
-    let (due, written) = text_due(row, text_bytes);
-    all_due[text.start()..text.start() + written.len()].copy_from_slice(&written);
-    let number = library::text(lent.part(), text.part_mut());
-    let fault = if number != due {
-        format!("number {number:X}, expected {due:X}")
-    } else if text.all() != all_due {
-        "the text buffer, or a byte beside it, is not as due".to_string()
-    } else if lent.all() != row_before {
-        "a byte of the row or beside it was changed".to_string()
-    } else {
-        return report.case(Ok(()));
-    };
-    report.case(Err(format!("{} into {text_bytes}: {fault}", hex(row))));
+/// The join in the low half, or exactly 2^32.
+pub fn join_due(a: u32, b: u32) -> u64 {
+    let joined = tree_of_number(a).join(&tree_of_number(b));
+    joined.map_or(1 << 32, |tree| u64::from(number_of_tree(&tree)))
 }
 
-/// A row into buffers round the length of its text.
-fn text_cases(report: &mut Report, random: &mut Random, row: &[u8]) {
-    let length = tree_of_row(row).text().len();
-    let longer = length + random.below(200);
-    for bytes in [0, length - 1, length, length + 1, longer, LONGEST_TEXT] {
-        text_case(report, random, row, bytes);
+pub fn height_due(a: u32) -> u32 {
+    tree_of_number(a).height()
+}
+
+fn rows(report: &mut Report) {
+    let mut random = report.random();
+    for bytes in [0, 1, 127, 128, 1535, 1536, 1537, 4096] {
+        let variables = (0..=16).chain([127, 255, 256, 1 << 32, usize::MAX / 128, usize::MAX]);
+        for variable in variables {
+            let answer = Lent::random(&mut random, bytes);
+            let before = answer.all().to_vec();
+            let given = library::row(answer.part(), variable);
+            let due = row_due(bytes, variable);
+            report.case(match (given == due, answer.all() == before) {
+                (true, true) => Ok(()),
+                (false, _) => Err(format!("{given:X} of {bytes} and {variable}")),
+                _ => Err("the answer buffer, or a byte beside it, was changed".to_string()),
+            });
+        }
+    }
+}
+
+/// The text call, with the same memory again and again.
+struct Texts<'a> {
+    report: &'a mut Report,
+    random: Random,
+    row: Lent,
+    text: Lent,
+}
+
+impl Texts<'_> {
+    /// One call, with a row of any length.
+    fn case(&mut self, row: &[u8], text_bytes: usize) {
+        let content = self.random.pick(&CONTENTS);
+        self.row.lend_holding(&mut self.random, row);
+        self.text.lend(&mut self.random, text_bytes, content);
+        let row_due = self.row.all().to_vec();
+        let (due, written) = text_due(row, text_bytes);
+        let text_due = self.text.all_with(&written);
+
+        let number = library::text(self.row.part(), self.text.part_mut());
+
+        let fault = if number != due {
+            format!("number {number:X}, expected {due:X}")
+        } else if self.text.all() != text_due {
+            "the text buffer, or a byte beside it, is not as due".to_string()
+        } else if self.row.all() != row_due {
+            "a byte of the row or beside it was changed".to_string()
+        } else {
+            return self.report.case(Ok(()));
+        };
+        let fault = format!("{} into {text_bytes}: {fault}", hex(row));
+        self.report.case(Err(fault));
+    }
+
+    /// A row into buffers round the length of its text.
+    fn cases(&mut self, row: &[u8]) {
+        let length = tree_of_row(row).text().len();
+        let longer = length + self.random.below(200);
+        for bytes in [0, length - 1, length, length + 1, longer, LONGEST_TEXT] {
+            self.case(row, bytes);
+        }
     }
 }
 
 fn texts(report: &mut Report) {
-    report.family("the text call");
-    let mut random = Random::new(21);
+    let mut random = report.random();
+    let mut texts = Texts {
+        row: Lent::new(&mut random, ROW_BYTES),
+        text: Lent::new(&mut random, LONGEST_TEXT),
+        random,
+        report,
+    };
     for height in 0..=10 {
-        for _ in 0..150 {
-            let row = random_row(&mut random, height);
-            text_cases(report, &mut random, &row);
+        for _ in 0..texts.report.rounds(150) {
+            let row = random_row(&mut texts.random, height);
+            texts.cases(&row);
         }
     }
     for byte in 0..=255 {
-        text_cases(report, &mut random, &[byte; ROW_BYTES]);
+        texts.cases(&[byte; ROW_BYTES]);
     }
     for leaf in 0..1024 {
         let mut row = [0; ROW_BYTES];
         row[leaf / 8] = 1 << (leaf % 8);
-        text_cases(report, &mut random, &row);
+        texts.cases(&row);
+    }
+    for bytes in (0..300).filter(|bytes| *bytes != ROW_BYTES) {
+        let row = texts.random.bytes(bytes);
+        texts.case(&row, LONGEST_TEXT);
+        texts.case(&row, 0);
     }
     let longest = tree_of_row(&[0x55; ROW_BYTES]).text().len();
-    report.same("the longest text", longest, LONGEST_TEXT);
-    for bytes in (0..300).filter(|bytes| *bytes != ROW_BYTES) {
-        let row = random.bytes(bytes);
-        text_case(report, &mut random, &row, LONGEST_TEXT);
-        text_case(report, &mut random, &row, 0);
-    }
+    report.same_apart("the longest text", longest, LONGEST_TEXT);
 }
 
 fn constants(report: &mut Report) {
-    report.family("join and height of constants");
-    let mut random = Random::new(22);
+    let mut random = report.random();
     let mut undefined = 0;
-    for round in 0..30_000 {
+    for round in 0..report.rounds(30_000) {
         let a = random_leaves(&mut random, 5);
         let b = match round % 3 {
             0 => random_leaves(&mut random, 5),
             1 => random_leaves(&mut random, 5) & !a,
             _ => !a,
         };
-        let joined = tree_of_number(a).join(&tree_of_number(b));
-        undefined += usize::from(joined.is_none());
-        let due = joined.map_or(1 << 32, |tree| u64::from(number_of_tree(&tree)));
+        let due = join_due(a, b);
+        undefined += usize::from(due == 1 << 32);
         report.same("join", (a, b, library::join(a, b)), (a, b, due));
-        let height = tree_of_number(a).height();
-        report.same("height", (a, library::height(a)), (a, height));
+        report.same("height", (a, library::height(a)), (a, height_due(a)));
     }
     for bit in 0..32 {
         let a = 1 << bit;
@@ -138,5 +160,5 @@ fn constants(report: &mut Report) {
         report.same("join with empty", library::join(a, 0), u64::from(a));
         report.same("join to full", library::join(a, !a), 0xFFFF_FFFF);
     }
-    report.same("some joins were undefined", undefined > 1000, true);
+    report.same_apart("some joins were undefined", undefined > 1000, true);
 }

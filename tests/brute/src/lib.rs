@@ -5,21 +5,61 @@
 //! - `whole`: route A, every assignment of whole trees up to a height;
 //! - `single`: route B, one choice of values at a time, leaf by leaf, and the fixed solution;
 //! - `judge`: whether shown rows are a solution, and do not extend for the reason given;
-//! - `random`, `make`, `worked`: questions;
-//! - `library`: the exported calls;
-//! - `report`, `routes`, `calls`, `refusals`, `asking`: the comparisons.
+//! - `random`, `make`, `hidden`, `damage`, `worked`, `refusals`, `limits`, `every_byte`: questions and bytes;
+//! - `draft`, `pinned`: questions whose answer is told by how they were built;
+//! - `library`, `lent`, `due`, `asking`: the exported calls, what is lent to them and what they are to give;
+//! - `options`, `report`, `seen`: what a run is told, what it counts and what it must have seen;
+//! - `plain`, `routes`, `judging`: families of the solver alone;
+//! - `calls`, `documents`, `by_hand`, `made`, `splits`, `numbers`, `terms`, `loose`: families of the library.
 
 pub mod asking;
+pub mod by_hand;
 pub mod calls;
+pub mod damage;
+pub mod documents;
+pub mod draft;
+pub mod due;
+pub mod every_byte;
+pub mod hidden;
 pub mod judge;
+pub mod judging;
+pub mod lent;
 pub mod library;
+pub mod limits;
+pub mod loose;
+pub mod made;
 pub mod make;
+pub mod numbers;
+pub mod options;
+pub mod pinned;
+pub mod plain;
 pub mod question;
 pub mod random;
 pub mod refusals;
 pub mod report;
 pub mod routes;
+pub mod seen;
 pub mod single;
+pub mod splits;
+pub mod terms;
 pub mod tree;
 pub mod whole;
 pub mod worked;
+
+use report::Family;
+
+/// The families that compare the library with the solver. A new family is put into the list of its module, and into the
+/// table of tests/README.md.
+pub const WITH_THE_LIBRARY: &[&[Family]] = &[
+    calls::FAMILIES,
+    documents::FAMILIES,
+    by_hand::FAMILIES,
+    made::FAMILIES,
+    splits::FAMILIES,
+    numbers::FAMILIES,
+    terms::FAMILIES,
+    loose::FAMILIES,
+];
+
+/// The families that have no part of the library in them.
+pub const WITHOUT_IT: &[&[Family]] = &[plain::FAMILIES, routes::FAMILIES, judging::FAMILIES];

@@ -7,6 +7,15 @@ impl Random {
         Random(seed)
     }
 
+    /// Other numbers for each seed and name (Fowler, Noll and Vo's hash of the name).
+    pub fn named(seed: u64, name: &str) -> Random {
+        let mut hash: u64 = 0xCBF2_9CE4_8422_2325;
+        for byte in name.bytes() {
+            hash = (hash ^ u64::from(byte)).wrapping_mul(0x0000_0100_0000_01B3);
+        }
+        Random(Random(seed).number() ^ hash)
+    }
+
     /// The next number of Steele, Lea and Flood's SplitMix64.
     pub fn number(&mut self) -> u64 {
         self.0 = self.0.wrapping_add(0x9E37_79B9_7F4A_7C15);
@@ -39,11 +48,15 @@ impl Random {
     }
 
     pub fn bytes(&mut self, count: usize) -> Vec<u8> {
-        let mut bytes = Vec::with_capacity(count + 8);
-        while bytes.len() < count {
-            bytes.extend(self.number().to_le_bytes());
-        }
-        bytes.truncate(count);
+        let mut bytes = vec![0; count];
+        self.fill(&mut bytes);
         bytes
+    }
+
+    pub fn fill(&mut self, bytes: &mut [u8]) {
+        for part in bytes.chunks_mut(8) {
+            let number = self.number().to_le_bytes();
+            part.copy_from_slice(&number[..part.len()]);
+        }
     }
 }

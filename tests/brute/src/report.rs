@@ -1,85 +1,151 @@
-//! Counts cases and prints what went wrong.
+//! Runs families of cases, counts them and prints what went wrong. Cases that the library can fail are counted
+//! by the last line; what the tests check of themselves is counted apart.
 
+use crate::options::Options;
+use crate::random::Random;
+use std::panic::{catch_unwind, AssertUnwindSafe};
 use std::time::Instant;
 
 /// How many failures of one family are printed in full.
 const PRINTED: usize = 5;
 
-pub struct Report {
+/// A family's name, and what runs it.
+pub type Family = (&'static str, fn(&mut Report));
+
+#[derive(Clone, Copy, Default)]
+struct Count {
     passed: usize,
     failed: usize,
-    family: &'static str,
-    family_passed: usize,
-    family_failed: usize,
-    began: Instant,
 }
 
+impl Count {
+    fn add(&mut self, other: Count) {
+        self.passed += other.passed;
+        self.failed += other.failed;
+    }
+}
+
+pub struct Report {
+    pub options: Options,
+    family: &'static str,
+    /// Of the family that runs: cases of the library, and those apart.
+    here: [Count; 2],
+    /// Of all families before it.
+    whole: [Count; 2],
+}
+
+const LIBRARY: usize = 0;
+const APART: usize = 1;
+
 impl Report {
-    pub fn new() -> Report {
+    pub fn new(options: Options) -> Report {
+        println!("seed {}", options.seed);
         Report {
-            passed: 0,
-            failed: 0,
+            options,
             family: "",
-            family_passed: 0,
-            family_failed: 0,
-            began: Instant::now(),
+            here: [Count::default(); 2],
+            whole: [Count::default(); 2],
         }
     }
 
-    /// Starts a family of cases; the one before is summed up.
-    pub fn family(&mut self, name: &'static str) {
-        self.sum_up();
-        self.family = name;
-        self.began = Instant::now();
-    }
-
-    fn sum_up(&mut self) {
-        if self.family_passed + self.family_failed > 0 {
-            println!(
-                "{}: {} passed, {} failed, {:.1} s",
-                self.family,
-                self.family_passed,
-                self.family_failed,
-                self.began.elapsed().as_secs_f64()
-            );
+    /// Runs each family that is asked for. One that panics has failed.
+    pub fn run(&mut self, families: &[Family]) {
+        for &(name, family) in families {
+            if !self.options.wants(name) {
+                continue;
+            }
+            self.family = name;
+            let began = Instant::now();
+            if catch_unwind(AssertUnwindSafe(|| family(self))).is_err() {
+                self.case(Err("panicked".to_string()));
+            }
+            self.sum_up(began.elapsed().as_secs_f64());
         }
-        self.passed += self.family_passed;
-        self.failed += self.family_failed;
-        (self.family_passed, self.family_failed) = (0, 0);
     }
 
-    /// One case: what is wrong with it, if anything is.
-    pub fn case(&mut self, result: Result<(), String>) {
+    fn sum_up(&mut self, seconds: f64) {
+        let [library, apart] = self.here;
+        let mut line = format!("{}:", self.family);
+        if library.passed + library.failed > 0 {
+            line += &format!(" {} passed, {} failed;", library.passed, library.failed);
+        }
+        if apart.passed + apart.failed > 0 {
+            line += &format!(" apart {} passed, {} failed;", apart.passed, apart.failed);
+        }
+        println!("{line} {seconds:.1} s");
+        for (whole, here) in self.whole.iter_mut().zip(self.here) {
+            whole.add(here);
+        }
+        self.here = [Count::default(); 2];
+    }
+
+    /// Numbers for the family that runs.
+    pub fn random(&self) -> Random {
+        Random::named(self.options.seed, self.family)
+    }
+
+    /// How many rounds a random family has.
+    pub fn rounds(&self, once: usize) -> usize {
+        once * self.options.times
+    }
+
+    /// How many cases of the family that runs have failed.
+    pub fn failures(&self) -> usize {
+        self.here[LIBRARY].failed + self.here[APART].failed
+    }
+
+    fn count(&mut self, whose: usize, result: Result<(), String>) {
         match result {
-            Ok(()) => self.family_passed += 1,
+            Ok(()) => self.here[whose].passed += 1,
             Err(fault) => {
-                if self.family_failed < PRINTED {
+                if self.failures() < PRINTED {
                     println!("FAILED {}: {fault}", self.family);
                 }
-                self.family_failed += 1;
+                self.here[whose].failed += 1;
             }
         }
     }
 
-    /// One case in which two things are to be the same.
-    pub fn same<T: PartialEq + std::fmt::Debug>(&mut self, what: &str, given: T, expected: T) {
-        self.case(if given == expected {
-            Ok(())
-        } else {
-            Err(format!("{what}: {given:?}, expected {expected:?}"))
-        });
+    /// One case of the library: what is wrong with it, if anything is.
+    pub fn case(&mut self, result: Result<(), String>) {
+        self.count(LIBRARY, result);
     }
 
-    /// Prints the last line and says whether all passed.
-    pub fn finish(mut self) -> bool {
-        self.sum_up();
-        println!("{} passed, {} failed", self.passed, self.failed);
-        self.failed == 0 && self.passed > 0
+    /// One case of the library in which two things are to be the same.
+    pub fn same<T: PartialEq + std::fmt::Debug>(&mut self, what: &str, given: T, expected: T) {
+        self.case(same(what, given, expected));
+    }
+
+    /// Something that the tests check of themselves.
+    pub fn apart(&mut self, result: Result<(), String>) {
+        self.count(APART, result);
+    }
+
+    pub fn same_apart<T: PartialEq + std::fmt::Debug>(
+        &mut self,
+        what: &str,
+        given: T,
+        expected: T,
+    ) {
+        self.apart(same(what, given, expected));
+    }
+
+    /// Prints the last lines and says whether all passed, and whether there was anything to pass.
+    pub fn finish(self) -> bool {
+        let [library, apart] = self.whole;
+        println!(
+            "without the library: {} passed, {} failed",
+            apart.passed, apart.failed
+        );
+        let failed = library.failed + apart.failed;
+        println!("{} passed, {failed} failed", library.passed);
+        failed == 0 && library.passed + apart.passed > 0
     }
 }
 
-impl Default for Report {
-    fn default() -> Report {
-        Report::new()
+fn same<T: PartialEq + std::fmt::Debug>(what: &str, given: T, expected: T) -> Result<(), String> {
+    if given == expected {
+        return Ok(());
     }
+    Err(format!("{what}: {given:?}, expected {expected:?}"))
 }

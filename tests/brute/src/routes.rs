@@ -1,153 +1,28 @@
-//! Compares the two routes with each other, with the questions worked by hand and with the judge. The
-//! library has no part in it.
+//! Families of route A against route B: verdict, reason and disequation number; what route B shows, by the judge and by
+//! route A. The library has no part in it.
 
-use crate::judge::{extension_by_leaf, holds, judge, trees_of_rows, Flaw, ANSWER_BYTES, ROW_BYTES};
-use crate::make::{entailment, random_question, random_tree, Counts, Size, CHANGES};
-use crate::question::{disequations, hex, read, write, write_in_order, Question};
+use crate::judge::{extension_by_leaf, judge, trees_of_rows};
+use crate::make::{entailment, random_question, random_system, random_tree, Counts, Size, CHANGES};
+use crate::question::{hex, read, write_in_order, Question, MOST_VARIABLES};
 use crate::random::Random;
-use crate::refusals;
-use crate::report::Report;
+use crate::report::{Family, Report};
+use crate::seen::Seen;
 use crate::single::{decide, Outcome};
-use crate::tree::{
-    bytes_of_leaves, leaves_of_bytes, number_of_tree, row_of_tree, splits, tree_of_number,
-    tree_of_row, Tree,
-};
 use crate::whole::{
-    all_trees, entails, extension_of_trees, own_height, satisfiable, tree_count, Trees, Verdict,
-    TALLEST,
+    entails, extension_of_trees, own_height, satisfiable, tree_count, Trees, Verdict, TALLEST,
 };
 use crate::worked;
 
+pub const FAMILIES: &[Family] = &[
+    ("both routes: worked questions", worked_questions),
+    ("both routes: random questions", random_questions),
+    ("both routes: one height more", one_height_more),
+    ("both routes: entailments", entailments),
+    ("both routes: up to 12 variables", many_variables),
+];
+
 /// The most assignments of whole trees that one case may have.
 const MOST_ASSIGNMENTS: usize = 1 << 16;
-
-pub fn compare_routes(report: &mut Report) {
-    let trees = Trees::new();
-    plain_trees(report);
-    refusals_by_hand(report);
-    worked_by_hand(report, &trees);
-    written_and_read(report);
-    random_questions(report, &trees);
-    entailments(report, &trees);
-    judge_rejects(report);
-}
-
-fn plain_trees(report: &mut Report) {
-    report.family("plain trees");
-    for (n, k) in [
-        (0, 0),
-        (1, 0),
-        (2, 1),
-        (3, 2),
-        (4, 2),
-        (5, 3),
-        (31, 5),
-        (32, 5),
-    ] {
-        report.same("the least k with n at most 2^k", splits(n), k);
-    }
-    for height in 0..=TALLEST {
-        let trees = all_trees(height);
-        report.same("trees", trees.len(), tree_count(height));
-        let distinct: std::collections::HashSet<_> = trees.iter().collect();
-        report.same("distinct trees", distinct.len(), tree_count(height));
-    }
-    let texts = [
-        (0x0000_0000, "o"),
-        (0xFFFF_FFFF, "*"),
-        (0x0000_FFFF, "(*o)"),
-        (0xFFFF_0000, "(o*)"),
-        (0x0000_00FF, "((*o)o)"),
-        (0x0000_0001, "(((((*o)o)o)o)o)"),
-    ];
-    for (number, text) in texts {
-        let tree = tree_of_number(number);
-        report.same("text", tree.text(), text.to_string());
-        report.same("height", tree.height(), text.matches("(").count() as u32);
-        report.same("number", number_of_tree(&tree), number);
-    }
-    let quarters = [0x0000_00FF, 0x0000_FF00].map(tree_of_number);
-    let joined = quarters[0].join(&quarters[1]).map(|t| t.text());
-    report.same("the join of two quarters", joined, Some("(*o)".to_string()));
-    report.same("full join full", Tree::Full.join(&Tree::Full), None);
-    let mut random = Random::new(1);
-    for _ in 0..200 {
-        let tree = random_tree(&mut random, 5);
-        report.same("row", tree_of_row(&row_of_tree(&tree)), tree);
-        let bytes = random.bytes(ROW_BYTES);
-        report.same("bits", bytes_of_leaves(&leaves_of_bytes(&bytes)), bytes);
-    }
-}
-
-fn refusals_by_hand(report: &mut Report) {
-    report.family("refusals worked by hand, the reader");
-    for fault in refusals::by_hand() {
-        let given = read(&fault.bytes).map(|_| ());
-        report.same(fault.name, given, fault.refusal.map_or(Ok(()), Err));
-    }
-}
-
-fn worked_by_hand(report: &mut Report, trees: &Trees) {
-    report.family("worked questions, route B");
-    for worked in worked::all() {
-        let bytes = worked::bytes(worked.bytes);
-        let Ok(question) = read(&bytes) else {
-            report.case(Err(format!("{}: refused", worked.name)));
-            continue;
-        };
-        let outcome = decide(&question);
-        let given = (
-            outcome.yes,
-            outcome.height,
-            outcome.reason,
-            outcome.disequation,
-        );
-        let expected = (worked.yes, worked.height, worked.reason, worked.disequation);
-        report.same(worked.name, given, expected);
-        let texts = outcome.rows.map(|rows| texts_of_rows(&question, &rows));
-        let expected = worked
-            .shown
-            .map(|texts| texts.iter().map(|text| text.to_string()).collect());
-        report.same(worked.name, texts, expected);
-        if affordable(&question, 0) {
-            report.case(same_by_both(trees, &question, 0));
-        }
-    }
-    report.family("heights without a solution, route A");
-    for (text, heights) in [
-        (worked::THREE_NOT_EMPTY, &[false, true, true][..]),
-        (worked::FIVE_NOT_EMPTY, &[false, false, true][..]),
-    ] {
-        let question = read(&worked::bytes(text)).expect("a worked question");
-        for (height, expected) in heights.iter().enumerate() {
-            let given = satisfiable(trees, &question, height as u32);
-            report.same("has a solution of that height", given, *expected);
-        }
-    }
-}
-
-pub fn texts_of_rows(question: &Question, rows: &[u8]) -> Vec<String> {
-    let trees = trees_of_rows(question, rows);
-    trees.iter().map(Tree::text).collect()
-}
-
-fn written_and_read(report: &mut Report) {
-    report.family("questions written and read again");
-    let size = Size {
-        free: 6,
-        own: 6,
-        constants: 32,
-        height: 5,
-        positive: 64,
-        disequations: 31,
-    };
-    let mut random = Random::new(2);
-    for _ in 0..300 {
-        let question = random_question(&mut random, &size);
-        let bytes = write(&question, || random.once_in(2));
-        report.same("question", read(&bytes).as_ref(), Ok(&question));
-    }
-}
 
 /// The heights up to which route A tries free and own trees, `more` above those that are enough.
 fn heights(question: &Question, more: u32) -> (u32, u32) {
@@ -225,186 +100,150 @@ fn fault_of_shown(trees: &Trees, question: &Question, outcome: &Outcome) -> Opti
     (by_trees != by_leaf).then(|| format!("extension by trees {by_trees:?}, by leaf {by_leaf:?}"))
 }
 
-/// Which verdicts a family has seen, so that none goes untried.
-#[derive(Default)]
-pub struct Seen {
-    satisfiable: [usize; 2],
-    reasons: [usize; 4],
-    higher_numbers: usize,
+/// Compares the routes on questions as they are made, until there were so many that route A can try, and prints how
+/// many it could not.
+struct Both<'a> {
+    report: &'a mut Report,
+    random: Random,
+    trees: Trees,
+    seen: Seen,
+    too_dear: usize,
 }
 
-impl Seen {
-    pub fn note(&mut self, question: &Question, outcome: &Outcome) {
-        if question.entailment {
-            self.reasons[usize::from(outcome.reason)] += 1;
-            self.higher_numbers += usize::from(outcome.disequation > 0);
-        } else {
-            self.satisfiable[usize::from(outcome.yes)] += 1;
+impl Both<'_> {
+    fn new(report: &mut Report) -> Both<'_> {
+        Both {
+            random: report.random(),
+            report,
+            trees: Trees::new(),
+            seen: Seen::default(),
+            too_dear: 0,
         }
     }
 
-    /// Each verdict of kind 1, and for `both` of kind 0, was seen so often.
-    pub fn often(&self, report: &mut Report, least: usize, both: bool) {
-        let mut seen = self.reasons.to_vec();
-        if both {
-            seen.extend(self.satisfiable);
+    fn question(&mut self, question: &Question, more: u32) {
+        self.seen.note(question, &decide(question));
+        let compared = same_by_both(&self.trees, question, more);
+        self.report.apart(compared);
+    }
+
+    fn questions(&mut self, count: usize, more: u32, make: impl Fn(&mut Random) -> Question) {
+        let mut left = count;
+        while left > 0 {
+            let question = make(&mut self.random);
+            if affordable(&question, more) {
+                self.question(&question, more);
+                left -= 1;
+            } else {
+                self.too_dear += 1;
+            }
         }
-        report.case(if seen.iter().all(|count| *count >= least) {
-            Ok(())
-        } else {
-            Err(format!("verdicts seen too seldom: {seen:?}"))
-        });
-        report.case(if self.higher_numbers > 0 {
-            Ok(())
-        } else {
-            Err("no disequation number above 0 was seen".to_string())
-        });
+    }
+
+    fn finish(self) {
+        println!("questions too dear for route A: {}", self.too_dear);
     }
 }
 
-fn random_questions(report: &mut Report, trees: &Trees) {
-    report.family("random questions, route A against route B");
-    let size = Size {
-        free: 3,
-        own: 2,
-        constants: 2,
-        height: 2,
-        positive: 3,
-        disequations: 3,
-    };
-    let mut random = Random::new(3);
-    let mut seen = Seen::default();
-    let mut higher = 0;
-    for _ in 0..12_000 {
-        let question = random_question(&mut random, &size);
-        if !affordable(&question, 0) {
-            continue;
-        }
-        seen.note(&question, &decide(&question));
-        report.case(same_by_both(trees, &question, 0));
-        if affordable(&question, 1) {
-            higher += 1;
-            report.case(same_by_both(trees, &question, 1));
-        }
-    }
-    seen.often(report, 100, true);
-    report.same("one height more was tried", higher > 500, true);
-}
-
-fn entailments(report: &mut Report, trees: &Trees) {
-    report.family("entailments, route A against route B");
-    let mut random = Random::new(4);
-    let mut seen = Seen::default();
-    for round in 0..8_000 {
-        let sizes = (random.between(1, 3), random.below(3));
-        let constants = (random.between(1, 3), random.below(2) as u32);
-        let first = Counts {
-            positive: random.below(3),
-            disequations: random.below(3),
-        };
-        let second = Counts {
-            positive: random.below(3),
-            disequations: random.below(3),
-        };
-        let change = CHANGES[round % CHANGES.len()];
-        let question = entailment(&mut random, sizes, constants, (first, second), change);
+fn worked_questions(report: &mut Report) {
+    let mut both = Both::new(report);
+    for worked in worked::all() {
+        let question = read(&worked::bytes(worked.bytes)).expect("a worked question");
         if affordable(&question, 0) {
-            seen.note(&question, &decide(&question));
-            report.case(same_by_both(trees, &question, 0));
+            both.question(&question, 0);
+        } else {
+            both.too_dear += 1;
         }
     }
-    seen.often(report, 100, false);
+    let compared = both.seen.refusals[0];
+    both.report
+        .same_apart("most were compared", compared >= 25, true);
+    both.finish();
 }
 
-/// The judge turns away rows that are wrong in a way known beforehand.
-fn judge_rejects(report: &mut Report) {
-    report.family("the judge turns wrong rows away");
-    let question = |text| read(&worked::bytes(text)).expect("a worked question");
-    let three = question(worked::THREE_NOT_EMPTY);
-    let outcome = decide(&three);
-    let rows = outcome.rows.clone().expect("a solution is shown");
-    report.same("right rows", judge(&three, &outcome, &rows), Ok(()));
+const SMALL: Size = Size {
+    free: 3,
+    own: 2,
+    constants: 2,
+    height: 2,
+    positive: 3,
+    disequations: 3,
+};
 
-    let mut foreign = rows.clone();
-    foreign[ANSWER_BYTES - 1] = 0x80;
-    let flaw = Err(Flaw::ForeignRow(11));
-    report.same("foreign row", judge(&three, &outcome, &foreign), flaw);
-
-    let lower = Outcome {
-        height: 1,
-        ..outcome.clone()
-    };
-    let flaw = Err(Flaw::TooTall(0));
-    report.same("too tall", judge(&three, &lower, &rows), flaw);
-
-    let empty = vec![0; ANSWER_BYTES];
-    let flaw = Err(Flaw::Broken(1));
-    report.same("empty rows", judge(&three, &outcome, &empty), flaw);
-
-    let mut overlap = rows.clone();
-    overlap.copy_within(2 * ROW_BYTES..3 * ROW_BYTES, 0);
-    let flaw = Err(Flaw::Broken(0));
-    report.same("overlap", judge(&three, &outcome, &overlap), flaw);
-
-    extending_rows(
-        report,
-        &question("01 01 02 00 | F E | 10 00 01 20 | 23 00 21 | 00"),
-    );
-    flipped_rows(report);
+fn random_questions(report: &mut Report) {
+    let mut both = Both::new(report);
+    let count = both.report.rounds(8_000);
+    both.questions(count, 0, |random| random_question(random, &SMALL));
+    both.seen.kind_0(both.report, 100);
+    both.seen.kind_1(both.report, 100);
+    both.finish();
 }
 
-fn extending_rows(report: &mut Report, entailment: &Question) {
-    let outcome = decide(entailment);
-    let mut rows = vec![0; ANSWER_BYTES];
-    rows[..ROW_BYTES].fill(0xFF);
-    let flaw = Err(Flaw::WrongReason);
-    report.same("rows that extend", judge(entailment, &outcome, &rows), flaw);
-    let rows = outcome.rows.clone().expect("a solution is shown");
-    let other = Outcome {
-        reason: 2,
-        ..outcome
-    };
-    report.same("another reason", judge(entailment, &other, &rows), flaw);
+fn one_height_more(report: &mut Report) {
+    let mut both = Both::new(report);
+    let count = both.report.rounds(4_000);
+    both.questions(count, 1, |random| random_question(random, &SMALL));
+    both.seen.kind_0(both.report, 50);
+    both.seen.kind_1(both.report, 50);
+    both.finish();
 }
 
-/// Rows with one bit changed are judged as the clauses say, read leaf by leaf.
-fn flipped_rows(report: &mut Report) {
-    let size = Size {
-        free: 4,
-        own: 0,
-        constants: 3,
-        height: 5,
-        positive: 2,
-        disequations: 4,
-    };
-    let mut random = Random::new(5);
-    let mut broken = 0;
-    for _ in 0..2000 {
-        let question = random_question(&mut random, &size);
-        let outcome = decide(&question);
-        let (Some(mut rows), 1..) = (outcome.rows.clone(), question.free) else {
-            continue;
-        };
-        rows[random.below(question.free * ROW_BYTES)] ^= 1 << random.below(8);
-        let solves = solves_leaf_by_leaf(&question, &rows);
-        broken += usize::from(!solves);
-        let trees = trees_of_rows(&question, &rows);
-        let held = question.first.iter().all(|c| holds(&question, c, &trees));
-        report.same("changed rows solve", held, solves);
+fn entailments(report: &mut Report) {
+    let mut both = Both::new(report);
+    for change in CHANGES {
+        let count = both.report.rounds(1_500);
+        both.questions(count, 0, |random| {
+            let sizes = (random.between(1, 3), random.below(3));
+            let constants = (random.between(1, 3), random.below(2) as u32);
+            let clauses = (counts(random, 2, 2), counts(random, 2, 2));
+            entailment(random, sizes, constants, clauses, change)
+        });
     }
-    report.same("some changed rows break a clause", broken > 100, true);
+    both.seen.kind_1(both.report, 100);
+    both.finish();
 }
 
-fn solves_leaf_by_leaf(question: &Question, rows: &[u8]) -> bool {
-    let rows: Vec<Vec<bool>> = rows.chunks(ROW_BYTES).map(leaves_of_bytes).collect();
-    let constants = crate::single::constants_by_leaf(question, 10);
-    let holds_at = |clause, leaf: usize| {
-        let choice: Vec<bool> = rows.iter().map(|row| row[leaf]).collect();
-        crate::single::holds_at_leaf(clause, &choice, &constants[leaf])
+fn counts(random: &mut Random, positive: usize, disequations: usize) -> Counts {
+    Counts {
+        positive: random.below(positive + 1),
+        disequations: random.below(disequations + 1),
+    }
+}
+
+/// Every number of free and own variables, with few disequations and low constants where there are many.
+fn many_variables(report: &mut Report) {
+    let mut both = Both::new(report);
+    let count = both.report.rounds(12);
+    for variables in 0..=MOST_VARIABLES {
+        both.questions(4 * count, 0, |random| of_size(random, false, variables, 0));
+        for own in 0..=variables {
+            both.questions(count, 0, |random| {
+                of_size(random, true, variables - own, own)
+            });
+        }
+    }
+    both.seen.kind_0(both.report, 20);
+    both.seen.kind_1(both.report, 20);
+    both.finish();
+}
+
+fn of_size(random: &mut Random, entailment: bool, free: usize, own: usize) -> Question {
+    let height = random.below(2) as u32;
+    let constants: Vec<_> = (0..random.below(4))
+        .map(|_| random_tree(random, height))
+        .collect();
+    let first = counts(random, 6, 2);
+    let second = match entailment {
+        true => counts(random, 6, 2),
+        false => counts(random, 0, 0),
     };
-    let negated = disequations(&question.first);
-    let some = |c| (0..constants.len()).any(|leaf| holds_at(c, leaf));
-    let every = |c| (0..constants.len()).all(|leaf| holds_at(c, leaf));
-    let positive = question.first.iter().filter(|c| !c.negated);
-    positive.into_iter().all(every) && negated.iter().all(some)
+    let count = constants.len();
+    Question {
+        entailment,
+        free,
+        own,
+        constants,
+        first: random_system(random, free, count, first),
+        second: random_system(random, free + own, count, second),
+    }
 }

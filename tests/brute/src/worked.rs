@@ -3,6 +3,9 @@
 //! written out; `E`, `F`, `L`, `R` stand for the commands that define the empty share, the full one, the left
 //! half and the right half, and `|` only parts the commands for the reader.
 
+use crate::due::packed_outcome;
+use crate::single::Outcome;
+
 /// A question, its answer, and the tree texts of the fixed solution where one is shown.
 pub struct Worked {
     pub name: &'static str,
@@ -12,6 +15,19 @@ pub struct Worked {
     pub reason: u8,
     pub disequation: usize,
     pub shown: Option<&'static [&'static str]>,
+}
+
+impl Worked {
+    /// The number that asking is to give.
+    pub fn number(&self) -> u64 {
+        packed_outcome(&Outcome {
+            yes: self.yes,
+            height: self.height,
+            reason: self.reason,
+            disequation: self.disequation,
+            rows: None,
+        })
+    }
 }
 
 const fn yes(

@@ -3,16 +3,16 @@
 use crate::asking::{ask, case};
 use crate::memory::{Heap, ALIGNMENTS};
 use crate::samples;
-use crate::texts::{row, text, LONGEST_TEXT};
+use crate::texts::{row, text};
 use brute::judge::ANSWER_BYTES;
-use brute::library::ASK_WORK_BYTES;
+use brute::library::{ASK_WORK_BYTES, LONGEST_TEXT};
 use brute::make::random_row;
-use brute::random::Random;
-use brute::report::Report;
+use brute::report::{Family, Report};
 
-pub fn compare(report: &mut Report, seed: u64) {
-    report.family("every alignment");
-    let mut random = Random::new(seed);
+pub const FAMILIES: &[Family] = &[("every alignment", every_alignment)];
+
+fn every_alignment(report: &mut Report) {
+    let mut random = report.random();
     for (bytes, decided) in samples::one_of_each() {
         for number in 0..ALIGNMENTS.pow(3) {
             let [a, b, c] = [1, ALIGNMENTS, ALIGNMENTS.pow(2)].map(|n| number / n % ALIGNMENTS);

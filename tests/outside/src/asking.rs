@@ -1,61 +1,10 @@
-//! What asking is to give, and whether one call of it gives that.
+//! Whether one call of asking gives what is due.
 
 use crate::calls;
-use crate::memory::{all_with, lent, Memory};
+use crate::memory::{all_with, Memory};
+use brute::due::{due, Decided};
 use brute::judge::{judge, ANSWER_BYTES};
-use brute::library::ASK_WORK_BYTES;
-use brute::question::{hex, read, Question, Refusal};
-use brute::single::{decide, Outcome};
-
-/// What the brute-force solver says of some bytes, with buffers that are long enough.
-pub enum Decided {
-    Refused(Refusal),
-    Answered(Question, Outcome),
-}
-
-pub fn decided(bytes: &[u8]) -> Decided {
-    match read(bytes) {
-        Err(refusal) => Decided::Refused(refusal),
-        Ok(question) => {
-            let outcome = decide(&question);
-            Decided::Answered(question, outcome)
-        }
-    }
-}
-
-/// What one call is to give: the number, and the first bytes of both buffers.
-struct Due {
-    number: u64,
-    answer: Vec<u8>,
-    work: Vec<u8>,
-}
-
-fn refused(number: u8, place: usize) -> Due {
-    let [low, high] = (place as u16).to_le_bytes();
-    Due {
-        number: u64::from_le_bytes([0, number, low, high, 0, 0, 0, 0]),
-        answer: Vec::new(),
-        work: Vec::new(),
-    }
-}
-
-fn due(decided: &Decided, answer_bytes: usize, work_bytes: usize) -> Due {
-    match decided {
-        Decided::Refused(refusal) => refused(refusal.number, refusal.place),
-        Decided::Answered(..) if answer_bytes < ANSWER_BYTES => refused(11, 0),
-        Decided::Answered(..) if work_bytes < ASK_WORK_BYTES => refused(12, 0),
-        Decided::Answered(_, outcome) => {
-            let verdict = if outcome.yes { 1 } else { 2 };
-            let (height, number) = (outcome.height as u8, outcome.disequation as u8);
-            let fields = [verdict, 0, 0, 0, height, outcome.reason, number, 0];
-            Due {
-                number: u64::from_le_bytes(fields),
-                answer: outcome.rows.clone().unwrap_or_default(),
-                work: vec![0; ASK_WORK_BYTES],
-            }
-        }
-    }
-}
+use brute::question::hex;
 
 /// One call of asking: the number it gives, or what is wrong with it.
 pub fn ask(
@@ -78,7 +27,7 @@ pub fn ask(
         ));
     }
     if let (Decided::Answered(asked, outcome), false) = (decided, due.answer.is_empty()) {
-        let shown = &lent(answer)[..ANSWER_BYTES];
+        let shown = &answer.all()[answer.start()..answer.start() + ANSWER_BYTES];
         if let Err(flaw) = judge(asked, outcome, shown) {
             return Err(format!("shown rows are wrong: {flaw:?}"));
         }

@@ -1,22 +1,12 @@
-//! The exported calls on bare pointers, so that a null pointer can be passed too; and what is printed if
-//! one of them crashes.
+//! The exported calls that take memory, on bare pointers, so that a null pointer can be passed too; and what is
+//! printed if one of them crashes.
 
 use crate::memory::Memory;
+use brute::library::bare::{zimorgal_ask, zimorgal_row, zimorgal_text};
 use std::cell::Cell;
 use std::ffi::{c_int, c_void};
 
 extern "C" {
-    fn zimorgal_ask(
-        question: *const u8,
-        question_bytes: usize,
-        answer: *mut u8,
-        answer_bytes: usize,
-        work: *mut u8,
-        work_bytes: usize,
-    ) -> u64;
-    fn zimorgal_row(answer: *const u8, answer_bytes: usize, variable: usize) -> u64;
-    fn zimorgal_text(row: *const u8, row_bytes: usize, text: *mut u8, text_bytes: usize) -> u64;
-
     fn signal(number: c_int, handler: extern "C" fn(c_int)) -> usize;
     fn write(file: c_int, bytes: *const c_void, count: usize) -> isize;
     fn _exit(status: c_int) -> !;
@@ -48,6 +38,9 @@ pub fn text(row: &mut dyn Memory, text: &mut dyn Memory) -> u64 {
     // Each pointer comes with the length of its memory, and the two share no byte.
     unsafe { zimorgal_text(row.pointer(), row.length(), text.pointer(), text.length()) }
 }
+
+/// How many bytes of what a call reads are printed if it crashes.
+const MOST_PRINTED: usize = 1500;
 
 /// The call that a thread is in: its name and the bytes it reads.
 #[derive(Clone, Copy)]
@@ -88,7 +81,7 @@ extern "C" fn crashed(number: c_int) {
     print(" in the call ");
     print(note.call);
     print(" on ");
-    for at in 0..note.count {
+    for at in 0..note.count.min(MOST_PRINTED) {
         // The noted bytes are lent until the call returns.
         let byte = unsafe { *note.bytes.add(at) };
         print_digits(usize::from(byte >> 4), 16);

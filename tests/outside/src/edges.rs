@@ -1,25 +1,28 @@
 //! Null pointers with length 0, and every length of every buffer from 0 to some past its edge.
 
-use crate::asking::{ask, case, decided, Decided};
+use crate::asking::{ask, case};
 use crate::memory::{Heap, Memory, Null};
 use crate::samples;
-use crate::texts::{row, text, LONGEST_TEXT};
+use crate::texts::{row, text};
+use brute::due::{decided, Decided};
 use brute::judge::{ANSWER_BYTES, ROW_BYTES};
-use brute::library::ASK_WORK_BYTES;
+use brute::library::{ASK_WORK_BYTES, LONGEST_TEXT};
 use brute::make::random_row;
 use brute::random::Random;
-use brute::report::Report;
+use brute::report::{Family, Report};
+
+pub const FAMILIES: &[Family] = &[
+    ("null pointers", nulls),
+    ("lengths of the buffers of asking", lengths_for_asking),
+    ("lengths of the question", long_questions),
+    (
+        "lengths for the row call and the text call",
+        lengths_for_rows_and_texts,
+    ),
+];
 
 /// How far past an edge the lengths go.
 const PAST: usize = 70;
-
-pub fn compare(report: &mut Report, seed: u64) {
-    let mut random = Random::new(seed);
-    nulls(report, &mut random);
-    lengths_for_asking(report, &mut random);
-    long_questions(report, &mut random);
-    lengths_for_rows_and_texts(report, &mut random);
-}
 
 /// Memory with these bytes, or a null pointer.
 fn or_null(random: &mut Random, null: bool, content: &[u8]) -> Box<dyn Memory> {
@@ -30,8 +33,8 @@ fn or_null(random: &mut Random, null: bool, content: &[u8]) -> Box<dyn Memory> {
 }
 
 /// Every call with each of its buffers null or not, in all combinations.
-fn nulls(report: &mut Report, random: &mut Random) {
-    report.family("null pointers");
+fn nulls(report: &mut Report) {
+    let random = &mut report.random();
     for (bytes, _) in samples::one_of_each() {
         for which in 0..8 {
             let mut question = or_null(random, which & 1 > 0, &bytes);
@@ -53,8 +56,8 @@ fn nulls(report: &mut Report, random: &mut Random) {
     }
 }
 
-fn lengths_for_asking(report: &mut Report, random: &mut Random) {
-    report.family("lengths of the buffers of asking");
+fn lengths_for_asking(report: &mut Report) {
+    let random = &mut report.random();
     for (bytes, decided) in samples::one_of_each() {
         let mut with = |answer_bytes, work_bytes| {
             let mut question = Heap::holding(random, 0, &bytes);
@@ -77,8 +80,8 @@ fn lengths_for_asking(report: &mut Report, random: &mut Random) {
 }
 
 /// Questions cut everywhere, and longer than any that is accepted, up to far past what two bytes can number.
-fn long_questions(report: &mut Report, random: &mut Random) {
-    report.family("lengths of the question");
+fn long_questions(report: &mut Report) {
+    let random = &mut report.random();
     let mut with = |report: &mut Report, bytes: &[u8]| {
         let decided = decided(bytes);
         let mut question = Heap::holding(random, 0, bytes);
@@ -110,8 +113,8 @@ fn long_questions(report: &mut Report, random: &mut Random) {
     }
 }
 
-fn lengths_for_rows_and_texts(report: &mut Report, random: &mut Random) {
-    report.family("lengths for the row call and the text call");
+fn lengths_for_rows_and_texts(report: &mut Report) {
+    let random = &mut report.random();
     for answer_bytes in (0..ANSWER_BYTES + PAST).chain([4096, 65_536, 1 << 20]) {
         let mut answer = Heap::new(random, 0, answer_bytes);
         for variable in [0, 1, 10, 11, 12, 255, 256, 1 << 32, usize::MAX] {

@@ -1,20 +1,16 @@
 //! Memory that is lent to a call, among bytes that are not lent.
 
+use brute::lent::Lent;
 use brute::random::Random;
 
 pub trait Memory {
     /// Where the lent bytes begin, as the call is told.
     fn pointer(&mut self) -> *mut u8;
     fn length(&self) -> usize;
-    /// The lent bytes and those round them.
+    /// The bytes that are looked at: the lent ones (of very long memory only the first) and those round them.
     fn all(&self) -> &[u8];
     /// Where the lent bytes begin among all.
     fn start(&self) -> usize;
-}
-
-/// The lent bytes.
-pub fn lent(memory: &dyn Memory) -> &[u8] {
-    &memory.all()[memory.start()..memory.start() + memory.length()]
 }
 
 /// All bytes as they are to be once the first lent ones have become `written`.
@@ -91,5 +87,23 @@ impl Memory for Heap {
 
     fn start(&self) -> usize {
         self.start
+    }
+}
+
+impl Memory for Lent {
+    fn pointer(&mut self) -> *mut u8 {
+        self.part_mut().as_mut_ptr()
+    }
+
+    fn length(&self) -> usize {
+        self.part().len()
+    }
+
+    fn all(&self) -> &[u8] {
+        self.all()
+    }
+
+    fn start(&self) -> usize {
+        self.start()
     }
 }

@@ -1,23 +1,24 @@
 //! Questions that grow by mutation. What gives a new combination of verdict, refusal, reason and height is
 //! kept, and mutated further. Every question depends on the seed alone, so a failure comes again with it.
 
-use crate::asking::{ask, decided};
+use crate::asking::ask;
 use crate::commands::commands;
 use crate::memory::Heap;
 use crate::samples;
 use crate::shrink::shrunk;
+use brute::due::decided;
 use brute::judge::ANSWER_BYTES;
 use brute::library::ASK_WORK_BYTES;
 use brute::question::{hex, read};
 use brute::random::Random;
-use brute::report::Report;
+use brute::report::{Family, Report};
 use std::collections::HashSet;
 use std::time::{Duration, Instant};
 
-pub enum Bound {
-    Rounds(usize),
-    Time(Duration),
-}
+pub const FAMILIES: &[Family] = &[("mutation", mutation)];
+
+/// How many rounds there are where no seconds are given: some seconds' worth.
+const ROUNDS: usize = 80_000;
 
 /// Verdict, refusal number, reason and height.
 type Combination = [u8; 4];
@@ -32,14 +33,15 @@ const MOST_FAILURES: usize = 5;
 /// Questions are cut to so many bytes; no accepted one has more than 925.
 const LONGEST: usize = 1500;
 
-pub fn compare(report: &mut Report, seed: u64, bound: Bound) {
-    report.family("mutation");
-    let mut run = Run::new(report, seed);
+fn mutation(report: &mut Report) {
+    let mut run = Run::new(report);
     let began = Instant::now();
+    let seconds = report.options.seconds.map(Duration::from_secs);
+    let rounds = report.rounds(ROUNDS);
     while run.failures < MOST_FAILURES
-        && match bound {
-            Bound::Rounds(rounds) => run.round < rounds,
-            Bound::Time(time) => began.elapsed() < time,
+        && match seconds {
+            Some(time) => began.elapsed() < time,
+            None => run.round < rounds,
         }
     {
         run.one_round(report);
@@ -60,13 +62,13 @@ struct Run {
 
 impl Run {
     /// The corpus at the start, asked once.
-    fn new(report: &mut Report, seed: u64) -> Run {
-        let mut random = Random::new(seed);
+    fn new(report: &mut Report) -> Run {
+        let mut random = report.random();
         let mut corpus = samples::by_hand();
         corpus.retain(|bytes| bytes.len() <= LONGEST);
         corpus.extend((0..100).map(|_| samples::accepted(&mut random)));
         let mut run = Run {
-            seed,
+            seed: report.options.seed,
             random,
             corpus: Vec::new(),
             seen: HashSet::new(),
@@ -112,18 +114,18 @@ impl Run {
 fn enough_seen(report: &mut Report, seen: &HashSet<Combination>) {
     for refusal in 1..=12 {
         let there = seen.contains(&[0, refusal, 0, 0]);
-        report.same("a refusal was seen", (refusal, there), (refusal, true));
+        report.same_apart("a refusal was seen", (refusal, there), (refusal, true));
     }
     for (verdict, reason) in [(1, 0), (1, 1), (2, 0), (2, 2), (2, 3)] {
         let there = seen.iter().any(|c| (c[0], c[2]) == (verdict, reason));
-        report.same(
+        report.same_apart(
             "a verdict was seen",
             (verdict, reason, there),
             (verdict, reason, true),
         );
     }
     let heights = (0..=10).filter(|height| seen.iter().any(|c| c[0] > 0 && c[3] == *height));
-    report.same("heights seen", heights.count(), 11);
+    report.same_apart("heights seen", heights.count(), 11);
 }
 
 /// Lengths of buffers: mostly enough, now and then round the edge.

@@ -1,38 +1,25 @@
 //! Every buffer against a page that is not accessible: right before it and right after it. A read or a write
 //! outside the buffer crashes there, and so does a write to bytes that are only lent to be read.
 
-use crate::asking::{ask, case, decided, Decided};
+use crate::asking::{ask, case};
+use crate::mapping::{page_bytes, Access, Mapping};
 use crate::memory::Memory;
 use crate::samples;
-use crate::texts::{row, text, LONGEST_TEXT};
+use crate::texts::{row, text};
+use brute::due::{decided, Decided};
 use brute::judge::{ANSWER_BYTES, ROW_BYTES};
-use brute::library::ASK_WORK_BYTES;
+use brute::library::{ASK_WORK_BYTES, LONGEST_TEXT};
 use brute::make::{largest, random_row, CHANGES};
 use brute::question::write;
 use brute::random::Random;
-use brute::report::Report;
+use brute::report::{Family, Report};
 use brute::tree::tree_of_row;
-use std::ffi::{c_int, c_long, c_void};
 
-extern "C" {
-    fn mmap(
-        at: *mut c_void,
-        length: usize,
-        protection: c_int,
-        flags: c_int,
-        file: c_int,
-        offset: c_long,
-    ) -> *mut c_void;
-    fn mprotect(at: *mut c_void, length: usize, protection: c_int) -> c_int;
-    fn munmap(at: *mut c_void, length: usize) -> c_int;
-    fn sysconf(name: c_int) -> c_long;
-}
-
-const NONE: c_int = 0;
-const READ: c_int = 1;
-const READ_AND_WRITE: c_int = 3;
-const PRIVATE_AND_ANONYMOUS: c_int = 0x22;
-const PAGE_SIZE: c_int = 30;
+pub const FAMILIES: &[Family] = &[
+    ("asking at the edge of a page", asking),
+    ("cut questions at the edge of a page", cut_questions),
+    ("rows and texts at the edge of a page", rows_and_texts),
+];
 
 #[derive(Clone, Copy, Debug, PartialEq, Eq)]
 enum Side {
@@ -44,8 +31,7 @@ const SIDES: [Side; 2] = [Side::Before, Side::After];
 
 /// Pages between two that are not accessible, with lent bytes at one end of them.
 struct Pages {
-    mapped: *mut u8,
-    page: usize,
+    mapping: Mapping,
     /// How many bytes are accessible.
     room: usize,
     side: Side,
@@ -55,45 +41,29 @@ struct Pages {
 impl Pages {
     /// Room for so many lent bytes.
     fn new(most: usize) -> Pages {
-        // These calls read and write no memory of this program; what they give is looked at.
-        unsafe {
-            let page = sysconf(PAGE_SIZE) as usize;
-            let room = most.max(1).next_multiple_of(page);
-            let whole = room + 2 * page;
-            let mapped = mmap(
-                std::ptr::null_mut(),
-                whole,
-                NONE,
-                PRIVATE_AND_ANONYMOUS,
-                -1,
-                0,
-            );
-            assert!(mapped as isize != -1, "no memory");
-            Pages {
-                mapped: mapped.cast(),
-                page,
-                room,
-                side: Side::After,
-                length: 0,
-            }
+        let room = most.max(1).next_multiple_of(page_bytes());
+        let mapping = Mapping::new(room + 2 * page_bytes(), Access::None);
+        Pages {
+            mapping: mapping.expect("memory"),
+            room,
+            side: Side::After,
+            length: 0,
         }
     }
 
     fn accessible(&self) -> *mut u8 {
         // One page into the mapping.
-        unsafe { self.mapped.add(self.page) }
+        unsafe { self.mapping.start().add(page_bytes()) }
     }
 
-    fn protect(&self, protection: c_int) {
-        // The room lies within the mapping.
-        let done = unsafe { mprotect(self.accessible().cast(), self.room, protection) };
-        assert_eq!(done, 0, "mprotect");
+    fn protect(&self, access: Access) {
+        self.mapping.protect(page_bytes(), self.room, access);
     }
 
     /// Lends these bytes, with the page that is not accessible on one side of them.
     fn lend(&mut self, random: &mut Random, side: Side, content: &[u8]) -> &mut Pages {
         (self.side, self.length) = (side, content.len());
-        self.protect(READ_AND_WRITE);
+        self.protect(Access::ReadAndWrite);
         // The room is mapped, and may be written now.
         let all = unsafe { std::slice::from_raw_parts_mut(self.accessible(), self.room) };
         all.fill(random.byte());
@@ -105,20 +75,13 @@ impl Pages {
     /// The same, but a write crashes.
     fn lend_to_read(&mut self, random: &mut Random, side: Side, content: &[u8]) -> &mut Pages {
         self.lend(random, side, content);
-        self.protect(READ);
+        self.protect(Access::Read);
         self
     }
 
     fn lend_random(&mut self, random: &mut Random, side: Side, length: usize) -> &mut Pages {
         let content = random.bytes(length);
         self.lend(random, side, &content)
-    }
-}
-
-impl Drop for Pages {
-    fn drop(&mut self) {
-        // The mapping is this one's own.
-        unsafe { munmap(self.mapped.cast(), self.room + 2 * self.page) };
     }
 }
 
@@ -156,39 +119,49 @@ const MORE: usize = 300;
 /// Longer questions are left out here.
 const LONGEST_QUESTION: usize = 1500;
 
-pub fn compare(report: &mut Report, seed: u64) {
-    let mut random = Random::new(seed);
-    let mut buffers = Buffers {
+fn buffers() -> Buffers {
+    Buffers {
         question: Pages::new(LONGEST_QUESTION),
         answer: Pages::new(ANSWER_BYTES + MORE),
         work: Pages::new(ASK_WORK_BYTES + MORE),
-    };
-    report.family("asking at the edge of a page");
-    let mut questions = samples::by_hand();
-    questions.retain(|bytes| bytes.len() <= LONGEST_QUESTION);
-    questions.extend((0..300).map(|_| samples::accepted(&mut random)));
-    for round in 0..8 {
-        let question = largest(&mut random, round + 4, CHANGES[round % 4]);
+    }
+}
+
+/// Some of the largest questions.
+fn large(random: &mut Random, count: usize) -> Vec<Vec<u8>> {
+    let mut questions = Vec::new();
+    for round in 0..count {
+        let question = largest(random, round + 4, CHANGES[round % 4]);
         questions.push(write(&question, || random.once_in(2)));
     }
+    questions
+}
+
+fn asking(report: &mut Report) {
+    let mut random = report.random();
+    let mut buffers = buffers();
+    let mut questions = samples::by_hand();
+    questions.retain(|bytes| bytes.len() <= LONGEST_QUESTION);
+    questions.extend((0..report.rounds(300)).map(|_| samples::accepted(&mut random)));
+    questions.extend(large(&mut random, 8));
     for bytes in &questions {
         every_length(report, &mut random, &mut buffers, bytes);
     }
-    report.family("cut questions at the edge of a page");
-    for bytes in questions.iter().rev().take(60) {
+}
+
+fn cut_questions(report: &mut Report) {
+    let mut random = report.random();
+    let mut buffers = buffers();
+    let mut questions = large(&mut random, 8);
+    questions.extend((0..report.rounds(52)).map(|_| samples::accepted(&mut random)));
+    for bytes in &questions {
         for length in 0..bytes.len() {
             let cut = &bytes[..length];
             let lengths = (ANSWER_BYTES, ASK_WORK_BYTES);
-            one(
-                report,
-                &mut random,
-                &mut buffers,
-                (cut, &decided(cut)),
-                lengths,
-            );
+            let decided = decided(cut);
+            one(report, &mut random, &mut buffers, (cut, &decided), lengths);
         }
     }
-    rows_and_texts(report, &mut random);
 }
 
 fn every_length(report: &mut Report, random: &mut Random, buffers: &mut Buffers, bytes: &[u8]) {
@@ -221,8 +194,8 @@ fn one(
     }
 }
 
-fn rows_and_texts(report: &mut Report, random: &mut Random) {
-    report.family("rows and texts at the edge of a page");
+fn rows_and_texts(report: &mut Report) {
+    let random = &mut report.random();
     let mut from = Pages::new(ROW_BYTES + MORE);
     let mut to = Pages::new(LONGEST_TEXT + MORE);
     let mut answer = Pages::new(ANSWER_BYTES + MORE);

@@ -1,6 +1,6 @@
 //! Questions that several families start from.
 
-use crate::asking::{decided, Decided};
+use brute::due::{decided, Decided};
 use brute::make::{crowded, entailment, random_question, Counts, Size, CHANGES};
 use brute::question::write;
 use brute::random::Random;

@@ -1,55 +1,52 @@
 //! What the text call and the row call are to give, and whether one call gives that.
 
 use crate::calls;
-use crate::memory::{all_with, lent, Memory};
-use brute::judge::{ANSWER_BYTES, ROW_BYTES};
-use brute::question::{hex, MOST_VARIABLES};
-use brute::tree::tree_of_row;
+use crate::memory::{all_with, Memory};
+use brute::calls::{row_due, text_due};
+use brute::question::hex;
 
-pub const LONGEST_TEXT: usize = 3070;
-
-/// One call of the text call.
+/// One call of the text call with a row that is looked at whole.
 pub fn text(row: &mut dyn Memory, text: &mut dyn Memory) -> Result<(), String> {
-    let written = match lent(row) {
-        row if row.len() == ROW_BYTES => Ok(tree_of_row(row).text().into_bytes()),
-        _ => Err(14_u64),
-    };
-    let written = written.and_then(|w| {
-        if w.len() > text.length() {
-            Err(13)
-        } else {
-            Ok(w)
+    let lent = row.all()[row.start()..row.start() + row.length()].to_vec();
+    let due = text_due(&lent, text.length());
+    match text_gives(row, text, due) {
+        Ok(()) => Ok(()),
+        Err(fault) => {
+            let room = text.length();
+            Err(format!(
+                "{fault}; row {}, text buffer of {room}",
+                hex(&lent)
+            ))
         }
-    });
-    let (due, written) = match written {
-        Ok(written) => (written.len() as u64, written),
-        Err(refusal) => (refusal << 32, Vec::new()),
-    };
-    let row_due = row.all().to_vec();
-    let text_due = all_with(text, &written);
+    }
+}
+
+/// One call of the text call that is to give this number and write this text.
+pub fn text_gives(
+    row: &mut dyn Memory,
+    text: &mut dyn Memory,
+    (due, written): (u64, Vec<u8>),
+) -> Result<(), String> {
+    let row_before = row.all().to_vec();
+    let text_after = all_with(text, &written);
 
     let number = calls::text(row, text);
 
-    let fault = if number != due {
-        format!("number {number:X}, expected {due:X}")
-    } else if row.all() != row_due {
-        "the row, or a byte beside it, was changed".to_string()
-    } else if text.all() != text_due {
-        "the text buffer, or a byte beside it, is not as due".to_string()
-    } else {
-        return Ok(());
-    };
-    let (row, room) = (hex(lent(row)), text.length());
-    Err(format!("{fault}; row {row}, text buffer of {room}"))
+    if number != due {
+        return Err(format!("number {number:X}, expected {due:X}"));
+    }
+    if row.all() != row_before {
+        return Err("the row, or a byte beside it, was changed".to_string());
+    }
+    if text.all() != text_after {
+        return Err("the text buffer, or a byte beside it, is not as due".to_string());
+    }
+    Ok(())
 }
 
 /// One call of the row call.
 pub fn row(answer: &mut dyn Memory, variable: usize) -> Result<(), String> {
-    let there = answer.length() >= ANSWER_BYTES && variable < MOST_VARIABLES;
-    let due = match there {
-        true => (variable * ROW_BYTES) as u64 + ((ROW_BYTES as u64) << 32),
-        false => 0,
-    };
+    let due = row_due(answer.length(), variable);
     let answer_due = answer.all().to_vec();
 
     let number = calls::row(answer, variable);

@@ -1,16 +1,16 @@
-//! Eight threads ask at once, each with buffers of its own. What each gets is what one thread got alone.
+//! Eight threads ask at once, each with buffers of its own. What each gets is what is due.
 
-use crate::asking::{ask, case, decided};
-use crate::memory::{lent, Heap};
 use crate::samples;
-use crate::texts::LONGEST_TEXT;
+use brute::due::{decided, due};
 use brute::judge::{ANSWER_BYTES, ROW_BYTES};
-use brute::library::{self, ASK_WORK_BYTES};
+use brute::library::{self, ASK_WORK_BYTES, LONGEST_TEXT};
 use brute::question::hex;
-use brute::random::Random;
-use brute::report::Report;
+use brute::report::{Family, Report};
+use brute::tree::tree_of_row;
 use std::sync::Barrier;
 use std::thread;
+
+pub const FAMILIES: &[Family] = &[("eight threads at once", eight_threads)];
 
 const THREADS: usize = 8;
 const QUESTIONS: usize = 4000;
@@ -26,9 +26,12 @@ struct Given {
     text: Vec<u8>,
 }
 
+/// What the buffers hold before.
+const ANSWER: [u8; ANSWER_BYTES] = [0xA5; ANSWER_BYTES];
+const WORK: [u8; ASK_WORK_BYTES] = [0x5A; ASK_WORK_BYTES];
+
 fn given(bytes: &[u8]) -> Given {
-    let mut answer = vec![0xA5; ANSWER_BYTES];
-    let mut work = vec![0x5A; ASK_WORK_BYTES];
+    let (mut answer, mut work) = (ANSWER.to_vec(), WORK.to_vec());
     let mut text = vec![0; LONGEST_TEXT];
     let number = library::ask(bytes, &mut answer, &mut work);
     let length = library::text(&answer[..ROW_BYTES], &mut text) as usize;
@@ -41,32 +44,33 @@ fn given(bytes: &[u8]) -> Given {
     }
 }
 
-pub fn compare(report: &mut Report, seed: u64) {
-    report.family("one thread alone");
-    let mut random = Random::new(seed);
+fn given_due(bytes: &[u8]) -> Given {
+    let due = due(&decided(bytes), ANSWER_BYTES, ASK_WORK_BYTES);
+    let (mut answer, mut work) = (ANSWER.to_vec(), WORK.to_vec());
+    answer[..due.answer.len()].copy_from_slice(&due.answer);
+    work[..due.work.len()].copy_from_slice(&due.work);
+    let text = tree_of_row(&answer[..ROW_BYTES]).text().into_bytes();
+    Given {
+        number: due.number,
+        answer,
+        work,
+        text,
+    }
+}
+
+fn eight_threads(report: &mut Report) {
+    let mut random = report.random();
     let mut questions = samples::by_hand();
     while questions.len() < QUESTIONS {
         questions.push(samples::accepted(&mut random));
     }
-    let mut alone = Vec::new();
-    for bytes in &questions {
-        let mut question = Heap::holding(&mut random, 0, bytes);
-        let mut answer = Heap::holding(&mut random, 0, &[0xA5; ANSWER_BYTES]);
-        let mut work = Heap::new(&mut random, 0, ASK_WORK_BYTES);
-        let checked = ask(&decided(bytes), &mut question, &mut answer, &mut work);
-        let alone_given = given(bytes);
-        let same = checked == Ok(alone_given.number) && lent(&answer) == alone_given.answer;
-        report.case(case(bytes, checked));
-        report.same("twice the same", same, true);
-        alone.push(alone_given);
-    }
-    report.family("eight threads at once");
-    for fault in at_once(&questions, &alone) {
+    let all_due: Vec<Given> = questions.iter().map(|bytes| given_due(bytes)).collect();
+    for fault in at_once(&questions, &all_due) {
         report.case(match fault {
             None => Ok(()),
             Some(number) => {
                 let bytes = hex(&questions[number]);
-                Err(format!("not what one thread gets; question {bytes}"))
+                Err(format!("not what is due; question {bytes}"))
             }
         });
     }
@@ -74,7 +78,7 @@ pub fn compare(report: &mut Report, seed: u64) {
 
 /// For each thread and question: none, or the number of the question where the thread got something else.
 /// Each thread begins at another question, so that at any moment different ones are asked.
-fn at_once(questions: &[Vec<u8>], alone: &[Given]) -> Vec<Option<usize>> {
+fn at_once(questions: &[Vec<u8>], all_due: &[Given]) -> Vec<Option<usize>> {
     let together = Barrier::new(THREADS);
     let one = |thread: usize| {
         let own_questions = questions.to_vec();
@@ -82,7 +86,7 @@ fn at_once(questions: &[Vec<u8>], alone: &[Given]) -> Vec<Option<usize>> {
         let from = thread * questions.len() / THREADS;
         let numbers = (from..from + TIMES * questions.len()).map(|n| n % questions.len());
         let fault =
-            |number: usize| (given(&own_questions[number]) != alone[number]).then_some(number);
+            |number: usize| (given(&own_questions[number]) != all_due[number]).then_some(number);
         numbers.map(fault).collect::<Vec<_>>()
     };
     thread::scope(|scope| {

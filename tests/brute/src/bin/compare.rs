@@ -1,20 +1,18 @@
-//! Compares the library with the brute-force solver, after the two routes with each other. The library
-//! must be linked: set ZIMORGAL_LIB_DIR to the folder of libzimorgal.a. With the word `library` the
-//! comparison of the two routes is left out.
+//! Compares the library with the brute-force solver, after the two routes of the solver with each other. The library
+//! must be linked: set ZIMORGAL_LIB_DIR to the folder of libzimorgal.a.
 
+use brute::options::Options;
 use brute::report::Report;
 
 fn main() {
+    let mut report = Report::new(Options::of_process());
     if !brute::library::linked() {
         eprintln!("the library is not linked: set ZIMORGAL_LIB_DIR to the folder of libzimorgal.a");
         std::process::exit(2);
     }
-    let mut report = Report::new();
-    if std::env::args().nth(1).as_deref() != Some("library") {
-        brute::routes::compare_routes(&mut report);
+    for families in brute::WITHOUT_IT.iter().chain(brute::WITH_THE_LIBRARY) {
+        report.run(families);
     }
-    brute::calls::compare_calls(&mut report);
-    brute::asking::compare_asking(&mut report);
     if !report.finish() {
         std::process::exit(1);
     }
