@@ -1,4 +1,5 @@
 // Asking: reads a question, decides it, and leaves its answer in the lent bytes.
+use basics::CLAUSE_BYTES;
 use decide::Decision;
 use decide::Finding;
 use format::Question;
@@ -107,7 +108,7 @@ pub fn ask(question: &[u8], answer: &mut [u8], work: &mut [u8]) -> Outcome
     ensures work { λ _. ⌜ now (work .exit) ≡ workAfter (askedWith (now (question .entry)) (now (answer .entry)) (now (work .entry))) (now (work .entry)) ⌝ }
     ensures model { λ r. ⌜ ((q : model.Question) → askedWith (now (question .entry)) (now (answer .entry)) (now (work .entry)) ≡ answered q → Exact q r × Demand3 q r (now (answer .exit))) ⌝ }
 {
-    let mut clauses = [0u8; 768];
+    let mut clauses = [0u8; CLAUSE_BYTES];
     let reading = questions::read(question, &mut clauses);
     if reading.refusal != 0 {
         return refused(reading.refusal, reading.place);

@@ -1,8 +1,18 @@
-// Numbers and bytes: small functions that several crates use.
+// Numbers and bytes: small functions and numbers that several crates use.
 ghost use mathlib.Core.Path.{_≡_};
 ghost use Prim.Native.Nat.{_^_, _<_};
 ghost use lib.ListN.{length, replicate};
 ghost use Rattle.shares.specs.Constant.{bit};
+
+// The clauses of a question are stored in so many bytes, four a clause, section after section: the first system's positive clauses from byte 0, then its
+// disequations, and then the second system's in the same way.
+pub const CLAUSE_BYTES: usize = 768;
+
+pub const FIRST_DISEQUATIONS: usize = 256;
+
+pub const SECOND_POSITIVES: usize = 384;
+
+pub const SECOND_DISEQUATIONS: usize = 640;
 
 // Two to the power k.
 pub fn power(k: usize) -> usize

@@ -1,5 +1,8 @@
 // Beside one word of free choices: which of them no own choice meets the second system with. Own variables are the digits above the free
 // ones, so that where there are fewer than six free variables a word holds own choices too.
+use basics::CLAUSE_BYTES;
+use basics::SECOND_DISEQUATIONS;
+use basics::SECOND_POSITIVES;
 ghost use mathlib.Core.Path.{_≡_};
 ghost use mathlib.Core.Bool.{_&&_, not};
 ghost use Prim.Native.Nat.{ℕ, _+_, _*_, _%_, _<_, _≤_};
@@ -97,7 +100,7 @@ fn own_words(n: usize, m: usize) -> usize
 // Takes the choices of y in which the clause at byte `at` fails out of word j, if bit j of `wanted` is set. Bit j stays set only if some choice is left.
 fn take_one(
     terms: &[u64; 64],
-    clauses: &[u8; 768],
+    clauses: &[u8; CLAUSE_BYTES],
     at: usize,
     y: u64,
     wanted: u64,
@@ -123,7 +126,7 @@ fn take_one(
 // only if some choice is left.
 fn take_all(
     terms: &[u64; 64],
-    clauses: &[u8; 768],
+    clauses: &[u8; CLAUSE_BYTES],
     count: usize,
     y: u64,
     wanted: u64,
@@ -139,7 +142,7 @@ fn take_all(
     let mut r = wanted;
     let mut j: usize = 0;
     while j < count {
-        r = take_one(terms, clauses, 640 + 4 * j, y, r, j, left);
+        r = take_one(terms, clauses, SECOND_DISEQUATIONS + 4 * j, y, r, j, left);
         j += 1;
     }
     r
@@ -149,7 +152,7 @@ fn take_all(
 // for each j whose bit of `wanted` is set, those of x that meet them and disequation j in none. Stops as soon as no choice is left anywhere.
 fn sweep(
     terms: &mut [u64; 64],
-    clauses: &[u8; 768],
+    clauses: &[u8; CLAUSE_BYTES],
     sizes: Sizes,
     w: usize,
     x: u64,
@@ -173,7 +176,7 @@ fn sweep(
             }
         }
         words::move_terms(sizes.free, sizes.own, o * words + w, terms);
-        let y = words::section_word(terms, clauses, 384, sizes.counts[2], x);
+        let y = words::section_word(terms, clauses, SECOND_POSITIVES, sizes.counts[2], x);
         none = none & !y;
         going = take_all(terms, clauses, sizes.counts[3], y, going, left);
         o += 1;
@@ -185,7 +188,7 @@ fn sweep(
 // is set, becomes those beside which none meets them and disequation j; words from 32 on stay as they are.
 pub fn missing(
     terms: &mut [u64; 64],
-    clauses: &[u8; 768],
+    clauses: &[u8; CLAUSE_BYTES],
     sizes: Sizes,
     w: usize,
     x: u64,

@@ -1,4 +1,5 @@
 // Deciding a question that was read: which searches have a solution, and the plan of the one to show.
+use basics::CLAUSE_BYTES;
 use beside::Sizes;
 use format::Question;
 use plans::Outline;
@@ -95,7 +96,11 @@ fn nothing_shown(finding: Finding) -> Decision
 }
 
 // Decides satisfiability, by those of the constants that are kept.
-fn decide_satisfiability(clauses: &[u8; 768], sizes: Sizes, constants: &[u64; 32]) -> Decision
+fn decide_satisfiability(
+    clauses: &[u8; CLAUSE_BYTES],
+    sizes: Sizes,
+    constants: &[u64; 32],
+) -> Decision
     requires { ⌜ Readable (now clauses) (sizes .counts) (sizes .free) (sizes .own) × (sizes .defined ≤ 32) × (sizes .height ≤ 5) ⌝ }
     ensures { λ r. ⌜ DecidedAs satisfiability sizes (now (clauses .entry)) (now (constants .entry)) r ⌝ }
 {
@@ -111,7 +116,7 @@ fn decide_satisfiability(clauses: &[u8; 768], sizes: Sizes, constants: &[u64; 32
 
 // Decides an entailment, by those of the constants that are kept: one pass says everything but which pairs a solution has that misses a
 // disequation.
-fn decide_entailment(clauses: &[u8; 768], sizes: Sizes, constants: &[u64; 32]) -> Decision
+fn decide_entailment(clauses: &[u8; CLAUSE_BYTES], sizes: Sizes, constants: &[u64; 32]) -> Decision
     requires { ⌜ Readable (now clauses) (sizes .counts) (sizes .free) (sizes .own) × (sizes .defined ≤ 32) × (sizes .height ≤ 5) ⌝ }
     ensures { λ r. ⌜ DecidedAs entailment sizes (now (clauses .entry)) (now (constants .entry)) r ⌝ }
 {
@@ -140,7 +145,7 @@ fn decide_entailment(clauses: &[u8; 768], sizes: Sizes, constants: &[u64; 32]) -
 
 // Decides a question that was read, whose clauses are lent. Its height is that of all its constants; the tests at the leaves read those that
 // some clause names.
-pub fn decide(question: Question, clauses: &[u8; 768]) -> Decision
+pub fn decide(question: Question, clauses: &[u8; CLAUSE_BYTES]) -> Decision
     requires { ⌜ Standing question (now clauses) ⌝ }
     ensures { λ r. ⌜ ((q : Asked) → Stands (question .kind) (storedOf question (now (clauses .entry))) q → WellFormed q → Decided (storedOf question (now (clauses .entry))) q r) ⌝ }
 {

@@ -1,5 +1,7 @@
 // What is kept of the words of choices that a pass goes over: for each of up to 64 searches the least choice found so far, and for each
 // disequation of the second system which disequations of the first were met.
+use basics::CLAUSE_BYTES;
+use basics::FIRST_DISEQUATIONS;
 ghost use mathlib.Core.Path.{_≡_};
 ghost use mathlib.Core.Bool.{_&&_, _||_, not};
 ghost use Prim.Native.Nat.{ℕ, _+_, _*_, _<_, _≤_};
@@ -27,7 +29,7 @@ pub fn keep_least(e: usize, turn: usize, y: u64, met: u64, pairs: &mut [u32]) ->
 // Keeps the least choice of x in which the clause at byte `at` fails as that of search e, if it has found none yet.
 fn keep_one(
     terms: &[u64; 64],
-    clauses: &[u8; 768],
+    clauses: &[u8; CLAUSE_BYTES],
     i: usize,
     turn: usize,
     x: u64,
@@ -41,14 +43,14 @@ fn keep_one(
     if basics::digit(met, i) {
         return met;
     }
-    let y = words::failing_word(terms, clauses, 256 + 4 * i, x);
+    let y = words::failing_word(terms, clauses, FIRST_DISEQUATIONS + 4 * i, x);
     keep_least(i, turn, y, met, pairs)
 }
 
 // Keeps for each disequation of the first system the least choice of x in which it holds, if it has found none yet.
 pub fn keep_all(
     terms: &[u64; 64],
-    clauses: &[u8; 768],
+    clauses: &[u8; CLAUSE_BYTES],
     count: usize,
     turn: usize,
     x: u64,
@@ -69,7 +71,13 @@ pub fn keep_all(
 }
 
 // Puts the choices of x in which disequation i of the first system holds into word 32 + i.
-pub fn fill_failing(terms: &[u64; 64], clauses: &[u8; 768], count: usize, x: u64, rows: &mut [u64])
+pub fn fill_failing(
+    terms: &[u64; 64],
+    clauses: &[u8; CLAUSE_BYTES],
+    count: usize,
+    x: u64,
+    rows: &mut [u64],
+)
     requires { ⌜ (count ≤ 32) × (length (now rows) ≡ 96) ⌝ }
     requires { ⌜ Clauses (now clauses) 256 count ⌝ }
     ensures { λ _. ⌜ ((i : ℕ) → i < count → (k : ℕ) → k < 64 → bit (getD (now (rows .exit)) (32 + i) 0) k ≡ (bit x k && not (clauseTest (now (clauses .entry)) (λ t. bit (getD (now (terms .entry)) t 0) k) (256 + 4 * i)))) ⌝ }
@@ -77,7 +85,7 @@ pub fn fill_failing(terms: &[u64; 64], clauses: &[u8; 768], count: usize, x: u64
 {
     let mut i: usize = 0;
     while i < count {
-        rows[32 + i] = words::failing_word(terms, clauses, 256 + 4 * i, x);
+        rows[32 + i] = words::failing_word(terms, clauses, FIRST_DISEQUATIONS + 4 * i, x);
         i += 1;
     }
 }

@@ -1,4 +1,7 @@
 // The numbers of sections and tests.
+use basics::FIRST_DISEQUATIONS;
+use basics::SECOND_DISEQUATIONS;
+use basics::SECOND_POSITIVES;
 use format::Section;
 use format::Test;
 ghost use mathlib.Core.Path.{_≡_};
@@ -26,7 +29,7 @@ pub fn section_number(section: Section) -> usize
 }
 
 // Where each section starts among the clauses' bytes.
-const STARTS: [usize; 4] = [0, 256, 384, 640];
+const STARTS: [usize; 4] = [0, FIRST_DISEQUATIONS, SECOND_POSITIVES, SECOND_DISEQUATIONS];
 
 pub fn section_start(section: Section) -> usize
     ensures { λ r. ⌜ r ≡ sectionStart section ⌝ }

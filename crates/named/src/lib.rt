@@ -1,4 +1,8 @@
 // The constants that the clauses of a question name: the others are set to 0, so that leaves where only those differ look alike.
+use basics::CLAUSE_BYTES;
+use basics::FIRST_DISEQUATIONS;
+use basics::SECOND_DISEQUATIONS;
+use basics::SECOND_POSITIVES;
 use beside::Sizes;
 ghost use mathlib.Core.Path.{_≡_};
 ghost use mathlib.Core.Bool.{_||_};
@@ -20,7 +24,7 @@ fn with_bit(x: u64, t: usize) -> u64
 }
 
 // Sets bit t of `named` for each byte t of a section. The first byte of a clause is its test, 0 or 1, which is no constant.
-fn name_terms(clauses: &[u8; 768], start: usize, count: usize, named: u64) -> u64
+fn name_terms(clauses: &[u8; CLAUSE_BYTES], start: usize, count: usize, named: u64) -> u64
     requires { ⌜ Clauses (now clauses) start count ⌝ }
     ensures { λ r. ⌜ ((t : ℕ) → bit r t ≡ (bit named t || namedIn (now (clauses .entry)) start count t)) ⌝ }
 {
@@ -34,14 +38,14 @@ fn name_terms(clauses: &[u8; 768], start: usize, count: usize, named: u64) -> u6
 }
 
 // Bit t of the result says whether some clause names term t.
-fn all_named(clauses: &[u8; 768], sizes: Sizes) -> u64
+fn all_named(clauses: &[u8; CLAUSE_BYTES], sizes: Sizes) -> u64
     requires { ⌜ Readable (now clauses) (sizes .counts) (sizes .free) (sizes .own) ⌝ }
     ensures { λ r. ⌜ ((t : ℕ) → bit r t ≡ isNamed (now (clauses .entry)) (sizes .counts) t) ⌝ }
 {
     let a = name_terms(clauses, 0, sizes.counts[0], 0);
-    let b = name_terms(clauses, 256, sizes.counts[1], a);
-    let c = name_terms(clauses, 384, sizes.counts[2], b);
-    name_terms(clauses, 640, sizes.counts[3], c)
+    let b = name_terms(clauses, FIRST_DISEQUATIONS, sizes.counts[1], a);
+    let c = name_terms(clauses, SECOND_POSITIVES, sizes.counts[2], b);
+    name_terms(clauses, SECOND_DISEQUATIONS, sizes.counts[3], c)
 }
 
 // Sets each of the first `count` constants to 0 whose bit is not set: constant i has bit 32 + i.
@@ -59,7 +63,7 @@ fn clear_others(named: u64, count: usize, constants: &mut [u64])
 }
 
 // Sets the constants that no clause names to 0: no test at a leaf reads them.
-pub fn keep_named(clauses: &[u8; 768], sizes: Sizes, constants: &mut [u64])
+pub fn keep_named(clauses: &[u8; CLAUSE_BYTES], sizes: Sizes, constants: &mut [u64])
     requires { ⌜ Readable (now clauses) (sizes .counts) (sizes .free) (sizes .own) ⌝ }
     requires { ⌜ (sizes .defined ≤ 32) × (length (now constants) ≡ 32) ⌝ }
     ensures cleared { λ _. ⌜ Cleared (isNamed (now (clauses .entry)) (sizes .counts)) (sizes .defined) (now (constants .entry)) (now (constants .exit)) ⌝ }

@@ -1,4 +1,5 @@
 // One pass over the leaves of a question, and over the words of choices of each leaf that does not look like an earlier one: no set of choices is stored.
+use basics::CLAUSE_BYTES;
 use beside::Sizes;
 use steps::Search;
 use steps::Seen;
@@ -24,7 +25,7 @@ pub struct Leaf {
 // All words of a leaf.
 fn pass_leaf(
     terms: &mut [u64; 64],
-    clauses: &[u8; 768],
+    clauses: &[u8; CLAUSE_BYTES],
     sizes: Sizes,
     leaf: Leaf,
     seen: Seen,
@@ -78,7 +79,7 @@ fn copy_leaf(number: usize, like: usize, seen: Seen, pairs: &mut [u32]) -> Seen
 // One leaf more.
 fn visit(
     terms: &mut [u64; 64],
-    clauses: &[u8; 768],
+    clauses: &[u8; CLAUSE_BYTES],
     sizes: Sizes,
     leaf: Leaf,
     seen: Seen,
@@ -116,7 +117,7 @@ fn first_like(keys: &[u64; 32], values: u64, b: usize) -> usize
 
 // A pass over all leaves, which ends early where a leaf has no choice. The rows are working space.
 pub fn pass_leaves(
-    clauses: &[u8; 768],
+    clauses: &[u8; CLAUSE_BYTES],
     sizes: Sizes,
     constants: &[u64; 32],
     search: Search,

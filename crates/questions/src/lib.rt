@@ -1,6 +1,7 @@
 // The reader of questions: a byte string becomes a question, or is refused with a number and a place.
 mod keep;
 
+use basics::CLAUSE_BYTES;
 use commands::opening;
 use format::Command;
 use format::Head;
@@ -95,7 +96,7 @@ fn read_commands(bytes: &[u8], kind: u8, free: usize, own: usize, clauses: &mut 
 }
 
 // The reading of a byte string of any length. The clauses are written to the lent bytes as they are read.
-pub fn read(bytes: &[u8], clauses: &mut [u8; 768]) -> Reading
+pub fn read(bytes: &[u8], clauses: &mut [u8; CLAUSE_BYTES]) -> Reading
     ensures answer { λ r. ⌜ r ≡ readingOf (read (now (bytes .entry))) ⌝ }
     ensures clauses { λ _. ⌜ now (clauses .exit) ≡ clausesAfter (now (bytes .entry)) (now (clauses .entry)) ⌝ }
     ensures stands { λ r. ⌜ ((q : Asked) → read (now (bytes .entry)) ≡ accepted q → Stands (r .question .kind) (storedOf (r .question) (now (clauses .exit))) q) ⌝ }

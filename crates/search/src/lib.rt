@@ -1,4 +1,5 @@
 // What a pass over the leaves finds: whether a search has a solution, and the table of its pairs.
+use basics::CLAUSE_BYTES;
 use beside::Sizes;
 use steps::Search;
 ghost use mathlib.Core.Path.{_≡_};
@@ -67,7 +68,7 @@ fn lowest_missed(possible: u64, rows: &[u64; 96], first_count: usize, second_cou
 
 // Whether the problem of a search is solvable, and then the table of its pairs.
 pub fn solve(
-    clauses: &[u8; 768],
+    clauses: &[u8; CLAUSE_BYTES],
     sizes: Sizes,
     constants: &[u64; 32],
     search: Search,
@@ -85,7 +86,7 @@ pub fn solve(
 // Surveys an entailment, with the table of the pairs of an unmet choice if there is one. Where the first system has no solution `unmet` is false,
 // and where there is no such disequation to find `missed` is the number of the second system's.
 pub fn survey_leaves(
-    clauses: &[u8; 768],
+    clauses: &[u8; CLAUSE_BYTES],
     sizes: Sizes,
     constants: &[u64; 32],
     pairs: &mut [u32; 64],

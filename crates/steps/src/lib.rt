@@ -1,4 +1,5 @@
 // One word of choices at a leaf: which of them a search allows, and what is kept of them.
+use basics::CLAUSE_BYTES;
 use beside::Sizes;
 ghost use mathlib.Core.Path.{_≡_};
 ghost use mathlib.Core.List.{List, []};
@@ -48,7 +49,7 @@ pub struct Allowed {
 // Of the choices x of word w those beside which no own choice meets the second system's positive clauses and its disequation j.
 fn missed_word(
     terms: &mut [u64; 64],
-    clauses: &[u8; 768],
+    clauses: &[u8; CLAUSE_BYTES],
     sizes: Sizes,
     j: usize,
     w: usize,
@@ -67,7 +68,7 @@ fn missed_word(
 }
 
 // The choices of word w that the first system's positive clauses allow.
-fn first_word(terms: &[u64; 64], clauses: &[u8; 768], sizes: Sizes, w: usize) -> u64
+fn first_word(terms: &[u64; 64], clauses: &[u8; CLAUSE_BYTES], sizes: Sizes, w: usize) -> u64
     requires { ⌜ Readable (now clauses) (sizes .counts) (sizes .free) (sizes .own) ⌝ }
     requires { ⌜ (w < wordCount (sizes .free)) × Tabled (sizes .free) (sizes .own) w (now terms) ⌝ }
     ensures { λ r. ⌜ SameFree (sizes .free) r × ((values : ℕ) → Terms (sizes .free) (sizes .own) values w (now (terms .entry)) → (i : ℕ) → i < 64 → bit r i ≡ firstMeets (storedBy sizes (now (clauses .entry)) []) values (64 * w + i)) ⌝ }
@@ -78,7 +79,7 @@ fn first_word(terms: &[u64; 64], clauses: &[u8; 768], sizes: Sizes, w: usize) ->
 // The choices of word w that the search allows.
 fn allowed_word(
     terms: &mut [u64; 64],
-    clauses: &[u8; 768],
+    clauses: &[u8; CLAUSE_BYTES],
     sizes: Sizes,
     search: Search,
     w: usize,
@@ -100,7 +101,7 @@ fn allowed_word(
 // What the second system says of the choices that the first allows.
 fn second_word(
     terms: &mut [u64; 64],
-    clauses: &[u8; 768],
+    clauses: &[u8; CLAUSE_BYTES],
     sizes: Sizes,
     at: Allowed,
     seen: Seen,
@@ -150,7 +151,7 @@ fn second_word(
 // One word of a leaf.
 pub fn pass_word(
     terms: &mut [u64; 64],
-    clauses: &[u8; 768],
+    clauses: &[u8; CLAUSE_BYTES],
     sizes: Sizes,
     spot: Spot,
     seen: Seen,

@@ -1,4 +1,5 @@
 // Clauses at one leaf for 64 choices of Boolean values at a time: bit i of word w is choice 64 * w + i.
+use basics::CLAUSE_BYTES;
 ghost use mathlib.Core.Path.{_≡_};
 ghost use mathlib.Core.Bool.{Bool·beq, _&&_, not};
 ghost use Prim.Native.Nat.{ℕ, _+_, _-_, _*_, _^_, _<_, _≤_};
@@ -26,7 +27,7 @@ fn equal_word(a: u64, b: u64) -> u64
 }
 
 // The word of the term whose number is byte `at`.
-fn term_word(terms: &[u64; 64], clauses: &[u8; 768], at: usize) -> u64
+fn term_word(terms: &[u64; 64], clauses: &[u8; CLAUSE_BYTES], at: usize) -> u64
     requires { ⌜ (at < 768) × (getD (now clauses) at 0 < 64) ⌝ }
     ensures { λ r. ⌜ r ≡ getD (now (terms .entry)) (getD (now (clauses .entry)) at 0) 0 ⌝ }
 {
@@ -47,7 +48,7 @@ fn test_word(test: u8, a: u64, b: u64, c: u64) -> u64
 }
 
 // Bit i of the result is the test of the clause at byte `at`, where term t has bit i of terms[t] for its value.
-pub fn clause_word(terms: &[u64; 64], clauses: &[u8; 768], at: usize) -> u64
+pub fn clause_word(terms: &[u64; 64], clauses: &[u8; CLAUSE_BYTES], at: usize) -> u64
     requires { ⌜ Clauses (now clauses) at 1 ⌝ }
     ensures { λ r. ⌜ ((i : ℕ) → i < 64 → bit r i ≡ clauseTest (now (clauses .entry)) (λ t. bit (getD (now (terms .entry)) t 0) i) at) ⌝ }
 {
@@ -58,7 +59,7 @@ pub fn clause_word(terms: &[u64; 64], clauses: &[u8; 768], at: usize) -> u64
 }
 
 // The bits of x at which the clause at byte `at` fails, where term t has bit i of terms[t] for its value.
-pub fn failing_word(terms: &[u64; 64], clauses: &[u8; 768], at: usize, x: u64) -> u64
+pub fn failing_word(terms: &[u64; 64], clauses: &[u8; CLAUSE_BYTES], at: usize, x: u64) -> u64
     requires { ⌜ Clauses (now clauses) at 1 ⌝ }
     ensures { λ r. ⌜ ((i : ℕ) → i < 64 → bit r i ≡ (bit x i && not (clauseTest (now (clauses .entry)) (λ t. bit (getD (now (terms .entry)) t 0) i) at))) ⌝ }
 {
@@ -68,7 +69,7 @@ pub fn failing_word(terms: &[u64; 64], clauses: &[u8; 768], at: usize, x: u64) -
 // The bits of x at which all clauses of the section pass, where term t has bit i of terms[t] for its value.
 pub fn section_word(
     terms: &[u64; 64],
-    clauses: &[u8; 768],
+    clauses: &[u8; CLAUSE_BYTES],
     start: usize,
     count: usize,
     x: u64,
