@@ -143,9 +143,19 @@ enum Shape {
     Missed,
 }
 
+/// Leaf i has digit k of i in the k-th of these, so that no two leaves look alike.
+const DIGITS: [u32; 5] = [
+    0xAAAA_AAAA,
+    0xCCCC_CCCC,
+    0xF0F0_F0F0,
+    0xFF00_FF00,
+    0xFFFF_0000,
+];
+
 /// The worst case of a split into free and own variables. The answer is yes with reason 0 (but for `Missed`), after
 /// everything was looked at:
-/// - no positive clause fails for a choice, or only the last ones do, so that none ends early;
+/// - no positive clause fails for a choice, or only the last ones do, so that none ends early; five of them name
+///   constants by which all leaves differ;
 /// - each disequation, of either system, holds in the last of the 32 leaves alone, and there with every choice. So it
 ///   is looked for in all leaves, with every choice and all own values;
 /// - for each of the second's 31 a solution that lacks it is looked for through all leaves, with the first's 31 still
@@ -158,6 +168,7 @@ enum Shape {
 fn split(own: usize, shape: Shape) -> Family {
     let free = MOST_VARIABLES - own;
     let mut constants = vec![Tree::Empty, Tree::Full, tree_of_number(1 << 31)];
+    constants.extend(DIGITS.map(tree_of_number));
     while constants.len() < MOST_CONSTANTS {
         constants.push(tree_of_number(0x1234_5678 + constants.len() as u32));
     }
@@ -202,7 +213,11 @@ fn clauses_of_split(variables: usize, fixed: Range<usize>) -> Vec<Clause> {
         _ => Term::Variable(number % variables),
     };
     let mut clauses = Vec::new();
-    for number in 0..MOST_POSITIVE - fixed.len() {
+    for number in 0..DIGITS.len() {
+        let digit = Term::Constant(3 + number);
+        clauses.push(clause(Relation::Equal(digit, digit), false));
+    }
+    for number in DIGITS.len()..MOST_POSITIVE - fixed.len() {
         let term = term(number);
         clauses.push(clause(Relation::Join(term, empty, term), false));
     }
