@@ -11,7 +11,8 @@ use Rattle.shares.specs.Below.{everyBelow, someBelow, firstBelow}
 use Rattle.shares.specs.BelowLaws.{every-at, first-ext, first-below}
 use Rattle.leaves.specs.Choices.{Row, least}
 use Rattle.leaves.specs.Problem.{Problem, plainAt, specialAt, solvable}
-use Rattle.leaves.specs.Second.{withUnmet, canBeUnmet, canBeMissed, firstMissed}
+use Rattle.leaves.specs.Fixed.{withUnmet}
+use Rattle.leaves.specs.Entailment.{canBeUnmet, canBeMissed, firstMissed}
 use Rattle.leaves.specs.SecondLaws.{unmet-solvable}
 use Rattle.systems.specs.Questions.{satisfiability, entailment, Question, questionHeight, secondCount}
 use Rattle.systems.specs.Answers.{satisfied, unsatisfied, vacuous, entailed, unmet, missed, shows}

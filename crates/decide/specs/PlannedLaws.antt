@@ -20,7 +20,8 @@ use Rattle.leaves.specs.Heights.{c}
 use Rattle.leaves.specs.HeightLaws.{c-enough}
 use Rattle.leaves.specs.Choices.{Row, least}
 use Rattle.leaves.specs.RowNumbers.{value}
-use Rattle.leaves.specs.Problem.{Problem, candidate}
+use Rattle.leaves.specs.Problem.{Problem}
+use Rattle.leaves.specs.Fixed.{fixedAt}
 use Rattle.leaves.specs.ProblemLaws.{plain-passes, block-passes, rank-lt}
 use Rattle.leaves.specs.Numbers.{numbered, plainChoice}
 use Rattle.plans.specs.NumberLaws.{plain-is}
@@ -135,17 +136,17 @@ module _ {kind : ℕ} (x : Stored) (q : Question) (St : Stands kind x q) where
 
         -- its trees are those of the question's problem
         trees : (P : Problem (Row Bool (q .free))) → Same x q St H P R
-            → (v : ℕ) → v < q .free → shown.planTree plan (q .free - 1 - v) ≡ fixed H q P k v .tree
+            → (v : ℕ) → v < q .free → shown.planTree plan (q .free - 1 - v) ≡ fixed H q P (H + k) v .tree
         unfolding shown.planTree sharesOf
         trees P same v l =
             ap (λ w. treeOf w (λ s. bit (shown.planChoice plan s) (q .free - 1 - v))) (M .high)
             ∙ treeOf-ext (H + k) _ _ (λ s m.
-            ap (λ y. bit y (q .free - 1 - v)) (plan-shows (q .free) H R k plan M room s m can ∙ ap value (sym (same .candidate-is k s m)))
-            ∙ sym (row-digit (q .free) (candidate (least (q .free)) H P k s) v l))
+            ap (λ y. bit y (q .free - 1 - v)) (plan-shows (q .free) H R k plan M room s m can ∙ ap value (sym (same .fixed-is k s m)))
+            ∙ sym (row-digit (q .free) (fixedAt (least (q .free)) H P (H + k) s) v l))
 
         -- so it is that of what is shown with an answer
         planned : (a : Answer) (P : Problem (Row Bool (q .free))) → Same x q St H P R → decide q ≡ a → heightGiven H q a ≡ H + k
-            → shownWith H q a ≡ fixed H q P k → Planned q plan
+            → shownWith H q a ≡ fixed H q P (H + k) → Planned q plan
         planned a P same d g s = record {
           formed = formed;
           high = M .high ∙ sym (ap (heightGiven H q) d ∙ g);

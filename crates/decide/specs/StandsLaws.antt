@@ -11,8 +11,9 @@ use Rattle.shares.specs.Constant.{bit}
 use Rattle.leaves.specs.Choices.{Row, at, least, someChoice}
 use Rattle.leaves.specs.RowNumbers.{value}
 use Rattle.leaves.specs.ChoiceLaws.{value-lt, some-number}
-use Rattle.leaves.specs.Problem.{Problem, solvable, candidate}
-use Rattle.leaves.specs.Second as leaf
+use Rattle.leaves.specs.Problem.{Problem, solvable}
+use Rattle.leaves.specs.Fixed.{fixedAt}
+use Rattle.leaves.specs.Fixed as leaf
 use Rattle.systems.specs.Clauses.{Atom}
 use Rattle.systems.specs.Questions.{Question}
 use Rattle.systems.specs.AtLeaves.{atomAt, allAt, bothAt, firstAt, secondAt}
@@ -26,7 +27,7 @@ use Rattle.format.specs.Callers.{atoms-at}
 use Rattle.format.specs.declared.Section.{Section}
 use Rattle.format.specs.declared.Section.the-variants.{FirstPositive, FirstDisequation, SecondPositive, SecondDisequation}
 use Rattle.leaves.specs.Numbers.{numbered}
-use Rattle.leaves.specs.SameLaws.{solvable-same, candidate-same}
+use Rattle.leaves.specs.SameLaws.{solvable-same, fixed-same}
 use Rattle.steps.specs.Tests.{leafValues, firstMeets, firstDiffers, secondMeets, secondDiffers, specialIn, testsOf}
 use Rattle.decide.specs.StoredLaws.{row-digit, atom-same, section-same}
 use Rattle.steps.specs.declared.Search.the-variants.{First, Unmet, Missed}
@@ -131,7 +132,7 @@ module _ {kind : ℕ} (x : Stored) (q : Question) (St : Stands kind x q) (h : �
   pub record Same (P : Problem (Row Bool (q .free))) (R : Problem ℕ) : Type 0 where
     pub count : P .count ≡ R .count
     pub solvable-is : solvable (least (q .free)) h P ≡ solvable (least (q .free)) h (numbered (q .free) R)
-    pub candidate-is : (k s : ℕ) → s < 2 ^ (h + k) → candidate (least (q .free)) h P k s ≡ candidate (least (q .free)) h (numbered (q .free) R) k s
+    pub fixed-is : (k s : ℕ) → s < 2 ^ (h + k) → fixedAt (least (q .free)) h P (h + k) s ≡ fixedAt (least (q .free)) h (numbered (q .free) R) (h + k) s
 
   same-of : (P : Problem (Row Bool (q .free))) (R : Problem ℕ) → P .count ≡ R .count
       → ((b : ℕ) (v : Row Bool (q .free)) → P .pos b v ≡ R .pos b (value v))
@@ -139,7 +140,7 @@ module _ {kind : ℕ} (x : Stored) (q : Question) (St : Stands kind x q) (h : �
   same-of P R c p d = record {
     count = c;
     solvable-is = solvable-same (least (q .free)) h P (numbered (q .free) R) c (λ b l v. p b v) (λ j l b m v. d j l b v);
-    candidate-is = candidate-same (least (q .free)) h P (numbered (q .free) R) c (λ b l v. p b v) (λ j l b m v. d j l b v);
+    fixed-is = fixed-same (least (q .free)) h P (numbered (q .free) R) c (λ b l v. p b v) (λ j l b m v. d j l b v);
   }
 
   -- the stored disequations come after the extra ones

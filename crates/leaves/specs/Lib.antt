@@ -5,11 +5,13 @@ pub mod Choices
 pub mod RowNumbers
 pub mod ChoiceLaws
 pub mod Problem
+pub mod Second
+pub mod Fixed
+pub mod Entailment
 pub mod LeafSolutions
 pub mod ProblemLaws
 pub mod Numbers
 pub mod SameLaws
-pub mod Second
 pub mod LeafExtensions
 pub mod SecondLaws
 pub mod AtHeight

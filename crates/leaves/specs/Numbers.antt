@@ -4,7 +4,8 @@ use Prim.Native.Nat.{ℕ, _^_}
 use Rattle.shares.specs.Below.{firstBelow}
 use Rattle.leaves.specs.Choices.{Row, least}
 use Rattle.leaves.specs.RowNumbers.{value}
-use Rattle.leaves.specs.Problem.{Problem, blockFor, rank}
+use Rattle.leaves.specs.Problem.{Problem}
+use Rattle.leaves.specs.Fixed.{leafOf, placeOf}
 
 -- the problem of rows of n values that tests of their numbers pose
 abbrev pub numbered : (n : ℕ) → Problem ℕ → Problem (Row Bool n)
@@ -13,10 +14,10 @@ numbered n R = record { pos = λ b v. R .pos b (value v); count = R .count; dis 
 module _ (n h : ℕ) (R : Problem ℕ) where
   -- the leaf where disequation j stands, and its sub-leaf there
   abbrev pub leafFor : ℕ → ℕ
-  leafFor j = blockFor (least n) h (numbered n R) j
+  leafFor j = leafOf (least n) h (numbered n R) j
 
   abbrev pub rankOf : ℕ → ℕ
-  rankOf j = rank (least n) h (numbered n R) j
+  rankOf j = placeOf (least n) h (numbered n R) j
 
   -- the least choice for the positive clauses at leaf b
   abbrev pub plainChoice : ℕ → ℕ

@@ -1,9 +1,9 @@
 -- A solution of a problem at the leaves is cut into what each block has, and one is glued together from that: there is a solution exactly if
 -- the test passes, and then the fixed one solves the problem. Assumes nothing.
-use mathlib.Core.Path.{_≡_, refl}
+use mathlib.Core.Path.{_≡_, refl, ap}
 use mathlib.Core.Logic.{_⊎_, inl, inr}
 use mathlib.Core.Bool.{Bool, true, false, not, _&&_}
-use Prim.Native.Nat.{ℕ, _+_, _*_, _/_, _%_, _^_, _≤_, _<_, suc-le-suc}
+use Prim.Native.Nat.{ℕ, _+_, _-_, _*_, _/_, _%_, _^_, _≤_, _<_, suc-le-suc}
 use native.Mathlib.Nat.{le-trans, le-add-right, eq-or-lt-of-le}
 use native.Mathlib.Omega.{arith}
 use lib.Dec.{T, ltb, eqb, ltb→lt, lt→ltb, eqb→eq, eqb-refl}
@@ -16,7 +16,8 @@ use Rattle.shares.specs.BlockLaws.{block-lt, first-lt, block-first, block-split
 use Rattle.leaves.specs.Room.{Room}
 use Rattle.leaves.specs.Choices.{Picker, someChoice, Row, nil, cons, at, pickRow, least}
 use Rattle.leaves.specs.ChoiceLaws.{choice-intro, choice-found, both-intro}
-use Rattle.leaves.specs.Problem.{Problem, plainAt, specialAt, solvable, blockFor, rank, disequationAt, choiceAt, candidate}
+use Rattle.leaves.specs.Problem.{Problem, plainAt, specialAt, solvable}
+use Rattle.leaves.specs.Fixed.{leafOf, placeOf, heldAt, carriedAt, fixedAt}
 use Rattle.leaves.specs.LeafSolutions.{SolvesLeaves, LeafSolution, Leafwise}
 
 -- ---- an example, computed: one block, two variables that are never both full, and neither of them empty
@@ -25,9 +26,9 @@ abbrev apart : Problem (Row Bool 2)
 apart = record { pos = λ b x. not (at false x 0 && at false x 1); count = 2; dis = λ j b x. at false x j }
 
 -- no choice meets both disequations: each has a sub-leaf of its own
-apart-solved : (solvable (least 2) 0 apart ≡ true) × (rank (least 2) 0 apart 1 ≡ 1)
-    × (candidate (least 2) 0 apart 1 0 ≡ cons true (cons false nil)) × (candidate (least 2) 0 apart 1 1 ≡ cons false (cons true nil))
-unfolding everyBelow someBelow firstBelow countBelow someChoice at pickRow plainAt specialAt solvable blockFor rank disequationAt choiceAt candidate
+apart-solved : (solvable (least 2) 0 apart ≡ true) × (placeOf (least 2) 0 apart 1 ≡ 1)
+    × (fixedAt (least 2) 0 apart 1 0 ≡ cons true (cons false nil)) × (fixedAt (least 2) 0 apart 1 1 ≡ cons false (cons true nil))
+unfolding everyBelow someBelow firstBelow countBelow someChoice at pickRow plainAt specialAt solvable leafOf placeOf heldAt carriedAt fixedAt
 apart-solved = (refl, refl, refl, refl)
 
 -- ---- cut: a solution of any height has what each block needs
@@ -60,90 +61,94 @@ module _ {X : Type 0} (C : Picker X) (h : ℕ) (P : Problem X) where
     unfolding solvable
     plain-passes b l = every-at (2 ^ h) (plainAt C P) (and-left (everyBelow (2 ^ h) (plainAt C P)) _ t) b l
 
-    pub block-passes : (j : ℕ) → j < P .count → (blockFor C h P j < 2 ^ h) × T (specialAt C P j (blockFor C h P j))
-    unfolding solvable blockFor
+    pub block-passes : (j : ℕ) → j < P .count → (leafOf C h P j < 2 ^ h) × T (specialAt C P j (leafOf C h P j))
+    unfolding solvable leafOf
     block-passes j l =
         let (b, u, v) = some-found (2 ^ h) (specialAt C P j)
         (every-at (P .count) (λ j. someBelow (2 ^ h) (specialAt C P j)) (and-right (everyBelow (2 ^ h) (plainAt C P)) _ t) j l) in
         first-passes (2 ^ h) (specialAt C P j) b u v
 
     -- a sub-leaf where a disequation stands meets it, beside the positive clauses
-    special-meets : (b r : ℕ) → disequationAt C h P b r < P .count → T (P .pos b (choiceAt C h P b r)) × T (P .dis (disequationAt C h P b r) b (choiceAt C h P b r))
-    unfolding choiceAt specialAt disequationAt
+    special-meets : (b r : ℕ) → heldAt C h P b r < P .count → T (P .pos b (carriedAt C h P b r)) × T (P .dis (heldAt C h P b r) b (carriedAt C h P b r))
+    unfolding carriedAt specialAt heldAt
     special-meets b r l =
-        let j = disequationAt C h P b r in
-        let v = first-below (P .count) (λ j. eqb (blockFor C h P j) b && eqb (rank C h P j) r) l in
-        let e : blockFor C h P j ≡ b = eqb→eq (blockFor C h P j) b (and-left (eqb (blockFor C h P j) b) _ v) in
+        let j = heldAt C h P b r in
+        let v = first-below (P .count) (λ j. eqb (leafOf C h P j) b && eqb (placeOf C h P j) r) l in
+        let e : leafOf C h P j ≡ b = eqb→eq (leafOf C h P j) b (and-left (eqb (leafOf C h P j) b) _ v) in
         let u : T (specialAt C P j b) = rw e at (block-passes j l .1) in
         let p : X → Bool = λ x. P .pos b x && P .dis j b x in
         let w : T (p (C .pick p)) = choice-found C p u in
         rw (cond-passed (ltb j (P .count)) (C .pick p) (C .pick (P .pos b)) (lt→ltb j (P .count) l))
         (and-left (P .pos b (C .pick p)) _ w, and-right (P .pos b (C .pick p)) _ w)
 
-    choice-pos : (b r : ℕ) → b < 2 ^ h → T (P .pos b (choiceAt C h P b r))
-    unfolding choiceAt plainAt
-    choice-pos b r l = go (passes (ltb (disequationAt C h P b r) (P .count)))
+    choice-pos : (b r : ℕ) → b < 2 ^ h → T (P .pos b (carriedAt C h P b r))
+    unfolding carriedAt plainAt
+    choice-pos b r l = go (passes (ltb (heldAt C h P b r) (P .count)))
       where
         j : ℕ
-        j = disequationAt C h P b r
+        j = heldAt C h P b r
 
-        go : T (ltb j (P .count)) ⊎ T (not (ltb j (P .count))) → T (P .pos b (choiceAt C h P b r))
+        go : T (ltb j (P .count)) ⊎ T (not (ltb j (P .count))) → T (P .pos b (carriedAt C h P b r))
         go (inl v) = special-meets b r (ltb→lt j (P .count) v) .0
         go (inr v) =
             rw (cond-failed (ltb j (P .count)) (C .pick (λ x. P .pos b x && P .dis j b x)) (C .pick (P .pos b)) v)
             (choice-found C (P .pos b) (plain-passes b l))
 
   -- no two disequations stand at one sub-leaf
-  ranks-apart : (i j : ℕ) → i < j → blockFor C h P i ≡ blockFor C h P j → ¬ (rank C h P i ≡ rank C h P j)
-  unfolding rank
+  ranks-apart : (i j : ℕ) → i < j → leafOf C h P i ≡ leafOf C h P j → ¬ (placeOf C h P i ≡ placeOf C h P j)
+  unfolding placeOf
   ranks-apart i j l p q =
-      let v : T (eqb (blockFor C h P i) (blockFor C h P j)) = rw p (eqb-refl (blockFor C h P j)) in
-      let e : countBelow i (λ i. eqb (blockFor C h P i) (blockFor C h P j)) ≡ countBelow j (λ i. eqb (blockFor C h P i) (blockFor C h P j)) = rw p at q in
-      omega (arith, count-lt j (λ i. eqb (blockFor C h P i) (blockFor C h P j)) i l v)
+      let v : T (eqb (leafOf C h P i) (leafOf C h P j)) = rw p (eqb-refl (leafOf C h P j)) in
+      let e : countBelow i (λ i. eqb (leafOf C h P i) (leafOf C h P j)) ≡ countBelow j (λ i. eqb (leafOf C h P i) (leafOf C h P j)) = rw p at q in
+      omega (arith, count-lt j (λ i. eqb (leafOf C h P i) (leafOf C h P j)) i l v)
 
   -- the disequation that stands where j stands is j
-  pub at-block : (j : ℕ) → j < P .count → disequationAt C h P (blockFor C h P j) (rank C h P j) ≡ j
-  unfolding disequationAt
+  pub at-block : (j : ℕ) → j < P .count → heldAt C h P (leafOf C h P j) (placeOf C h P j) ≡ j
+  unfolding heldAt
   at-block j l = go (eq-or-lt-of-le (first-min (P .count) p j own))
     where
       b : ℕ
-      b = blockFor C h P j
+      b = leafOf C h P j
 
       r : ℕ
-      r = rank C h P j
+      r = placeOf C h P j
 
       p : ℕ → Bool
-      p i = eqb (blockFor C h P i) b && eqb (rank C h P i) r
+      p i = eqb (leafOf C h P i) b && eqb (placeOf C h P i) r
 
       own : T (p j)
       own = and-intro (eqb b b) _ (eqb-refl b) (eqb-refl r)
 
-      go : (disequationAt C h P b r ≡ j) ⊎ (disequationAt C h P b r < j) → disequationAt C h P b r ≡ j
+      go : (heldAt C h P b r ≡ j) ⊎ (heldAt C h P b r < j) → heldAt C h P b r ≡ j
       go (inl e) = e
       go (inr m) =
-          let i = disequationAt C h P b r in
+          let i = heldAt C h P b r in
           let v : T (p i) = first-passes (P .count) p j l own .1 in
           absurd (ranks-apart i j m
-          (eqb→eq (blockFor C h P i) b (and-left (eqb (blockFor C h P i) b) _ v))
-          (eqb→eq (rank C h P i) r (and-right (eqb (blockFor C h P i) b) _ v)))
+          (eqb→eq (leafOf C h P i) b (and-left (eqb (leafOf C h P i) b) _ v))
+          (eqb→eq (placeOf C h P i) r (and-right (eqb (leafOf C h P i) b) _ v)))
 
-  pub rank-lt : (k j : ℕ) → P .count ≤ 2 ^ k → j < P .count → rank C h P j < 2 ^ k
-  unfolding rank
-  rank-lt k j e l = le-trans (suc-le-suc (count-le j (λ i. eqb (blockFor C h P i) (blockFor C h P j)))) (le-trans l e)
+  pub rank-lt : (k j : ℕ) → P .count ≤ 2 ^ k → j < P .count → placeOf C h P j < 2 ^ k
+  unfolding placeOf
+  rank-lt k j e l = le-trans (suc-le-suc (count-le j (λ i. eqb (leafOf C h P i) (leafOf C h P j)))) (le-trans l e)
+
+  -- at height h + k each leaf has 2 ^ k sub-leaves
+  pub fixed-split : (k i : ℕ) → fixedAt C h P (h + k) i ≡ carriedAt C h P (i / 2 ^ k) (i % 2 ^ k)
+  unfolding fixedAt
+  fixed-split k i = let e : h + k - h ≡ k = omega arith in ap (λ d. carriedAt C h P (i / 2 ^ d) (i % 2 ^ d)) e
 
   -- the fixed solution solves the problem, at any height with room for its disequations
-  pub candidate-solves : T (solvable C h P) → (k : ℕ) → P .count ≤ 2 ^ k → SolvesLeaves h P (h + k) (candidate C h P k)
-  unfolding candidate
-  candidate-solves t k e = record {
+  pub fixed-solves : T (solvable C h P) → (k : ℕ) → P .count ≤ 2 ^ k → SolvesLeaves h P (h + k) (fixedAt C h P (h + k))
+  fixed-solves t k e = record {
     tall = le-add-right h k;
-    everywhere = λ i l. rw block-split (choice-pos t (i / 2 ^ k) (i % 2 ^ k) (shr-lt h k l));
+    everywhere = λ i l. rw (block-split, fixed-split k i) (choice-pos t (i / 2 ^ k) (i % 2 ^ k) (shr-lt h k l));
     somewhere = λ j l.
         let f = rank-lt k j e l in
         let g = at-block j l in (
-          blockFor C h P j * 2 ^ k + rank C h P j,
+          leafOf C h P j * 2 ^ k + placeOf C h P j,
           leaf-lt h k (block-passes t j l .0) f,
-          rw (block-split, high (blockFor C h P j) k f, low (blockFor C h P j) k f)
-              (rw g at (special-meets t (blockFor C h P j) (rank C h P j) (rw g l) .1)),
+          rw (block-split, fixed-split k (leafOf C h P j * 2 ^ k + placeOf C h P j), high (leafOf C h P j) k f, low (leafOf C h P j) k f)
+              (rw g at (special-meets t (leafOf C h P j) (placeOf C h P j) (rw g l) .1)),
         );
   }
 
@@ -153,6 +158,6 @@ module _ {X : Type 0} (C : Picker X) (h : ℕ) (P : Problem X) where
   solution-glued A r t = record {
     height = h + r .times;
     allowed = r .allowed;
-    leaves = candidate C h P (r .times);
-    solves = candidate-solves t (r .times) (r .enough);
+    leaves = fixedAt C h P (h + r .times);
+    solves = fixed-solves t (r .times) (r .enough);
   }

@@ -17,8 +17,10 @@ use Rattle.leaves.specs.Choices.{Picker, someChoice, Row, at, pickRow, l
 use Rattle.leaves.specs.ChoiceLaws.{choice-intro, choice-found, both-intro, both-found}
 use Rattle.leaves.specs.Problem.{Problem, plainAt, specialAt, solvable}
 use Rattle.leaves.specs.LeafSolutions.{SolvesLeaves, LeafSolution, Leafwise}
-use Rattle.leaves.specs.ProblemLaws.{cut, solvable-intro, cut-solvable, candidate-solves, solution-glued}
-use Rattle.leaves.specs.Second.{Second, meets, meetsWith, withUnmet, withMissed, canBeUnmet, canBeMissed, firstMissed}
+use Rattle.leaves.specs.ProblemLaws.{cut, solvable-intro, cut-solvable, fixed-solves, solution-glued}
+use Rattle.leaves.specs.Second.{Second, meets, meetsWith}
+use Rattle.leaves.specs.Fixed.{withUnmet, withMissed}
+use Rattle.leaves.specs.Entailment.{canBeUnmet, canBeMissed, firstMissed}
 use Rattle.leaves.specs.LeafExtensions.{ExtendsLeaves, LeafExtension, positivesOnly, only, beside, EntailsLeaves, LeafCounterexample}
 
 -- ---- an example, computed: two blocks and one variable, full at block 0 and empty at block 1; the second system: it is not empty
@@ -147,7 +149,7 @@ module _ {X Y : Type 0} (C : Picker X) (D : Picker Y) (h : ℕ) (P : Problem X) 
   unmet-solvable t u = solvable-intro C h (withUnmet D Q P) (record { plain = L .plain; special = go })
     where
       L : Leafwise h P
-      L = cut h P _ _ (candidate-solves C h P t (P .count) (le-pow (P .count)))
+      L = cut h P _ _ (fixed-solves C h P t (P .count) (le-pow (P .count)))
 
       go : (j : ℕ) → j < suc (P .count) → (b : ℕ) × (b < 2 ^ h) × (x : X) × T (P .pos b x) × T (withUnmet D Q P .dis j b x)
       go (suc j) m = L .special j (le-of-suc-le-suc m)

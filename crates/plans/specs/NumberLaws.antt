@@ -6,7 +6,8 @@ use lib.Dec.{eqb}
 use Rattle.shares.specs.Below.{someBelow, countBelow}
 use Rattle.leaves.specs.Choices.{least}
 use Rattle.leaves.specs.ChoiceLaws.{some-number}
-use Rattle.leaves.specs.Problem.{Problem, plainAt, specialAt, rank}
+use Rattle.leaves.specs.Problem.{Problem, plainAt, specialAt}
+use Rattle.leaves.specs.Fixed.{placeOf}
 use Rattle.leaves.specs.Numbers.{numbered, leafFor, rankOf}
 
 module _ (n h : ℕ) (R : Problem ℕ) where
@@ -21,5 +22,5 @@ module _ (n h : ℕ) (R : Problem ℕ) where
 
   -- the rank of one that stands at leaf b: how many before it do
   pub rank-here : (j b : ℕ) → leafFor n h R j ≡ b → rankOf n h R j ≡ countBelow j (λ i. eqb (leafFor n h R i) b)
-  unfolding rank
+  unfolding placeOf
   rank-here j b e = ap (λ c. countBelow j (λ i. eqb (leafFor n h R i) c)) e

@@ -15,8 +15,9 @@ use Rattle.shares.specs.Blocks.{blockOf}
 use Rattle.shares.specs.BlockLaws.{block-split}
 use Rattle.leaves.specs.Choices.{least}
 use Rattle.leaves.specs.RowNumbers.{value}
-use Rattle.leaves.specs.Problem.{Problem, solvable, disequationAt, choiceAt, candidate}
-use Rattle.leaves.specs.ProblemLaws.{at-block, rank-lt, plain-passes, block-passes}
+use Rattle.leaves.specs.Problem.{Problem, solvable}
+use Rattle.leaves.specs.Fixed.{heldAt, carriedAt, fixedAt}
+use Rattle.leaves.specs.ProblemLaws.{at-block, rank-lt, plain-passes, block-passes, fixed-split}
 use Rattle.plans.specs.declared.Plan.{Plan}
 use Rattle.plans.specs.Shown.{planChoiceAfter, planChoice}
 use Rattle.leaves.specs.Numbers.{numbered, leafFor, rankOf, plainChoice, specialChoice}
@@ -32,11 +33,11 @@ module _ (n h : ℕ) (R : Problem ℕ) (k : ℕ) (plan : Plan) (M : Made n h R k
   r = s % 2 ^ k
 
   g : ℕ
-  g = disequationAt (least n) h (numbered n R) b r
+  g = heldAt (least n) h (numbered n R) b r
 
   -- the disequation at a sub-leaf stands there
   at-there : g < R .count → (leafFor n h R g ≡ b) × (rankOf n h R g ≡ r)
-  unfolding disequationAt g
+  unfolding heldAt g
   at-there l =
       let t = first-below (R .count) (λ j. eqb (leafFor n h R j) b && eqb (rankOf n h R j) r) l in (
         eqb→eq (leafFor n h R g) b (and-left (eqb (leafFor n h R g) b) _ t),
@@ -50,7 +51,7 @@ module _ (n h : ℕ) (R : Problem ℕ) (k : ℕ) (plan : Plan) (M : Made n h R k
       let m = rank-lt (least n) h (numbered n R) k j room l in
       let e₁ : b ≡ leafFor n h R j = ap (λ x. x / 2 ^ k) e ∙ high (leafFor n h R j) k m in
       let e₂ : r ≡ rankOf n h R j = ap (λ x. x % 2 ^ k) e ∙ low (leafFor n h R j) k m in
-      (sym (ap₂ (disequationAt (least n) h (numbered n R)) e₁ e₂ ∙ at-block (least n) h (numbered n R) j l), sym e₁)
+      (sym (ap₂ (heldAt (least n) h (numbered n R)) e₁ e₂ ∙ at-block (least n) h (numbered n R) j l), sym e₁)
 
   -- the plan once its first m entries stand
   after : (m : ℕ) → m ≤ R .count → planChoiceAfter plan m s ≡ cond (ltb g m) (specialChoice n h R g b) (plainChoice n h R b)
@@ -80,9 +81,10 @@ module _ (n h : ℕ) (R : Problem ℕ) (k : ℕ) (plan : Plan) (M : Made n h R k
           other (yes u) = rw (ne-eqb s (getD (plan .subleaf) m 0) e, lt-ltb g (suc m) (omega arith)) (ih ∙ rw (lt-ltb g m u))
           other (no u) = rw (ne-eqb s (getD (plan .subleaf) m 0) e, le-ltb g (suc m) (omega (arith, not-m))) (ih ∙ rw (le-ltb g m (omega arith)))
 
-  pub plan-shows : T (solvable (least n) h (numbered n R)) → planChoice plan s ≡ value (candidate (least n) h (numbered n R) k s)
-  unfolding candidate choiceAt b r g
-  plan-shows t = ap (λ m. planChoiceAfter plan m s) (M .count) ∙ after (R .count) (omega arith) ∙ go (decLt g (R .count))
+  pub plan-shows : T (solvable (least n) h (numbered n R)) → planChoice plan s ≡ value (fixedAt (least n) h (numbered n R) (h + k) s)
+  unfolding carriedAt b r g
+  plan-shows t =
+      ap (λ m. planChoiceAfter plan m s) (M .count) ∙ after (R .count) (omega arith) ∙ go (decLt g (R .count)) ∙ ap value (sym (fixed-split (least n) h (numbered n R) k s))
     where
       bl : b < 2 ^ h
       bl = shr-lt h k s<

@@ -9,7 +9,8 @@ use lib.ListN.{getD}
 use Rattle.shares.specs.Below.{everyBelow, someBelow, firstBelow}
 use Rattle.shares.specs.BelowLaws.{some-found, first-passes, every-ext, some-ext, first-ext}
 use Rattle.leaves.specs.Choices.{least}
-use Rattle.leaves.specs.Problem.{Problem, plainAt, specialAt, solvable, blockFor}
+use Rattle.leaves.specs.Problem.{Problem, plainAt, specialAt, solvable}
+use Rattle.leaves.specs.Fixed.{leafOf}
 use Rattle.leaves.specs.Numbers.{numbered, leafFor, plainChoice, specialChoice}
 use Rattle.plans.specs.NumberLaws.{plain-is, special-is}
 use Rattle.words.specs.Choices.{Periodic}
@@ -57,7 +58,7 @@ module _ (n h : ℕ) (R : Problem ℕ) (P : PeriodicIn n R) where
   plain-first b t = periodic-first n (R .pos b) (rw (periodic-some n (R .pos b) (P .pos b)) at t)
 
   leaf-wide : (e : ℕ) → leafFor n h R e ≡ firstBelow (2 ^ h) (λ b. someBelow (leafWidth n) (bothAt R e b))
-  unfolding blockFor
+  unfolding leafOf
   leaf-wide e = first-ext (2 ^ h) _ _ (λ b l. special-wide e b)
 
   module _ (e : ℕ) (t : T (someBelow (2 ^ h * leafWidth n) (pairAt n R e))) where

@@ -1,16 +1,16 @@
 -- The decision of a question by its problems at the leaves, and the fixed solution that is shown. Assumes nothing.
 use mathlib.Core.Bool.{Bool, false, cond}
-use Prim.Native.Nat.{ℕ, _+_}
+use Prim.Native.Nat.{ℕ}
 use lib.Dec.{ltb}
 use Rattle.shares.specs.Tree.{treeOf}
 use Rattle.shares.specs.TreeLaws.{treeOf-folded}
-use Rattle.leaves.specs.Heights.{c}
 use Rattle.leaves.specs.Choices.{Row, at, least}
-use Rattle.leaves.specs.Problem.{Problem, solvable, candidate}
-use Rattle.leaves.specs.Second.{withUnmet, withMissed, canBeUnmet, firstMissed}
+use Rattle.leaves.specs.Problem.{Problem, solvable}
+use Rattle.leaves.specs.Fixed.{fixedAt, withUnmet, withMissed}
+use Rattle.leaves.specs.Entailment.{canBeUnmet, firstMissed}
 use Rattle.systems.specs.Clauses.{Assignment}
 use Rattle.systems.specs.Questions.{Kind, satisfiability, entailment, Question, questionHeight, firstCount, secondCount}
-use Rattle.systems.specs.Answers.{Answer, satisfied, unsatisfied, vacuous, entailed, unmet, missed}
+use Rattle.systems.specs.Answers.{Answer, satisfied, unsatisfied, vacuous, entailed, unmet, missed, heightGiven}
 use Rattle.systems.specs.AtLeaves.{firstAt, secondAt}
 
 module _ (h : ℕ) (q : Question) where
@@ -51,18 +51,22 @@ unfoldable pub sharesOf : {n : ℕ} → ℕ → (ℕ → Row Bool n) → Assignm
 sharesOf k s v = record { tree = treeOf k (λ i. at false (s i) v); folded = treeOf-folded k _ }
 
 module _ (h : ℕ) (q : Question) where
-  -- the fixed solution of a problem, with each leaf split k times
-  abbrev pub fixed : Problem (Row Bool (q .free)) → ℕ → Assignment
-  fixed P k = sharesOf (h + k) (candidate (least (q .free)) h P k)
+  -- what is asked at the leaves of the solution that is shown with each answer (with those that show none: nothing that a claim rests on)
+  abbrev pub askedFor : Answer → Problem (Row Bool (q .free))
+  askedFor satisfied = firstAt h q
+  askedFor unsatisfied = firstAt h q
+  askedFor vacuous = firstAt h q
+  askedFor entailed = firstAt h q
+  askedFor unmet = withUnmet (least (q .own)) (secondAt h q) (firstAt h q)
+  askedFor (missed j) = withMissed (least (q .own)) (secondAt h q) (firstAt h q) j
 
-  -- what is shown with each answer (with those that show none: nothing that a claim rests on)
+  -- the fixed solution of a problem, W being the height given
+  abbrev pub fixed : Problem (Row Bool (q .free)) → ℕ → Assignment
+  fixed P W = sharesOf W (fixedAt (least (q .free)) h P W)
+
+  -- what is shown with each answer
   abbrev pub shownWith : Answer → Assignment
-  shownWith satisfied = fixed (firstAt h q) (c (firstCount q))
-  shownWith unsatisfied = fixed (firstAt h q) 0
-  shownWith vacuous = fixed (firstAt h q) 0
-  shownWith entailed = fixed (firstAt h q) 0
-  shownWith unmet = fixed (withUnmet (least (q .own)) (secondAt h q) (firstAt h q)) (c (firstCount q + 1))
-  shownWith (missed j) = fixed (withMissed (least (q .own)) (secondAt h q) (firstAt h q) j) (c (firstCount q + 1))
+  shownWith a = fixed (askedFor a) (heightGiven h q a)
 
   -- what is shown
   abbrev pub shownAt : Assignment

@@ -14,7 +14,8 @@ use Rattle.leaves.specs.HeightLaws.{room-less}
 use Rattle.leaves.specs.Choices.{Row, at, least}
 use Rattle.leaves.specs.LeafSolutions.{LeafSolution}
 use Rattle.leaves.specs.ProblemLaws.{cut-solvable, solution-glued}
-use Rattle.leaves.specs.Second.{Second, canBeMissed, firstMissed}
+use Rattle.leaves.specs.Second.{Second}
+use Rattle.leaves.specs.Entailment.{canBeMissed, firstMissed}
 use Rattle.leaves.specs.LeafExtensions.{LeafExtension, positivesOnly, only, EntailsLeaves, LeafCounterexample}
 use Rattle.leaves.specs.SecondLaws.{one-at-a-time, always-met, never-missed, can-be-unmet, can-be-missed}
 use Rattle.systems.specs.Clauses.{Assignment}

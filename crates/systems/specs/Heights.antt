@@ -16,10 +16,11 @@ use Rattle.shares.specs.Constant.{numberTree}
 use Rattle.leaves.specs.Heights.{c, anyHeight, atMost, exactly}
 use Rattle.leaves.specs.HeightLaws.{c-enough, room-any, room-at}
 use Rattle.leaves.specs.Choices.{Row, at, least}
-use Rattle.leaves.specs.Problem.{Problem, candidate}
+use Rattle.leaves.specs.Problem.{Problem}
 use Rattle.leaves.specs.LeafSolutions.{SolvesLeaves}
-use Rattle.leaves.specs.ProblemLaws.{cut-solvable, candidate-solves, solution-glued}
-use Rattle.leaves.specs.Second.{withUnmet, withMissed, canBeMissed, firstMissed}
+use Rattle.leaves.specs.ProblemLaws.{cut-solvable, fixed-solves as solves-leaves, solution-glued}
+use Rattle.leaves.specs.Fixed.{fixedAt, withUnmet, withMissed}
+use Rattle.leaves.specs.Entailment.{canBeMissed, firstMissed}
 use Rattle.leaves.specs.SecondLaws.{extension-room, unmet-solvable, unmet-first, unmet-counter, missed-first, missed-counter}
 use Rattle.systems.specs.Clauses.{Term, variable, constant, Constants, Assignment}
 use Rattle.systems.specs.Questions.{Kind, satisfiability, entailment, Question, Defined, WellFormed, tallestConstant, questionHeight, firstCount, secondCount}
@@ -160,19 +161,19 @@ module _ (h : ℕ) (q : Question) (F : WellFormed q) (B : Bounds h q) where
 
   -- ---- the solution that is shown
 
-  module _ (P : Problem (Row Bool (q .free))) (k : ℕ) (S : SolvesLeaves h (firstAt h q) (h + k) (candidate (least (q .free)) h P k)) where
-    fixed-reads : Reads (q .free) (h + k) (fixed h q P k) (λ i. at false (candidate (least (q .free)) h P k i))
+  module _ (P : Problem (Row Bool (q .free))) (k : ℕ) (S : SolvesLeaves h (firstAt h q) (h + k) (fixedAt (least (q .free)) h P (h + k))) where
+    fixed-reads : Reads (q .free) (h + k) (fixed h q P (h + k)) (λ i. at false (fixedAt (least (q .free)) h P (h + k) i))
     fixed-reads = shares-read (q .free) (h + k) _
 
-    fixed-solves : SolvesFirst q (fixed h q P k)
+    fixed-solves : SolvesFirst q (fixed h q P (h + k))
     fixed-solves = first-iff h q F B (h + k) (le-add-right h k) _ _ fixed-reads .1 S
 
-    fixed-low : heightOf q (fixed h q P k) ≤ h + k
+    fixed-low : heightOf q (fixed h q P (h + k)) ≤ h + k
     fixed-low = shares-low (q .free) (h + k) _
 
   shown-satisfied : T (canSolve h q) → Shown h q satisfied (shownWith h q satisfied)
   shown-satisfied t =
-      let S = candidate-solves (least (q .free)) h (firstAt h q) t (c (firstCount q)) (c-enough (firstCount q)) in
+      let S = solves-leaves (least (q .free)) h (firstAt h q) t (c (firstCount q)) (c-enough (firstCount q)) in
       record { solves = fixed-solves (firstAt h q) (c (firstCount q)) S; low = omega (arith, fixed-low (firstAt h q) (c (firstCount q)) S); fails = tt }
 
   -- room for one more than the disequations
@@ -183,7 +184,7 @@ module _ (h : ℕ) (q : Question) (F : WellFormed q) (B : Bounds h q) where
   shown-unmet t u =
       let k = c (firstCount q + 1) in
       let P = withUnmet (least (q .own)) (secondAt h q) (firstAt h q) in
-      let S = candidate-solves (least (q .free)) h P (unmet-solvable (least (q .free)) (least (q .own)) h (firstAt h q) (secondAt h q) t u) k room-more in
+      let S = solves-leaves (least (q .free)) h P (unmet-solvable (least (q .free)) (least (q .own)) h (firstAt h q) (secondAt h q) t u) k room-more in
       let S₁ = unmet-first (least (q .own)) h (firstAt h q) (secondAt h q) (h + k) _ S in
       record {
         solves = fixed-solves P k S₁;
@@ -198,7 +199,7 @@ module _ (h : ℕ) (q : Question) (F : WellFormed q) (B : Bounds h q) where
   shown-missed j l t =
       let k = c (firstCount q + 1) in
       let P = withMissed (least (q .own)) (secondAt h q) (firstAt h q) j in
-      let S = candidate-solves (least (q .free)) h P t k (omega (arith, room-more)) in
+      let S = solves-leaves (least (q .free)) h P t k (omega (arith, room-more)) in
       let S₁ = missed-first (least (q .own)) h (firstAt h q) (secondAt h q) (h + k) _ j S in
       record {
         solves = fixed-solves P k S₁;

@@ -12,7 +12,8 @@ use Rattle.shares.specs.Constant.{bit}
 use Rattle.leaves.specs.Heights.{c, atMost, exactly}
 use Rattle.leaves.specs.Choices.{someChoice, at, pickRow, least}
 use Rattle.leaves.specs.Problem.{plainAt, specialAt, solvable}
-use Rattle.leaves.specs.Second.{meets, meetsWith, canBeUnmet, canBeMissed, firstMissed}
+use Rattle.leaves.specs.Second.{meets, meetsWith}
+use Rattle.leaves.specs.Entailment.{canBeUnmet, canBeMissed, firstMissed}
 use Rattle.leaves.specs.AtHeight.{solvesTest, solvableAt}
 use Rattle.leaves.specs.AtHeightLaws.{solvable-at}
 use Rattle.systems.specs.Clauses.{positives, disequations}
