@@ -1,8 +1,7 @@
 // Asking: reads a question, decides it, and leaves its answer in the lent bytes.
 use basics::CLAUSE_BYTES;
-use decide::Decision;
+use beside::Sizes;
 use decide::Finding;
-use format::Question;
 use rows::ANSWER_BYTES;
 ghost use mathlib.Core.Path.{_≡_};
 ghost use mathlib.Core.List.{_++_};
@@ -11,7 +10,7 @@ ghost use lib.ListN.{length, drop};
 ghost use Rattle.systems.specs.Questions as model;
 ghost use Rattle.systems.specs.Answers.{heightGiven};
 ghost use Rattle.rows.specs.Rows.{answerBytes, zeros};
-ghost use Rattle.decide.specs.Decision.{answerOf, StandsFor, DecidedFor};
+ghost use Rattle.decide.specs.Decision.{answerOf, SizedFor, DecidedFor};
 ghost use Rattle.asking.specs.Asking.{workBytes, answered, askedWith, refusalOutcome, answerOutcome, outcomeOf, answerAfter, workAfter};
 ghost use Rattle.asking.specs.Exact.{Exact};
 ghost use Rattle.asking.specs.Demand3.{Demand3};
@@ -72,24 +71,23 @@ fn outcome_of(finding: Finding, height: usize) -> Outcome
     }
 }
 
-// The result of a finding of a question that was read.
-fn found(question: Question, finding: Finding) -> Outcome
-    requires { ⌜ ((q : model.Question) × StandsFor question q) ⌝ }
-    ensures { λ r. ⌜ ((q : model.Question) → StandsFor question q → r ≡ answerOutcome (answerOf finding) (heightGiven (model.questionHeight q) q (answerOf finding))) ⌝ }
+// The result of a finding of a question with these numbers.
+fn found(sizes: Sizes, finding: Finding) -> Outcome
+    requires { ⌜ ((q : model.Question) × SizedFor sizes q) ⌝ }
+    ensures { λ r. ⌜ ((q : model.Question) → SizedFor sizes q → r ≡ answerOutcome (answerOf finding) (heightGiven (model.questionHeight q) q (answerOf finding))) ⌝ }
 {
-    outcome_of(finding, decide::height_given(question, finding))
+    outcome_of(finding, decide::height_given(sizes, finding))
 }
 
-// Shows the solution of a decision, where it has one to show.
-fn show_solution(answer: &mut [u8], question: Question, decision: Decision)
+// Shows the solution of what was found, where there is one to show.
+fn show_solution(answer: &mut [u8], sizes: Sizes, finding: Finding, pairs: &[u64; 128])
     requires { ⌜ answerBytes ≤ length (now answer) ⌝ }
-    requires { ⌜ ((q : model.Question) × DecidedFor question decision q) ⌝ }
-    ensures { λ _. ⌜ ((q : model.Question) → DecidedFor question decision q → now (answer .exit) ≡ answerAfter (answered q) (now (answer .entry))) ⌝ }
+    requires { ⌜ ((q : model.Question) × DecidedFor sizes finding (now pairs) q) ⌝ }
+    ensures { λ _. ⌜ ((q : model.Question) → DecidedFor sizes finding (now (pairs .entry)) q → now (answer .exit) ≡ answerAfter (answered q) (now (answer .entry))) ⌝ }
 {
-    let finding = decision.finding;
     if decide::is_shown(finding) {
-        let plan = decide::plan(question, decision);
-        show::write_rows(answer, question.free, plan);
+        let plan = decide::plan(sizes, finding, pairs);
+        show::write_rows(answer, sizes.free, plan);
     }
 }
 
@@ -119,10 +117,10 @@ pub fn ask(question: &[u8], answer: &mut [u8], work: &mut [u8]) -> Outcome
     if work.len() < WORK_BYTES {
         return refused(12, 0);
     }
-    let asked = reading.question;
-    let decision = decide::decide(asked, &clauses);
-    let finding = decision.finding;
-    show_solution(answer, asked, decision);
+    let sizes = decide::sizes_of(reading.question);
+    let mut pairs = [0u64; 128];
+    let finding = decide::decide(reading.question, sizes, &clauses, &mut pairs);
+    show_solution(answer, sizes, finding, &pairs);
     clear_work(work);
-    found(asked, finding)
+    found(sizes, finding)
 }

@@ -4,7 +4,7 @@ use mathlib.Core.Bool.{Bool, true, false, not}
 use mathlib.Core.List.{List}
 use Prim.Native.Nat.{ℕ, _^_, _≤_, _<_, suc-le-suc, zero-le}
 use lib.Dec.{T, T-not, not-T}
-use lib.ListN.{getD, replicate}
+use lib.ListN.{getD}
 use borrow.Author.Tests.{lt-ltb, le-ltb}
 use Rattle.shares.specs.Test.{is-true, is-false, of-true, of-false, and-right}
 use Rattle.shares.specs.Below.{everyBelow, someBelow, firstBelow}
@@ -73,37 +73,35 @@ module _ {k : ℕ} (x : Stored) (q : Question) (St : Stands k x q) where
 
   -- ---- a finding with which a solution is shown, and one with which none is
 
-  with-pairs : (f : Finding) (pairs : List ℕ) → shows (answerOf f) ≡ true → decide q ≡ answerOf f → SolvedAs x H (searchOf f) true pairs
-      → Decided x q (record { finding = f; pairs = pairs })
-  with-pairs f pairs s d D = record { answer = sym d; solved = λ _. D; no-pairs = λ t. absurd (rw (d, s) at t) }
+  with-pairs : (f : Finding) (pairs : List ℕ) → decide q ≡ answerOf f → SolvedAs x H (searchOf f) true pairs → Decided x q f pairs
+  with-pairs f pairs d D = record { answer = sym d; solved = λ _. D }
 
-  without-pairs : (f : Finding) (pairs : List ℕ) → shows (answerOf f) ≡ false → decide q ≡ answerOf f → pairs ≡ replicate 64 0
-      → Decided x q (record { finding = f; pairs = pairs })
-  without-pairs f pairs s d e = record { answer = sym d; solved = λ t. absurd (rw (d, s) at t); no-pairs = λ _. e }
+  without-pairs : (f : Finding) (pairs : List ℕ) → shows (answerOf f) ≡ false → decide q ≡ answerOf f → Decided x q f pairs
+  without-pairs f pairs s d = record { answer = sym d; solved = λ t. absurd (rw (d, s) at t) }
 
   -- ---- of satisfiability
 
   module _ (found : Bool) (pairs : List ℕ) (D : SolvedAs x H First found pairs) (kind : q .kind ≡ satisfiability) where
-    pub decided-satisfied : found ≡ true → Decided x q (record { finding = Satisfied; pairs = pairs })
+    pub decided-satisfied : found ≡ true → Decided x q Satisfied pairs
     unfolding decideKind
     decided-satisfied e =
         let d : decide q ≡ satisfied = rw (kind, sym (D .found-is ∙ first-is) ∙ e) in
-        with-pairs Satisfied pairs refl d (rw e at D)
+        with-pairs Satisfied pairs d (rw e at D)
 
-    pub decided-unsatisfied : found ≡ false → Decided x q (record { finding = Unsatisfied; pairs = replicate 64 0 })
+    pub decided-unsatisfied : found ≡ false → Decided x q Unsatisfied pairs
     unfolding decideKind
     decided-unsatisfied e =
         let d : decide q ≡ unsatisfied = rw (kind, sym (D .found-is ∙ first-is) ∙ e) in
-        without-pairs Unsatisfied _ refl d refl
+        without-pairs Unsatisfied pairs refl d
 
   -- ---- of an entailment
 
   module _ (r : Survey) (pairs : List ℕ) (E : SurveyedAs x H r pairs) (kind : q .kind ≡ entailment) where
-    pub decided-vacuous : r .solvable ≡ false → Decided x q (record { finding = Vacuous; pairs = replicate 64 0 })
+    pub decided-vacuous : r .solvable ≡ false → Decided x q Vacuous pairs
     unfolding decideKind
     decided-vacuous e =
         let d : decide q ≡ vacuous = rw (kind, sym (E .solvable-is ∙ first-is) ∙ e) in
-        without-pairs Vacuous _ refl d refl
+        without-pairs Vacuous pairs refl d
 
     module _ (e : r .solvable ≡ true) where
       can : canSolve H q ≡ true
@@ -112,12 +110,12 @@ module _ {k : ℕ} (x : Stored) (q : Question) (St : Stands k x q) where
       unmet-found : r .unmet ≡ solvable (least (q .free)) H (withUnmet (least (q .own)) (secondAt H q) (firstAt H q))
       unmet-found = E .unmet-is (of-true e) ∙ unmet-is
 
-      pub decided-unmet : r .unmet ≡ true → Decided x q (record { finding = Unmet; pairs = pairs })
+      pub decided-unmet : r .unmet ≡ true → Decided x q Unmet pairs
       unfolding decideKind
       decided-unmet f =
           let breaks : someUnmet H q ≡ true = is-true _ (unmet-somewhere H q (of-true (sym unmet-found ∙ f))) in
           let d : decide q ≡ unmet = rw (kind, can, breaks) in
-          with-pairs Unmet pairs refl d
+          with-pairs Unmet pairs d
           (record { found-is = sym f ∙ E .unmet-is (of-true e); pairs-are = λ _. E .pairs-are (of-true e) (of-true f) })
 
       module _ (f : r .unmet ≡ false) where
@@ -133,18 +131,18 @@ module _ {k : ℕ} (x : Stored) (q : Question) (St : Stands k x q) where
         lowest : r .missed ≡ lowestMissed H q
         lowest = missed-is ∙ lowest-is
 
-        pub decided-entailed : getD (x .counts) 3 0 ≤ r .missed → Decided x q (record { finding = Entailed; pairs = replicate 64 0 })
+        pub decided-entailed : getD (x .counts) 3 0 ≤ r .missed → Decided x q Entailed pairs
         unfolding decideKind
         decided-entailed l =
             let d : decide q ≡ entailed = rw (kind, can, holds-on, ← lowest, ← count, le-ltb (r .missed) (getD (x .counts) 3 0) l) in
-            without-pairs Entailed _ refl d refl
+            without-pairs Entailed pairs refl d
 
         pub decided-missed : r .missed < getD (x .counts) 3 0 → (found : Bool) (third : List ℕ) → SolvedAs x H (Missed (r .missed)) found third
-            → Decided x q (record { finding = Missed (r .missed); pairs = third })
+            → Decided x q (Missed (r .missed)) third
         unfolding decideKind
         decided-missed l found third G =
             let d : decide q ≡ missed (r .missed) = rw (kind, can, holds-on, ← lowest, ← count, lt-ltb (r .missed) (getD (x .counts) 3 0) l) in
-            with-pairs (Missed (r .missed)) third refl d (rw (G .found-is ∙ is-true _ there) at G)
+            with-pairs (Missed (r .missed)) third d (rw (G .found-is ∙ is-true _ there) at G)
           where
             there : T (solvableIn x H (Missed (r .missed)))
             there = rw (← missed-is) at (first-below (getD (x .counts) 3 0) (λ i. solvableIn x H (Missed i)) (rw (← missed-is) l))

@@ -1,10 +1,10 @@
 -- What deciding hands over: the model's answer, and the pairs of the question's fixed solution, with its plan. Assumes nothing.
 use mathlib.Core.Path.{_≡_}
-use mathlib.Core.Bool.{true, not}
+use mathlib.Core.Bool.{true}
 use mathlib.Core.List.{List}
 use Prim.Native.Nat.{ℕ, _<_}
 use lib.Dec.{T}
-use lib.ListN.{take, replicate}
+use lib.ListN.{take}
 use Rattle.shares.specs.Constant.{constantLevels}
 use Rattle.leaves.specs.Heights.{c}
 use Rattle.systems.specs.Questions.{Kind, Question as Asked, WellFormed, tallestConstant, questionHeight, firstCount}
@@ -25,7 +25,6 @@ use Rattle.search.specs.Found.{SolvedAs}
 use Rattle.named.specs.Names.{SameSearches}
 use Rattle.decide.specs.declared.Finding.{Finding}
 use Rattle.decide.specs.declared.Finding.the-variants.{Satisfied, Unsatisfied, Vacuous, Entailed, Unmet, Missed}
-use Rattle.decide.specs.declared.Decision.{Decision}
 
 -- a question that was read and its clauses' bytes stand for some well-formed question of the model
 abbrev pub Standing : Question → List ℕ → Type 0
@@ -63,28 +62,33 @@ searchOf (Missed j) = Missed j
 
 -- ---- the decision of a question
 
--- what is stored as x stands for q: the answer is q's; where a solution is shown its search is solved, by these pairs; where none is, all are 0
-pub record Decided (x : Stored) (q : Asked) (r : Decision) : Type 0 where
-  pub answer : answerOf (r .finding) ≡ decide q
-  pub solved : T (shows (decide q)) → SolvedAs x (questionHeight q) (searchOf (r .finding)) true (r .pairs)
-  pub no-pairs : T (not (shows (decide q))) → r .pairs ≡ replicate 64 0
+-- what is stored as x stands for q: the answer is q's, and where a solution is shown its search is solved, by these pairs
+pub record Decided (x : Stored) (q : Asked) (r : Finding) (pairs : List ℕ) : Type 0 where
+  pub answer : answerOf r ≡ decide q
+  pub solved : T (shows (decide q)) → SolvedAs x (questionHeight q) (searchOf r) true pairs
 
 -- the same of every question of a kind that numbers, clauses' bytes and constants stand for, where those kept of the constants pose the same tests
-abbrev pub DecidedAs : Kind → Sizes → List ℕ → List ℕ → Decision → Type 0
-DecidedAs kind sizes clauses kept r =
+abbrev pub DecidedAs : Kind → Sizes → List ℕ → List ℕ → Finding → List ℕ → Type 0
+DecidedAs kind sizes clauses kept r pairs =
     (constants : List ℕ) → SameSearches (storedBy sizes clauses kept) (storedBy sizes clauses constants)
     → (k : ℕ) (q : Asked) → Stands k (storedBy sizes clauses constants) q → q .kind ≡ kind → sizes .height ≡ questionHeight q
-    → Decided (storedBy sizes clauses constants) q r
+    → Decided (storedBy sizes clauses constants) q r pairs
 
 -- a question that was read stands for q, with some clauses
 pub record StandsFor (x : Question) (q : Asked) : Type 0 where
   pub clauses : List ℕ
   pub stands : Stands (x .kind) (storedOf x clauses) q
 
--- and this is its decision
-pub record DecidedFor (x : Question) (r : Decision) (q : Asked) : Type 0 where
-  pub standing : StandsFor x q
-  pub decided : Decided (storedOf x (standing .clauses)) q r
+-- these are the numbers of a question that was read and stands for q
+pub record SizedFor (sizes : Sizes) (q : Asked) : Type 0 where
+  pub question : Question
+  pub standing : StandsFor question q
+  pub sized : sizes ≡ sizesOf question
+
+-- and this was found, with these pairs
+pub record DecidedFor (sizes : Sizes) (r : Finding) (pairs : List ℕ) (q : Asked) : Type 0 where
+  pub sizing : SizedFor sizes q
+  pub decided : Decided (storedOf (sizing .question) (sizing .standing .clauses)) q r pairs
 
 -- ---- its plan
 

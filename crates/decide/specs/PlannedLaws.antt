@@ -7,7 +7,7 @@ use native.Mathlib.Nat.{le-trans}
 use native.Mathlib.Omega.{arith}
 use lib.Dec.{T, ltb}
 use lib.Pow.{pow-mono}
-use lib.Arith.{digits-lt}
+use lib.Arith.{digits-lt, digits-mod}
 use borrow.Author.Tests.{ltb-true}
 use Rattle.shares.specs.Constant.{bit}
 use Rattle.shares.specs.Test.{of-true}
@@ -23,7 +23,7 @@ use Rattle.leaves.specs.RowNumbers.{value}
 use Rattle.leaves.specs.Problem.{Problem}
 use Rattle.leaves.specs.Fixed.{fixedAt}
 use Rattle.leaves.specs.ProblemLaws.{plain-passes, block-passes, rank-lt}
-use Rattle.leaves.specs.Numbers.{numbered, plainChoice}
+use Rattle.leaves.specs.Numbers.{numbered, leafFor, plainChoice, specialChoice}
 use Rattle.plans.specs.NumberLaws.{plain-is}
 use Rattle.systems.specs.Clauses.{Assignment}
 use Rattle.systems.specs.Questions.{Kind, satisfiability, entailment, Question, questionHeight, firstCount, secondCount}
@@ -36,7 +36,8 @@ use Rattle.format.specs.declared.Section.the-variants.{SecondDisequation}
 use Rattle.plans.specs.declared.Plan.{Plan}
 use Rattle.plans.specs.Shown as shown
 use Rattle.plans.specs.ShownLaws.{plan-shows}
-use Rattle.plans.specs.Pairs.{Fitting, PairsOf, Made}
+use Rattle.plans.specs.PairLaws.{width-enough}
+use Rattle.plans.specs.Pairs.{leafWidth, Fitting, PairsOf, Made}
 use Rattle.rows.specs.Rows.{rowLevels}
 use Rattle.steps.specs.Tests.{extraOf, roomOf, testsOf}
 use Rattle.steps.specs.declared.Search.{Search}
@@ -108,12 +109,14 @@ module _ {kind : ℕ} (x : Stored) (q : Question) (St : Stands kind x q) where
         splits = splits-few x q St search;
         extra = extra-most search;
         few = count-few x q St;
-        plains = λ b l. rw (P .plains b l) (le-trans (least-lt b l) (pow-mono {j = 12} (omega (arith, St .variables, St .free))));
-        entries = λ e l.
-            let m : e < R .count = rw tests-count l in
-            rw (P .entries e m) (digits-lt (block-passes (least (q .free)) H (numbered (q .free) R) can e m .0) (P .within e m));
+        plains = λ b l. rw (P .plains b l) (least-lt b l);
+        entries = λ e l. let m : e < R .count = rw tests-count l in rw (P .entries e m) (digits-lt (block-passes (least (q .free)) H (numbered (q .free) R) can e m .0) (wide e m));
+        choices = λ e l. let m : e < R .count = rw tests-count l in rw (P .entries e m, digits-mod (leafFor (q .free) H R e) (wide e m)) (P .within e m);
       }
         where
+          wide : (e : ℕ) → e < R .count → specialChoice (q .free) H R e (leafFor (q .free) H R e) < leafWidth (q .free)
+          wide e m = le-trans (P .within e m) (width-enough (q .free))
+
           least-lt : (b : ℕ) → b < 2 ^ H → plainChoice (q .free) H R b < 2 ^ q .free
           least-lt b l =
               let t : T (someBelow (2 ^ q .free) (R .pos b)) = rw (plain-is (q .free) H R b) at (plain-passes (least (q .free)) H (numbered (q .free) R) can b l) in
@@ -167,7 +170,7 @@ module _ {kind : ℕ} (x : Stored) (q : Question) (St : Stands kind x q) where
 
   -- ---- of a decision
 
-  module _ (f : Finding) (pairs : List ℕ) (D : Decided x q (record { finding = f; pairs = pairs })) (t : T (shows (answerOf f))) where
+  module _ (f : Finding) (pairs : List ℕ) (D : Decided x q f pairs) (t : T (shows (answerOf f))) where
     solved : SolvedAs Q H (searchOf f) true pairs
     solved = solved-at (D .solved (rw (D .answer) at t))
 

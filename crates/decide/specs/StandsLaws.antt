@@ -12,8 +12,8 @@ use Rattle.leaves.specs.Choices.{Row, at, least, someChoice}
 use Rattle.leaves.specs.RowNumbers.{value}
 use Rattle.leaves.specs.ChoiceLaws.{value-lt, some-number}
 use Rattle.leaves.specs.Problem.{Problem, solvable}
-use Rattle.leaves.specs.Fixed.{fixedAt}
-use Rattle.leaves.specs.Fixed as leaf
+use Rattle.leaves.specs.Fixed.{fixedAt, withUnmet, withMissed}
+use Rattle.leaves.specs.Second as leaf
 use Rattle.systems.specs.Clauses.{Atom}
 use Rattle.systems.specs.Questions.{Question}
 use Rattle.systems.specs.AtLeaves.{atomAt, allAt, bothAt, firstAt, secondAt}
@@ -154,17 +154,17 @@ module _ {kind : ℕ} (x : Stored) (q : Question) (St : Stands kind x q) (h : �
   pub same-first : Same (firstAt h q) (testsOf S h First)
   same-first = same-of _ _ (section-count x q St FirstDisequation ∙ omega arith) first-pos (λ j l b v. stored-after 0 j j b v (omega arith) l)
 
-  pub same-unmet : Same (leaf.withUnmet (least (q .own)) (secondAt h q) (firstAt h q)) (testsOf S h Unmet)
+  pub same-unmet : Same (withUnmet (least (q .own)) (secondAt h q) (firstAt h q)) (testsOf S h Unmet)
   unfolding specialIn
   same-unmet = same-of _ _ (ap suc (section-count x q St FirstDisequation) ∙ omega arith) first-pos go
     where
       go : (j : ℕ) → j < suc (firstAt h q .count) → (b : ℕ) (v : Row Bool (q .free))
-          → leaf.withUnmet (least (q .own)) (secondAt h q) (firstAt h q) .dis j b v ≡ testsOf S h Unmet .dis j b (value v)
+          → withUnmet (least (q .own)) (secondAt h q) (firstAt h q) .dis j b v ≡ testsOf S h Unmet .dis j b (value v)
       go zero l b v = ap not (second-meets b v)
       go (suc j) l b v = stored-after 1 j (suc j) b v (omega arith) (le-of-suc-le-suc l)
 
   pub same-missed : (j : ℕ) → j < countOf (x .counts) SecondDisequation
-      → Same (leaf.withMissed (least (q .own)) (secondAt h q) (firstAt h q) j) (testsOf S h (Missed j))
+      → Same (withMissed (least (q .own)) (secondAt h q) (firstAt h q) j) (testsOf S h (Missed j))
   same-missed j l =
       same-of _ _ (section-count x q St FirstDisequation ∙ omega arith)
       (λ b v. ap₂ (λ y z. y && not z) (first-pos b v) (second-with b v j l))

@@ -8,14 +8,14 @@ use steps::Search;
 ghost use mathlib.Core.Path.{_≡_};
 ghost use Prim.Native.Nat.{ℕ, _^_, _<_, _≤_, max};
 ghost use lib.Dec.{T};
-ghost use lib.ListN.{length, getD, take, replicate};
+ghost use lib.ListN.{length, getD, take};
 ghost use Rattle.shares.specs.Constant.{constantLevels};
 ghost use Rattle.systems.specs.Questions.{satisfiability, entailment, Question as Asked, WellFormed, tallestConstant, questionHeight};
 ghost use Rattle.systems.specs.Answers.{shows, heightGiven};
 ghost use Rattle.format.specs.Stored.{storedOf, Stands};
 ghost use Rattle.beside.specs.Beside.{Readable};
 ghost use Rattle.steps.specs.Tests.{extraOf, roomOf};
-ghost use Rattle.decide.specs.Decision.{Standing, sizesOf, answerOf, searchOf, Decided, DecidedAs, StandsFor, DecidedFor, outlineOf, Planned};
+ghost use Rattle.decide.specs.Decision.{Standing, sizesOf, answerOf, searchOf, Decided, DecidedAs, StandsFor, SizedFor, DecidedFor, outlineOf, Planned};
 
 // What deciding finds. Of a question of satisfiability: a solution; none. Of an entailment: the first system has no solution; every
 // solution extends; some solution cannot meet the second's positive clauses; some solution cannot have this disequation of the second
@@ -27,12 +27,6 @@ pub enum Finding {
     Entailed,
     Unmet,
     Missed(usize),
-}
-
-// What is found, and the pairs of the solution to show: all 0 where none is shown.
-pub struct Decision {
-    pub finding: Finding,
-    pub pairs: [u32; 64],
 }
 
 // The number of constant i.
@@ -69,7 +63,7 @@ fn question_height(constants: &[u64; 32], defined: usize) -> usize
 }
 
 // The numbers of a question, with its height.
-fn sizes_of(question: Question) -> Sizes
+pub fn sizes_of(question: Question) -> Sizes
     requires { ⌜ ((q : Asked) × StandsFor question q) ⌝ }
     ensures { λ r. ⌜ r ≡ sizesOf question ⌝ }
 {
@@ -85,77 +79,65 @@ fn sizes_of(question: Question) -> Sizes
 
 // ---- deciding
 
-// A decision with which no solution is shown.
-fn nothing_shown(finding: Finding) -> Decision
-    ensures { λ r. ⌜ r ≡ record { finding = finding; pairs = replicate 64 0 } ⌝ }
-{
-    Decision {
-        finding,
-        pairs: [0u32; 64],
-    }
-}
-
 // Decides satisfiability, by those of the constants that are kept.
 fn decide_satisfiability(
     clauses: &[u8; CLAUSE_BYTES],
     sizes: Sizes,
     constants: &[u64; 32],
-) -> Decision
+    pairs: &mut [u64; 128],
+) -> Finding
     requires { ⌜ Readable (now clauses) (sizes .counts) (sizes .free) (sizes .own) × (sizes .defined ≤ 32) × (sizes .height ≤ 5) ⌝ }
-    ensures { λ r. ⌜ DecidedAs satisfiability sizes (now (clauses .entry)) (now (constants .entry)) r ⌝ }
+    ensures { λ r. ⌜ DecidedAs satisfiability sizes (now (clauses .entry)) (now (constants .entry)) r (now (pairs .exit)) ⌝ }
 {
-    let mut pairs = [0u32; 64];
-    if search::solve(clauses, sizes, constants, Search::First, &mut pairs) {
-        return Decision {
-            finding: Finding::Satisfied,
-            pairs,
-        };
+    if search::solve(clauses, sizes, constants, Search::First, pairs) {
+        return Finding::Satisfied;
     }
-    nothing_shown(Finding::Unsatisfied)
+    Finding::Unsatisfied
 }
 
 // Decides an entailment, by those of the constants that are kept: one pass says everything but which pairs a solution has that misses a
 // disequation.
-fn decide_entailment(clauses: &[u8; CLAUSE_BYTES], sizes: Sizes, constants: &[u64; 32]) -> Decision
+fn decide_entailment(
+    clauses: &[u8; CLAUSE_BYTES],
+    sizes: Sizes,
+    constants: &[u64; 32],
+    pairs: &mut [u64; 128],
+) -> Finding
     requires { ⌜ Readable (now clauses) (sizes .counts) (sizes .free) (sizes .own) × (sizes .defined ≤ 32) × (sizes .height ≤ 5) ⌝ }
-    ensures { λ r. ⌜ DecidedAs entailment sizes (now (clauses .entry)) (now (constants .entry)) r ⌝ }
+    ensures { λ r. ⌜ DecidedAs entailment sizes (now (clauses .entry)) (now (constants .entry)) r (now (pairs .exit)) ⌝ }
 {
-    let mut pairs = [0u32; 64];
-    let survey = search::survey_leaves(clauses, sizes, constants, &mut pairs);
+    let survey = search::survey_leaves(clauses, sizes, constants, pairs);
     if !survey.solvable {
-        return nothing_shown(Finding::Vacuous);
+        return Finding::Vacuous;
     }
     if survey.unmet {
-        return Decision {
-            finding: Finding::Unmet,
-            pairs,
-        };
+        return Finding::Unmet;
     }
     let j = survey.missed;
     if j < sizes.counts[3] {
-        let mut missed = [0u32; 64];
-        search::solve(clauses, sizes, constants, Search::Missed(j), &mut missed);
-        return Decision {
-            finding: Finding::Missed(j),
-            pairs: missed,
-        };
+        search::solve(clauses, sizes, constants, Search::Missed(j), pairs);
+        return Finding::Missed(j);
     }
-    nothing_shown(Finding::Entailed)
+    Finding::Entailed
 }
 
-// Decides a question that was read, whose clauses are lent. Its height is that of all its constants; the tests at the leaves read those that
-// some clause names.
-pub fn decide(question: Question, clauses: &[u8; CLAUSE_BYTES]) -> Decision
-    requires { ⌜ Standing question (now clauses) ⌝ }
-    ensures { λ r. ⌜ ((q : Asked) → Stands (question .kind) (storedOf question (now (clauses .entry))) q → WellFormed q → Decided (storedOf question (now (clauses .entry))) q r) ⌝ }
+// Decides a question that was read, whose numbers and clauses are lent with a table for the pairs of the solution to show. Its height is that of all its
+// constants; the tests at the leaves read those that some clause names.
+pub fn decide(
+    question: Question,
+    sizes: Sizes,
+    clauses: &[u8; CLAUSE_BYTES],
+    pairs: &mut [u64; 128],
+) -> Finding
+    requires { ⌜ Standing question (now clauses) × (sizes ≡ sizesOf question) ⌝ }
+    ensures { λ r. ⌜ ((q : Asked) → Stands (question .kind) (storedOf question (now (clauses .entry))) q → WellFormed q → Decided (storedOf question (now (clauses .entry))) q r (now (pairs .exit))) ⌝ }
 {
-    let sizes = sizes_of(question);
     let mut constants = question.constants;
     named::keep_named(clauses, sizes, &mut constants);
     if question.kind == 0 {
-        return decide_satisfiability(clauses, sizes, &constants);
+        return decide_satisfiability(clauses, sizes, &constants, pairs);
     }
-    decide_entailment(clauses, sizes, &constants)
+    decide_entailment(clauses, sizes, &constants, pairs)
 }
 
 // ---- the solution that is shown
@@ -212,38 +194,36 @@ fn room_of(search: Search, d: usize) -> usize
 }
 
 // What is to be planned of the solution that a search has.
-fn outline(question: Question, search: Search) -> Outline
-    requires { ⌜ ((q : Asked) × StandsFor question q) ⌝ }
-    ensures { λ r. ⌜ ((q : Asked) → StandsFor question q → r ≡ outlineOf q search) ⌝ }
+fn outline(sizes: Sizes, search: Search) -> Outline
+    requires { ⌜ ((q : Asked) × SizedFor sizes q) ⌝ }
+    ensures { λ r. ⌜ ((q : Asked) → SizedFor sizes q → r ≡ outlineOf q search) ⌝ }
 {
     Outline {
-        free: question.free,
-        height: question_height(&question.constants, question.defined),
-        splits: plans::splits(room_of(search, question.counts[1])),
+        free: sizes.free,
+        height: sizes.height,
+        splits: plans::splits(room_of(search, sizes.counts[1])),
         extra: extra_of(search),
-        count: question.counts[1],
+        count: sizes.counts[1],
     }
 }
 
 // The height given with a finding: that of the solution that is shown, 0 if none is.
-pub fn height_given(question: Question, finding: Finding) -> usize
-    requires { ⌜ ((q : Asked) × StandsFor question q) ⌝ }
-    ensures { λ r. ⌜ ((q : Asked) → StandsFor question q → r ≡ heightGiven (questionHeight q) q (answerOf finding)) ⌝ }
+pub fn height_given(sizes: Sizes, finding: Finding) -> usize
+    requires { ⌜ ((q : Asked) × SizedFor sizes q) ⌝ }
+    ensures { λ r. ⌜ ((q : Asked) → SizedFor sizes q → r ≡ heightGiven (questionHeight q) q (answerOf finding)) ⌝ }
 {
     if !is_shown(finding) {
         return 0;
     }
-    let outline = outline(question, search_of(finding));
+    let outline = outline(sizes, search_of(finding));
     outline.height + outline.splits
 }
 
-// The plan of the solution that is shown with a decision.
-pub fn plan(question: Question, decision: Decision) -> Plan
-    requires { ⌜ ((q : Asked) × DecidedFor question decision q) ⌝ }
-    requires { ⌜ T (shows (answerOf (decision .finding))) ⌝ }
-    ensures { λ r. ⌜ ((q : Asked) → DecidedFor question decision q → Planned q r) ⌝ }
+// The plan of the solution that is shown with a finding.
+pub fn plan(sizes: Sizes, finding: Finding, pairs: &[u64; 128]) -> Plan
+    requires { ⌜ ((q : Asked) × DecidedFor sizes finding (now pairs) q) ⌝ }
+    requires { ⌜ T (shows (answerOf finding)) ⌝ }
+    ensures { λ r. ⌜ ((q : Asked) → DecidedFor sizes finding (now (pairs .entry)) q → Planned q r) ⌝ }
 {
-    let finding = decision.finding;
-    let pairs = decision.pairs;
-    plans::plan_of(&pairs, outline(question, search_of(finding)))
+    plans::plan_of(pairs, outline(sizes, search_of(finding)))
 }

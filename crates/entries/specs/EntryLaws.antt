@@ -7,13 +7,14 @@ use native.Mathlib.Decide.{ℕ-discrete}
 use native.Mathlib.Omega.{arith}
 use lib.Bits.{bitOr}
 use lib.Dec.{T, T-not}
-use lib.ListN.{length, getD, set}
-use lib.Seq.{getD-set-same, getD-set-other}
+use lib.ListN.{length}
 use borrow.Author.Tests.{eq-eqb, ne-eqb}
 use Rattle.shares.specs.Test.{is-true, is-false, of-true, of-false}
 use Rattle.shares.specs.Below.{someBelow, firstBelow}
 use Rattle.shares.specs.BelowLaws.{some-none, some-add, some-intro, first-longer}
 use Rattle.shares.specs.Constant.{bit}
+use Rattle.words.specs.Kept.{numberAt}
+use Rattle.words.specs.KeptLaws.{lowest-in, keptIn, kept-there, kept-others}
 use Rattle.words.specs.LowestLaws.{lowest-lt}
 use Rattle.entries.specs.BitLaws.{bit-added}
 use Rattle.entries.specs.SearchLaws.{found-in-word}
@@ -50,11 +51,11 @@ module _ (p : ℕ → Bool) (t : ℕ) where
       go false q = record { found = E .found ∙ sym same; stored = λ u. absurd (T-not (bit met e) (of-false q) u) }
 
   -- nothing has passed yet, and the word y is not 0
-  pub entry-found : (met y : ℕ) (pairs : List ℕ) (e : ℕ) → e < length pairs → y < 2 ^ 64 → (y ≡ 0 → ⊥) → bit met e ≡ false → WordOf (bit y) p t
-      → Entry p t met pairs e → Entry p (t + 1) (bitOr met (2 ^ e)) (set pairs e (64 * t + firstBelow 64 (bit y))) e
+  pub entry-found : (met y : ℕ) (pairs : List ℕ) (e : ℕ) → 2 * e + 1 < length pairs → y < 2 ^ 64 → (y ≡ 0 → ⊥) → bit met e ≡ false → WordOf (bit y) p t
+      → Entry p t met pairs e → Entry p (t + 1) (bitOr met (2 ^ e)) (keptIn pairs e t y) e
   entry-found met y pairs e room small n q w E = record {
     found = bit-added met e true refl e ∙ rw (eq-eqb e e refl) (or-true (bit met e)) ∙ sym (is-true (someBelow (64 * (t + 1)) p) there);
-    stored = λ u. getD-set-same pairs e (64 * t + firstBelow 64 (bit y)) 0 room ∙ first;
+    stored = λ u. kept-there pairs e t y room ∙ ap (_+_ (64 * t)) (lowest-in y small n) ∙ first;
   }
     where
       before : (z : ℕ) → z < 64 * t → p z ≡ false
@@ -85,12 +86,12 @@ module _ (e t : ℕ) (word : ℕ → Bool) (met : ℕ) (pairs : List ℕ) where
   }
 
 -- it finds one
-pub kept-found : (e t y met : ℕ) (pairs : List ℕ) → e < length pairs → y < 2 ^ 64 → (y ≡ 0 → ⊥) → bit met e ≡ false
-    → Kept e t (bit y) met pairs (bitOr met (2 ^ e)) (set pairs e (64 * t + firstBelow 64 (bit y)))
+pub kept-found : (e t y met : ℕ) (pairs : List ℕ) → 2 * e + 1 < length pairs → y < 2 ^ 64 → (y ≡ 0 → ⊥) → bit met e ≡ false
+    → Kept e t (bit y) met pairs (bitOr met (2 ^ e)) (keptIn pairs e t y)
 kept-found e t y met pairs room small n q = record {
   entry = λ p w E. entry-found p t met y pairs e room small n q w E;
   met-kept = λ k a. bit-added met e true refl k ∙ rw (ne-eqb k e a) (or-false (bit met k));
-  pairs-kept = λ k a. getD-set-other pairs e k (64 * t + firstBelow 64 (bit y)) 0 a;
+  pairs-kept = λ k a. kept-others pairs e t y k a;
 }
 
 -- the bits of a word may be said otherwise
@@ -130,6 +131,6 @@ module _ (t : ℕ) (word : ℕ → ℕ → Bool) (met : ℕ) (pairs : List ℕ) 
           }
 
 -- an entry that is as it was
-pub entry-same : (p : ℕ → Bool) (t met : ℕ) (pairs : List ℕ) (met′ : ℕ) (pairs′ : List ℕ) (e : ℕ) → bit met′ e ≡ bit met e → getD pairs′ e 0 ≡ getD pairs e 0
+pub entry-same : (p : ℕ → Bool) (t met : ℕ) (pairs : List ℕ) (met′ : ℕ) (pairs′ : List ℕ) (e : ℕ) → bit met′ e ≡ bit met e → numberAt pairs′ e ≡ numberAt pairs e
     → Entry p t met pairs e → Entry p t met′ pairs′ e
 entry-same p t met pairs met′ pairs′ e b v E = record { found = b ∙ E .found; stored = λ u. v ∙ E .stored (rw b at u) }

@@ -1,4 +1,4 @@
-// What is kept of the words of choices that a pass goes over: for each of up to 64 searches the least choice found so far, and for each
+// What is kept of the words of choices that a pass goes over: for each of up to 64 searches the first word that has a choice for it, and for each
 // disequation of the second system which disequations of the first were met.
 use basics::CLAUSE_BYTES;
 use basics::FIRST_DISEQUATIONS;
@@ -11,9 +11,9 @@ ghost use Rattle.shares.specs.Constant.{bit};
 ghost use Rattle.words.specs.Clause.{clauseTest, Clauses};
 ghost use Rattle.entries.specs.Entry.{Kept, KeptAll, common, Marked, MarkedAll};
 
-// Keeps the least choice of word number `turn` in which a bit of y is set as that of search e, if it has found none yet.
-pub fn keep_least(e: usize, turn: usize, y: u64, met: u64, pairs: &mut [u32]) -> u64
-    requires { ⌜ (e < 64) × (turn < 2048) × (length (now pairs) ≡ 64) ⌝ }
+// Keeps word number `turn` as that of search e, with the choices y in it that pass, if there are any and the search has found none yet.
+pub fn keep_least(e: usize, turn: usize, y: u64, met: u64, pairs: &mut [u64]) -> u64
+    requires { ⌜ (e < 64) × (turn < 2048) × (length (now pairs) ≡ 128) ⌝ }
     ensures { λ r. ⌜ Kept e turn (bit y) met (now (pairs .entry)) r (now (pairs .exit)) ⌝ }
 {
     if basics::digit(met, e) {
@@ -22,11 +22,12 @@ pub fn keep_least(e: usize, turn: usize, y: u64, met: u64, pairs: &mut [u32]) ->
     if y == 0 {
         return met;
     }
-    pairs[e] = (64 * turn + words::lowest(y)) as u32;
+    pairs[2 * e] = turn as u64;
+    pairs[2 * e + 1] = y;
     met | (1 << e)
 }
 
-// Keeps the least choice of x in which the clause at byte `at` fails as that of search e, if it has found none yet.
+// Keeps the choices of x in which disequation i of the first system holds as those of search i, if there are any and it has found none yet.
 fn keep_one(
     terms: &[u64; 64],
     clauses: &[u8; CLAUSE_BYTES],
@@ -34,9 +35,9 @@ fn keep_one(
     turn: usize,
     x: u64,
     met: u64,
-    pairs: &mut [u32],
+    pairs: &mut [u64],
 ) -> u64
-    requires { ⌜ (i < 64) × (turn < 2048) × (length (now pairs) ≡ 64) ⌝ }
+    requires { ⌜ (i < 64) × (turn < 2048) × (length (now pairs) ≡ 128) ⌝ }
     requires { ⌜ Clauses (now clauses) (256 + 4 * i) 1 ⌝ }
     ensures { λ r. ⌜ Kept i turn (λ k. bit x k && not (clauseTest (now (clauses .entry)) (λ t. bit (getD (now (terms .entry)) t 0) k) (256 + 4 * i))) met (now (pairs .entry)) r (now (pairs .exit)) ⌝ }
 {
@@ -47,7 +48,7 @@ fn keep_one(
     keep_least(i, turn, y, met, pairs)
 }
 
-// Keeps for each disequation of the first system the least choice of x in which it holds, if it has found none yet.
+// Keeps for each disequation of the first system the choices of x in which it holds, if there are any and it has found none yet.
 pub fn keep_all(
     terms: &[u64; 64],
     clauses: &[u8; CLAUSE_BYTES],
@@ -55,9 +56,9 @@ pub fn keep_all(
     turn: usize,
     x: u64,
     met: u64,
-    pairs: &mut [u32],
+    pairs: &mut [u64],
 ) -> u64
-    requires { ⌜ (count ≤ 31) × (turn < 2048) × (length (now pairs) ≡ 64) ⌝ }
+    requires { ⌜ (count ≤ 31) × (turn < 2048) × (length (now pairs) ≡ 128) ⌝ }
     requires { ⌜ Clauses (now clauses) 256 count ⌝ }
     ensures { λ r. ⌜ KeptAll count turn (λ i k. bit x k && not (clauseTest (now (clauses .entry)) (λ t. bit (getD (now (terms .entry)) t 0) k) (256 + 4 * i))) met (now (pairs .entry)) r (now (pairs .exit)) ⌝ }
 {

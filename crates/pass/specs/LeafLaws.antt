@@ -10,8 +10,7 @@ use native.Mathlib.Omega.{arith}
 use lib.Arith.{digits-lt, digits-div, digits-mod}
 use lib.Bits.{bitAnd, bitOr}
 use lib.Dec.{T, T-not, not-T}
-use lib.ListN.{length, getD, set}
-use lib.Seq.{getD-set-same, getD-set-other}
+use lib.ListN.{length, getD}
 use borrow.Author.Tests.{eq-eqb, ne-eqb}
 use Rattle.shares.specs.Test.{of-true, of-false, same-test, and-left, and-intro}
 use Rattle.shares.specs.Below.{someBelow, firstBelow}
@@ -20,6 +19,8 @@ use Rattle.shares.specs.Constant.{bit}
 use Rattle.shares.specs.BitLaws.{bit-zero, bit-and}
 use Rattle.format.specs.Stored.{Stored}
 use Rattle.words.specs.Choices.{wordCount}
+use Rattle.words.specs.Kept.{numberAt}
+use Rattle.words.specs.KeptLaws.{keptIn, kept-there, kept-others}
 use Rattle.entries.specs.BitLaws.{bit-added}
 use Rattle.entries.specs.Entry.{Entry}
 use Rattle.entries.specs.EntryLaws.{entry-same, some-stays}
@@ -97,7 +98,7 @@ module _ (S : Stored) (h : ℕ) (search : Search) (b : ℕ) where
       where
         plains : T (bit (seen₁ .met) (32 + b)) → (a : ℕ) → a < b + 1 → Dec (a ≡ b)
             → T (someBelow (leafWidth n) (allowedIn S search (leafValues S h a)))
-            × (getD pairs₁ (32 + a) 0 ≡ firstBelow (leafWidth n) (allowedIn S search (leafValues S h a)))
+            × (numberAt pairs₁ (32 + a) ≡ firstBelow (leafWidth n) (allowedIn S search (leafValues S h a)))
         plains t a l (yes q) = rw q (subst T (M .plain .found) t, M .plain .stored t)
         plains t a l (no m) =
             let (s, e) = A .plains a (omega arith) in
@@ -164,7 +165,7 @@ module _ (S : Stored) (h : ℕ) (search : Search) (b : ℕ) where
 
         plains : (a : ℕ) → a < b + 1 → Dec (a ≡ b)
             → T (someBelow (leafWidth n) (allowedIn S search (leafValues S h a)))
-            × (getD pairs₁ (32 + a) 0 ≡ firstBelow (leafWidth n) (allowedIn S search (leafValues S h a)))
+            × (numberAt pairs₁ (32 + a) ≡ firstBelow (leafWidth n) (allowedIn S search (leafValues S h a)))
         plains a l (yes q) =
             let (s, e) = A .plains like earlier in
             rw (q, ← same) (s, C .stored ∙ e)
@@ -200,12 +201,13 @@ others-more b seen pairs seen₁ pairs₁ seen₂ pairs₂ O P = record {
 }
 
 -- the least choice of leaf a is stored as that of leaf b
-pub copied : (b a : ℕ) (seen : Seen) (pairs : List ℕ) → 32 + b < length pairs
-    → Copied b a seen pairs (record { met = bitOr (seen .met) (2 ^ (32 + b)); possible = seen .possible; here = 0 }) (set pairs (32 + b) (getD pairs (32 + a) 0))
+pub copied : (b a : ℕ) (seen : Seen) (pairs : List ℕ) → 2 * (32 + b) + 1 < length pairs
+    → Copied b a seen pairs (record { met = bitOr (seen .met) (2 ^ (32 + b)); possible = seen .possible; here = 0 }) (keptIn pairs (32 + b) (getD pairs (2 * (32 + a)) 0) (getD pairs (2 * (32 + a) + 1) 0))
+unfolding numberAt
 copied b a seen pairs room = record {
   possible-kept = refl;
   found = bit-added (seen .met) (32 + b) true refl (32 + b) ∙ rw (eq-eqb (32 + b) (32 + b) refl) (or-true (bit (seen .met) (32 + b)));
   met-kept = λ k n. bit-added (seen .met) (32 + b) true refl k ∙ rw (ne-eqb k (32 + b) n) (or-false (bit (seen .met) k));
-  stored = getD-set-same pairs (32 + b) (getD pairs (32 + a) 0) 0 room;
-  pairs-kept = λ k n. getD-set-other pairs (32 + b) k (getD pairs (32 + a) 0) 0 n;
+  stored = kept-there pairs (32 + b) (getD pairs (2 * (32 + a)) 0) (getD pairs (2 * (32 + a) + 1) 0) room;
+  pairs-kept = λ k n. kept-others pairs (32 + b) (getD pairs (2 * (32 + a)) 0) (getD pairs (2 * (32 + a) + 1) 0) k n;
 }

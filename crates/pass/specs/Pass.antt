@@ -9,6 +9,7 @@ use Rattle.shares.specs.Below.{everyBelow, someBelow, firstBelow}
 use Rattle.shares.specs.Constant.{bit}
 use Rattle.format.specs.Stored.{Stored}
 use Rattle.words.specs.Choices.{wordCount}
+use Rattle.words.specs.Kept.{numberAt}
 use Rattle.entries.specs.Entry.{Entry}
 use Rattle.plans.specs.Pairs.{leafWidth}
 use Rattle.steps.specs.Tests.{leafValues, allowedIn}
@@ -24,7 +25,7 @@ missedBelow S h b j = everyBelow b (λ b. someBelow (leafWidth (S .free)) (allow
 pub record After (S : Stored) (h : ℕ) (search : Search) (b : ℕ) (seen : Seen) (pairs rows : List ℕ) : Type 0 where
   -- each has a least choice, and nothing is known of the others
   pub plains : (a : ℕ) → a < b → T (someBelow (leafWidth (S .free)) (allowedIn S search (leafValues S h a)))
-      × (getD pairs (32 + a) 0 ≡ firstBelow (leafWidth (S .free)) (allowedIn S search (leafValues S h a)))
+      × (numberAt pairs (32 + a) ≡ firstBelow (leafWidth (S .free)) (allowedIn S search (leafValues S h a)))
   pub found : (a : ℕ) → a < b → T (bit (seen .met) (32 + a))
   pub fresh : (a : ℕ) → b ≤ a → a < 32 → bit (seen .met) (32 + a) ≡ false
   pub entries : (i : ℕ) → i < getD (S .counts) 1 0 → Entry (onPairs S h (meetsHere S search i)) (b * wordCount (S .free)) (seen .met) pairs i
@@ -38,8 +39,8 @@ pub record Copied (b a : ℕ) (seen : Seen) (pairs : List ℕ) (seen′ : Seen) 
   pub possible-kept : seen′ .possible ≡ seen .possible
   pub found : bit (seen′ .met) (32 + b) ≡ true
   pub met-kept : (k : ℕ) → (k ≡ 32 + b → ⊥) → bit (seen′ .met) k ≡ bit (seen .met) k
-  pub stored : getD pairs′ (32 + b) 0 ≡ getD pairs (32 + a) 0
-  pub pairs-kept : (k : ℕ) → (k ≡ 32 + b → ⊥) → getD pairs′ k 0 ≡ getD pairs k 0
+  pub stored : numberAt pairs′ (32 + b) ≡ numberAt pairs (32 + a)
+  pub pairs-kept : (k : ℕ) → (k ≡ 32 + b → ⊥) → numberAt pairs′ k ≡ numberAt pairs k
 
 -- one leaf more, where it has a choice; where it has none its bit is not set
 pub record Visited (S : Stored) (h : ℕ) (search : Search) (b : ℕ) (seen : Seen) (pairs rows : List ℕ) : Type 0 where

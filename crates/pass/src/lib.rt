@@ -29,7 +29,7 @@ fn pass_leaf(
     sizes: Sizes,
     leaf: Leaf,
     seen: Seen,
-    pairs: &mut [u32; 64],
+    pairs: &mut [u64; 128],
     rows: &mut [u64; 96],
 ) -> Seen
     requires { ⌜ Readable (now clauses) (sizes .counts) (sizes .free) (sizes .own) ⌝ }
@@ -64,11 +64,16 @@ fn pass_leaf(
 }
 
 // A leaf that looks like an earlier one has its least choice, and no other search finds anything there.
-fn copy_leaf(number: usize, like: usize, seen: Seen, pairs: &mut [u32]) -> Seen
-    requires { ⌜ (like < number) × (number < 32) × (length (now pairs) ≡ 64) ⌝ }
+fn copy_leaf(number: usize, like: usize, seen: Seen, pairs: &mut [u64]) -> Seen
+    requires { ⌜ (like < number) × (number < 32) × (length (now pairs) ≡ 128) ⌝ }
     ensures { λ r. ⌜ Copied number like seen (now (pairs .entry)) r (now (pairs .exit)) ⌝ }
 {
-    pairs[32 + number] = pairs[32 + like];
+    let from = 2 * (32 + like);
+    let to = 2 * (32 + number);
+    let word = pairs[from];
+    let choices = pairs[from + 1];
+    pairs[to] = word;
+    pairs[to + 1] = choices;
     Seen {
         met: seen.met | (1 << (32 + number)),
         possible: seen.possible,
@@ -83,7 +88,7 @@ fn visit(
     sizes: Sizes,
     leaf: Leaf,
     seen: Seen,
-    pairs: &mut [u32; 64],
+    pairs: &mut [u64; 128],
     rows: &mut [u64; 96],
 ) -> Seen
     requires { ⌜ Readable (now clauses) (sizes .counts) (sizes .free) (sizes .own) ⌝ }
@@ -121,7 +126,7 @@ pub fn pass_leaves(
     sizes: Sizes,
     constants: &[u64; 32],
     search: Search,
-    pairs: &mut [u32; 64],
+    pairs: &mut [u64; 128],
     rows: &mut [u64; 96],
 ) -> Seen
     requires { ⌜ Readable (now clauses) (sizes .counts) (sizes .free) (sizes .own) ⌝ }

@@ -2,7 +2,7 @@
 use mathlib.Core.Path.{_≡_, refl, sym, ap, ap₂, _∙_}
 use mathlib.Core.List.{List}
 use Prim.Native.Nat.{ℕ, suc, _+_, _-_, _*_, _/_, _%_, _^_, _≤_, _<_}
-use native.Mathlib.Nat.{div-lt-iff-lt-mul, add-zero}
+use native.Mathlib.Nat.{le-trans, mod-lt, div-add-mod', div-lt-iff-lt-mul, add-zero, mul-left-comm}
 use native.Mathlib.Numerals.{add-one}
 use native.Mathlib.Decide.{decLt}
 use native.Mathlib.Omega.{arith}
@@ -17,6 +17,7 @@ use Rattle.leaves.specs.Problem.{Problem}
 use Rattle.leaves.specs.Numbers.{leafFor, rankOf, specialChoice}
 use Rattle.plans.specs.NumberLaws.{rank-here}
 use Rattle.words.specs.Choices.{wordCount}
+use Rattle.words.specs.Kept.{numberAt}
 use Rattle.words.specs.Stores.{store-law}
 use Rattle.plans.specs.declared.Outline.{Outline}
 use Rattle.plans.specs.Pairs.{leafWidth, slotOf, pairLeaf, Fitting, PairsOf, Filled, Made}
@@ -31,9 +32,44 @@ pub width-many : (n : ℕ) → 6 ≤ n → 2 ^ n ≡ leafWidth n
 unfolding wordCount
 width-many n h = let e : n ≡ 6 + (n - 6) = omega arith in ap (λ k. 2 ^ k) e ∙ pow-add 2 6 (n - 6)
 
+-- and so many words hold its choices
+pub words-few : (n : ℕ) → n < 6 → 2 ^ 0 ≡ wordCount n
+unfolding wordCount
+words-few n h = let e : 0 ≡ n - 6 = omega arith in ap (λ k. 2 ^ k) e
+
+pub words-many : (n : ℕ) → 2 ^ (n - 6) ≡ wordCount n
+unfolding wordCount
+words-many n = refl
+
 pub width-pos : (n : ℕ) → 0 < leafWidth n
 unfolding wordCount
 width-pos n = omega (arith, pow-pos (n - 6))
+
+-- it has room for the choices of n variables
+pub width-enough : (n : ℕ) → 2 ^ n ≤ leafWidth n
+width-enough n = go (decLt n 6)
+  where
+    go : Dec (n < 6) → 2 ^ n ≤ leafWidth n
+    go (yes l) = rw (← (width-few n l)) (pow-mono {j = 6} (omega arith))
+    go (no l) = omega (arith, width-many n (omega arith))
+
+-- the number of a word among those of all leaves says the leaf, and the word there
+module _ (t r n : ℕ) (small : r < 64) where
+  within : 64 * (t % wordCount n) + r < 64 * wordCount n
+  unfolding wordCount
+  within = omega (arith, mod-lt t (pow-pos (n - 6)))
+
+  regroup : (b c w : ℕ) → 64 * (b * c + w) + r ≡ b * (64 * c) + (64 * w + r)
+  regroup b c w = omega (arith, mul-left-comm b 64 c)
+
+  parts : 64 * t + r ≡ t / wordCount n * leafWidth n + (64 * (t % wordCount n) + r)
+  parts = ap (λ z. 64 * z + r) (sym (div-add-mod' t (wordCount n))) ∙ regroup (t / wordCount n) (wordCount n) (t % wordCount n)
+
+  pub number-leaf : t / wordCount n ≡ (64 * t + r) / leafWidth n
+  number-leaf = sym (ap (λ z. z / leafWidth n) parts ∙ digits-div (t / wordCount n) within)
+
+  pub number-choice : 64 * (t % wordCount n) + r ≡ (64 * t + r) % leafWidth n
+  number-choice = sym (ap (λ z. z % leafWidth n) parts ∙ digits-mod (t / wordCount n) within)
 
 -- ---- the pairs of a table that fits
 
@@ -85,14 +121,14 @@ module _ (o : Outline) (pairs : List ℕ) where
     sub-leaf-is = ap₂ (λ x y. x * 2 ^ o .splits + y) here (is ∙ t leaf within ∙ ap (leafCount e) here)
 
   pub filled-more : (e x y : ℕ) (s c : List ℕ) → e < length s → e < length c → x ≡ pairLeaf o pairs e * 2 ^ o .splits + leafCount e (pairLeaf o pairs e)
-      → y ≡ getD pairs (slotOf (o .extra) e) 0 % leafWidth (o .free) → Filled o pairs e s c → Filled o pairs (e + 1) (set s e x) (set c e y)
+      → y ≡ numberAt pairs (slotOf (o .extra) e) % leafWidth (o .free) → Filled o pairs e s c → Filled o pairs (e + 1) (set s e x) (set c e y)
   filled-more e x y s c hs hc ex ey f =
       record {
         sub-leaves =
             store-law (λ i z. i < e + 1 → z ≡ pairLeaf o pairs i * 2 ^ o .splits + leafCount i (pairLeaf o pairs i)) s e x hs
             (λ i n l. f .sub-leaves i (omega arith)) (λ l. ex);
         choices =
-            store-law (λ i z. i < e + 1 → z ≡ getD pairs (slotOf (o .extra) i) 0 % leafWidth (o .free)) c e y hc
+            store-law (λ i z. i < e + 1 → z ≡ numberAt pairs (slotOf (o .extra) i) % leafWidth (o .free)) c e y hc
             (λ i n l. f .choices i (omega arith)) (λ l. ey);
       }
 
@@ -100,11 +136,11 @@ module _ (o : Outline) (pairs : List ℕ) where
 
 module _ (o : Outline) (pairs : List ℕ) (R : Problem ℕ) (P : PairsOf (o .free) (o .height) R (o .extra) pairs) where
   leaf-is : (j : ℕ) → j < R .count → pairLeaf o pairs j ≡ leafFor (o .free) (o .height) R j
-  leaf-is j l = ap (λ x. x / leafWidth (o .free)) (P .entries j l) ∙ digits-div (leafFor (o .free) (o .height) R j) (P .within j l)
+  leaf-is j l = ap (λ x. x / leafWidth (o .free)) (P .entries j l) ∙ digits-div (leafFor (o .free) (o .height) R j) (le-trans (P .within j l) (width-enough (o .free)))
 
   choice-is : (j : ℕ) → j < R .count
-      → getD pairs (slotOf (o .extra) j) 0 % leafWidth (o .free) ≡ specialChoice (o .free) (o .height) R j (leafFor (o .free) (o .height) R j)
-  choice-is j l = ap (λ x. x % leafWidth (o .free)) (P .entries j l) ∙ digits-mod (leafFor (o .free) (o .height) R j) (P .within j l)
+      → numberAt pairs (slotOf (o .extra) j) % leafWidth (o .free) ≡ specialChoice (o .free) (o .height) R j (leafFor (o .free) (o .height) R j)
+  choice-is j l = ap (λ x. x % leafWidth (o .free)) (P .entries j l) ∙ digits-mod (leafFor (o .free) (o .height) R j) (le-trans (P .within j l) (width-enough (o .free)))
 
   rank-is : (j : ℕ) → j < R .count → leafCount o pairs j (pairLeaf o pairs j) ≡ rankOf (o .free) (o .height) R j
   rank-is j l =
@@ -112,7 +148,7 @@ module _ (o : Outline) (pairs : List ℕ) (R : Problem ℕ) (P : PairsOf (o .fre
       (λ i m. ap₂ eqb (leaf-is i (omega arith)) (leaf-is j l)) ∙ sym (rank-here (o .free) (o .height) R j (leafFor (o .free) (o .height) R j) refl)
 
   pub made : R .count ≡ o .extra + o .count → (plain subleaf choice : List ℕ)
-      → ((b : ℕ) → b < 2 ^ o .height → getD plain b 0 ≡ getD pairs (32 + b) 0) → Filled o pairs (o .extra + o .count) subleaf choice
+      → ((b : ℕ) → b < 2 ^ o .height → getD plain b 0 ≡ numberAt pairs (32 + b)) → Filled o pairs (o .extra + o .count) subleaf choice
       → Made (o .free) (o .height) R (o .splits)
       (record { low = o .height; high = o .height + o .splits; plain = plain; count = o .extra + o .count; subleaf = subleaf; choice = choice })
   made e plain subleaf choice ps f =

@@ -9,6 +9,7 @@ use Rattle.shares.specs.Below.{countBelow}
 use Rattle.leaves.specs.Problem.{Problem}
 use Rattle.leaves.specs.Numbers.{leafFor, rankOf, plainChoice, specialChoice}
 use Rattle.words.specs.Choices.{wordCount}
+use Rattle.words.specs.Kept.{numberAt}
 use Rattle.plans.specs.declared.Plan.{Plan}
 use Rattle.plans.specs.declared.Outline.{Outline}
 
@@ -27,24 +28,25 @@ pub record Fitting (o : Outline) (pairs : List ℕ) : Type 0 where
   pub splits : o .splits ≤ 5
   pub extra : o .extra ≤ 1
   pub few : o .count ≤ 31
-  pub plains : (b : ℕ) → b < 2 ^ o .height → getD pairs (32 + b) 0 < 4096
-  pub entries : (e : ℕ) → e < o .extra + o .count → getD pairs (slotOf (o .extra) e) 0 < 2 ^ o .height * leafWidth (o .free)
+  pub plains : (b : ℕ) → b < 2 ^ o .height → numberAt pairs (32 + b) < 2 ^ o .free
+  pub entries : (e : ℕ) → e < o .extra + o .count → numberAt pairs (slotOf (o .extra) e) < 2 ^ o .height * leafWidth (o .free)
+  pub choices : (e : ℕ) → e < o .extra + o .count → numberAt pairs (slotOf (o .extra) e) % leafWidth (o .free) < 2 ^ o .free
 
 -- a table holds the pairs of a solvable problem: the least choice of each leaf, and the leaf and the choice of each disequation
 pub record PairsOf (n h : ℕ) (R : Problem ℕ) (extra : ℕ) (pairs : List ℕ) : Type 0 where
-  pub plains : (b : ℕ) → b < 2 ^ h → getD pairs (32 + b) 0 ≡ plainChoice n h R b
-  pub entries : (e : ℕ) → e < R .count → getD pairs (slotOf extra e) 0 ≡ leafFor n h R e * leafWidth n + specialChoice n h R e (leafFor n h R e)
-  pub within : (e : ℕ) → e < R .count → specialChoice n h R e (leafFor n h R e) < leafWidth n
+  pub plains : (b : ℕ) → b < 2 ^ h → numberAt pairs (32 + b) ≡ plainChoice n h R b
+  pub entries : (e : ℕ) → e < R .count → numberAt pairs (slotOf extra e) ≡ leafFor n h R e * leafWidth n + specialChoice n h R e (leafFor n h R e)
+  pub within : (e : ℕ) → e < R .count → specialChoice n h R e (leafFor n h R e) < 2 ^ n
 
 -- the leaf of disequation e by its pair
 abbrev pub pairLeaf : Outline → List ℕ → ℕ → ℕ
-pairLeaf o pairs e = getD pairs (slotOf (o .extra) e) 0 / leafWidth (o .free)
+pairLeaf o pairs e = numberAt pairs (slotOf (o .extra) e) / leafWidth (o .free)
 
 -- the first e disequations have their sub-leaves and choices
 pub record Filled (o : Outline) (pairs : List ℕ) (e : ℕ) (subleaf choice : List ℕ) : Type 0 where
   pub sub-leaves : (i : ℕ) → i < e
       → getD subleaf i 0 ≡ pairLeaf o pairs i * 2 ^ o .splits + countBelow i (λ j. eqb (pairLeaf o pairs j) (pairLeaf o pairs i))
-  pub choices : (i : ℕ) → i < e → getD choice i 0 ≡ getD pairs (slotOf (o .extra) i) 0 % leafWidth (o .free)
+  pub choices : (i : ℕ) → i < e → getD choice i 0 ≡ numberAt pairs (slotOf (o .extra) i) % leafWidth (o .free)
 
 -- the plan's entries are those of the problem, with each leaf split k times
 pub record Made (n h : ℕ) (R : Problem ℕ) (k : ℕ) (plan : Plan) : Type 0 where

@@ -1,9 +1,14 @@
 // The plan of a solution that was found: which choice stands at each leaf, and at which sub-leaf each disequation stands with its own.
+use guesses::Passing;
 ghost use mathlib.Core.Path.{_≡_};
-ghost use Prim.Native.Nat.{ℕ, _+_, _*_, _/_, _%_, _^_, _<_, _≤_};
+ghost use Prim.Native.Nat.{ℕ, _+_, _-_, _*_, _/_, _%_, _^_, _<_, _≤_};
+ghost use lib.Dec.{T};
 ghost use lib.ListN.{length, getD, set};
 ghost use Rattle.leaves.specs.Heights.{c};
 ghost use Rattle.leaves.specs.Problem.{Problem};
+ghost use Rattle.guesses.specs.Guesses.{leastNumber};
+ghost use Rattle.words.specs.Choices.{wordCount};
+ghost use Rattle.words.specs.Kept.{numberAt};
 ghost use Rattle.plans.specs.Pairs.{leafWidth, slotOf, Fitting, PairsOf, Filled, Made};
 
 // Which choice of values stands at each sub-leaf of a shown solution. The value of a variable is one binary digit of a choice.
@@ -55,39 +60,53 @@ fn slot_of(extra: usize, e: usize) -> usize
     e - extra
 }
 
-// How many binary digits number the choices of a leaf, by words.
-fn choice_digits(n: usize) -> usize
+// How many binary digits number the words of a leaf.
+fn word_digits(n: usize) -> usize
     requires { ⌜ n ≤ 12 ⌝ }
-    ensures { λ r. ⌜ (2 ^ r ≡ leafWidth n) × (r ≤ 12) ⌝ }
+    ensures { λ r. ⌜ (2 ^ r ≡ wordCount n) × (r ≤ 6) ⌝ }
 {
     if n < 6 {
-        return 6;
+        return 0;
     }
-    n
+    n - 6
 }
 
-// The pair of disequation e.
-fn pair_at(pairs: &[u32; 64], extra: usize, e: usize) -> u32
-    requires { ⌜ (extra ≤ 1) × (e < 64) ⌝ }
-    ensures { λ r. ⌜ r ≡ getD (now (pairs .entry)) (slotOf extra e) 0 ⌝ }
+// The word of an entry, with its number among those of all leaves.
+fn word_at(pairs: &[u64; 128], entry: usize) -> Passing
+    requires { ⌜ entry < 64 ⌝ }
+    ensures { λ r. ⌜ leastNumber r ≡ numberAt (now (pairs .entry)) entry ⌝ }
 {
-    pairs[slot_of(extra, e)]
+    Passing {
+        word: pairs[2 * entry] as usize,
+        choices: pairs[2 * entry + 1],
+    }
 }
 
-// The leaf of a pair.
-fn pair_leaf(pair: u32, free: usize) -> usize
+// The leaf of a word.
+fn leaf_of(kept: Passing, free: usize) -> usize
     requires { ⌜ free ≤ 12 ⌝ }
-    ensures { λ r. ⌜ r ≡ pair / leafWidth free ⌝ }
+    ensures { λ r. ⌜ r ≡ leastNumber kept / leafWidth free ⌝ }
 {
-    (pair as usize) >> choice_digits(free)
+    kept.word >> word_digits(free)
 }
 
-// The choice of a pair.
-fn pair_choice(pair: u32, free: usize) -> u16
-    requires { ⌜ free ≤ 12 ⌝ }
-    ensures { λ r. ⌜ r ≡ pair % leafWidth free ⌝ }
+// The least choice in a word.
+fn choice_of(kept: Passing, free: usize) -> u16
+    requires { ⌜ (free ≤ 12) × (leastNumber kept % leafWidth free < 2 ^ free) ⌝ }
+    ensures { λ r. ⌜ r ≡ leastNumber kept % leafWidth free ⌝ }
 {
-    ((pair as usize) & (basics::power(choice_digits(free)) - 1)) as u16
+    let passing = Passing {
+        word: kept.word & (basics::power(word_digits(free)) - 1),
+        choices: kept.choices,
+    };
+    guesses::least_choice(passing, free) as u16
+}
+
+// Whether two words are the same, with the same choices.
+fn are_same(a: Passing, b: Passing) -> bool
+    ensures { λ r. ⌜ (T r → leastNumber a ≡ leastNumber b) ⌝ }
+{
+    a.word == b.word && a.choices == b.choices
 }
 
 // The number of a leaf's sub-leaf with this rank.
@@ -108,20 +127,35 @@ fn take_rank(taken: &mut [usize], leaf: usize) -> usize
     rank
 }
 
+// The least choice of leaf b: that of the leaf before it, if it has the same word.
+fn plain_at(pairs: &[u64; 128], b: usize, free: usize, plain: &[u16]) -> u16
+    requires { ⌜ (b < 32) × (free ≤ 12) × (length (now plain) ≡ 64) ⌝ }
+    requires { ⌜ (numberAt (now pairs) (32 + b) < 2 ^ free) × (0 < b → getD (now plain) (b - 1) 0 ≡ numberAt (now pairs) (31 + b)) ⌝ }
+    ensures { λ r. ⌜ r ≡ numberAt (now (pairs .entry)) (32 + b) ⌝ }
+{
+    let kept = word_at(pairs, 32 + b);
+    if 0 < b {
+        if are_same(word_at(pairs, 31 + b), kept) {
+            return plain[b - 1];
+        }
+    }
+    choice_of(kept, free)
+}
+
 // Puts the least choices of the leaves into the plan.
-fn fill_plain(pairs: &[u32; 64], leaves: usize, plain: &mut [u16])
-    requires { ⌜ (leaves ≤ 32) × (length (now plain) ≡ 64) × ((b : ℕ) → b < leaves → getD (now pairs) (32 + b) 0 < 4096) ⌝ }
-    ensures { λ _. ⌜ ((b : ℕ) → b < leaves → getD (now (plain .exit)) b 0 ≡ getD (now (pairs .entry)) (32 + b) 0) ⌝ }
+fn fill_plain(pairs: &[u64; 128], leaves: usize, free: usize, plain: &mut [u16])
+    requires { ⌜ (leaves ≤ 32) × (free ≤ 12) × (length (now plain) ≡ 64) × ((b : ℕ) → b < leaves → numberAt (now pairs) (32 + b) < 2 ^ free) ⌝ }
+    ensures { λ _. ⌜ ((b : ℕ) → b < leaves → getD (now (plain .exit)) b 0 ≡ numberAt (now (pairs .entry)) (32 + b)) ⌝ }
 {
     let mut b: usize = 0;
     while b < leaves {
-        plain[b] = pairs[32 + b] as u16;
+        plain[b] = plain_at(pairs, b, free, plain);
         b += 1;
     }
 }
 
 // Gives each disequation its sub-leaf: from the left those of a leaf stand in order.
-fn fill_entries(pairs: &[u32; 64], outline: Outline, subleaf: &mut [u16], choice: &mut [u16])
+fn fill_entries(pairs: &[u64; 128], outline: Outline, subleaf: &mut [u16], choice: &mut [u16])
     requires { ⌜ Fitting outline (now pairs) ⌝ }
     requires { ⌜ (length (now subleaf) ≡ 32) × (length (now choice) ≡ 32) ⌝ }
     ensures { λ _. ⌜ Filled outline (now (pairs .entry)) (outline .extra + outline .count) (now (subleaf .exit)) (now (choice .exit)) ⌝ }
@@ -129,24 +163,29 @@ fn fill_entries(pairs: &[u32; 64], outline: Outline, subleaf: &mut [u16], choice
     let mut taken = [0usize; 32];
     let mut e: usize = 0;
     while e < outline.extra + outline.count {
-        let pair = pair_at(pairs, outline.extra, e);
-        let leaf = pair_leaf(pair, outline.free);
+        let kept = word_at(pairs, slot_of(outline.extra, e));
+        let leaf = leaf_of(kept, outline.free);
         let rank = take_rank(&mut taken, leaf);
         subleaf[e] = sub_leaf(leaf, outline.splits, rank);
-        choice[e] = pair_choice(pair, outline.free);
+        choice[e] = choice_of(kept, outline.free);
         e += 1;
     }
 }
 
 // The plan of the solution that a table of pairs holds.
-pub fn plan_of(pairs: &[u32; 64], outline: Outline) -> Plan
+pub fn plan_of(pairs: &[u64; 128], outline: Outline) -> Plan
     requires { ⌜ Fitting outline (now pairs) ⌝ }
     ensures { λ r. ⌜ ((R : Problem ℕ) → R .count ≡ outline .extra + outline .count → PairsOf (outline .free) (outline .height) R (outline .extra) (now (pairs .entry)) → Made (outline .free) (outline .height) R (outline .splits) r) ⌝ }
 {
     let mut plain = [0u16; 64];
     let mut subleaf = [0u16; 32];
     let mut choice = [0u16; 32];
-    fill_plain(pairs, basics::power(outline.height), &mut plain);
+    fill_plain(
+        pairs,
+        basics::power(outline.height),
+        outline.free,
+        &mut plain,
+    );
     fill_entries(pairs, outline, &mut subleaf, &mut choice);
     Plan {
         low: outline.height,

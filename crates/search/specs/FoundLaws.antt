@@ -15,6 +15,7 @@ use Rattle.shares.specs.BelowLaws.{every-at, every-ext, some-ext, first-ext}
 use Rattle.shares.specs.Constant.{bit}
 use Rattle.format.specs.Stored.{Stored}
 use Rattle.words.specs.Choices.{wordCount}
+use Rattle.words.specs.Kept.{numberAt}
 use Rattle.entries.specs.Entry.{Entry}
 use Rattle.plans.specs.Pairs.{leafWidth, slotOf, PairsOf}
 use Rattle.steps.specs.Tests.{leafValues, secondMeets, specialIn, extraOf, allowedIn, testsOf}
@@ -60,7 +61,7 @@ module _ (S : Stored) (h : ℕ) where
     entry-found : bit met e ≡ someBelow pairCount p
     entry-found = E .found ∙ ap (λ k. someBelow k p) pairs-words
 
-    entry-pair : T (bit met e) → getD pairs e 0 ≡ firstBelow pairCount p
+    entry-pair : T (bit met e) → numberAt pairs e ≡ firstBelow pairCount p
     entry-pair t = E .stored t ∙ ap (λ k. firstBelow k p) pairs-words
 
   -- the pairs of a stored disequation, and of the extra one
@@ -110,7 +111,7 @@ module _ (S : Stored) (h : ℕ) where
   abbrev HasPair : Search → List ℕ → ℕ → Type 0
   HasPair search pairs e =
       T (someBelow pairCount (pairAt (S .free) (testsOf S h search) e))
-      × (getD pairs (slotOf (extraOf search) e) 0 ≡ firstBelow pairCount (pairAt (S .free) (testsOf S h search) e))
+      × (numberAt pairs (slotOf (extraOf search) e) ≡ firstBelow pairCount (pairAt (S .free) (testsOf S h search) e))
 
   -- an entry that has found a pair, of a test that disequation e is
   has-pair : (search : Search) (p : ℕ → Bool) (met : ℕ) (pairs : List ℕ) (slot e : ℕ) → Entry p (2 ^ h * wordCount (S .free)) met pairs slot

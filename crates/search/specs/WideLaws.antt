@@ -14,6 +14,7 @@ use Rattle.leaves.specs.Fixed.{leafOf}
 use Rattle.leaves.specs.Numbers.{numbered, leafFor, plainChoice, specialChoice}
 use Rattle.plans.specs.NumberLaws.{plain-is, special-is}
 use Rattle.words.specs.Choices.{Periodic}
+use Rattle.words.specs.Kept.{numberAt}
 use Rattle.beside.specs.GatherLaws.{periodic-some, periodic-first}
 use Rattle.plans.specs.Pairs.{leafWidth, slotOf, PairsOf}
 use Rattle.plans.specs.PairLaws.{width-pos}
@@ -71,10 +72,11 @@ module _ (n h : ℕ) (R : Problem ℕ) (P : PeriodicIn n R) where
         (let (b, l, v) = some-found (2 ^ h) (λ b. someBelow (leafWidth n) (bothAt R e b)) leaves-some in
         first-passes (2 ^ h) (λ b. someBelow (leafWidth n) (bothAt R e b)) b l v .1)
 
+    narrow : T (someBelow (2 ^ n) (bothAt R e (leafFor n h R e)))
+    narrow = rw (periodic-some n (bothAt R e (leafFor n h R e)) (both-periodic e (leafFor n h R e))) at here
+
     choice-wide : firstBelow (leafWidth n) (bothAt R e (leafFor n h R e)) ≡ specialChoice n h R e (leafFor n h R e)
-    choice-wide =
-        periodic-first n (bothAt R e (leafFor n h R e))
-        (rw (periodic-some n (bothAt R e (leafFor n h R e)) (both-periodic e (leafFor n h R e))) at here)
+    choice-wide = periodic-first n (bothAt R e (leafFor n h R e)) narrow
 
     pub pair-first : firstBelow (2 ^ h * leafWidth n) (pairAt n R e) ≡ leafFor n h R e * leafWidth n + specialChoice n h R e (leafFor n h R e)
     pair-first =
@@ -82,17 +84,16 @@ module _ (n h : ℕ) (R : Problem ℕ) (P : PeriodicIn n R) where
         ∙ ap (λ b. b * leafWidth n + firstBelow (leafWidth n) (bothAt R e b)) (sym (leaf-wide e))
         ∙ ap (_+_ (leafFor n h R e * leafWidth n)) choice-wide
 
-    pub pair-within : specialChoice n h R e (leafFor n h R e) < leafWidth n
+    pub pair-within : specialChoice n h R e (leafFor n h R e) < 2 ^ n
     pair-within =
-        rw (← choice-wide)
-        (let (z, l, v) = some-found (leafWidth n) (bothAt R e (leafFor n h R e)) here in
-        first-passes (leafWidth n) (bothAt R e (leafFor n h R e)) z l v .0)
+        let (z, l, v) = some-found (2 ^ n) (bothAt R e (leafFor n h R e)) narrow in
+        first-passes (2 ^ n) (bothAt R e (leafFor n h R e)) z l v .0
 
   -- a table of first choices and first pairs
   pub pairs-of : (extra : ℕ) (pairs : List ℕ)
-      → ((b : ℕ) → b < 2 ^ h → T (someBelow (leafWidth n) (R .pos b)) × (getD pairs (32 + b) 0 ≡ firstBelow (leafWidth n) (R .pos b)))
+      → ((b : ℕ) → b < 2 ^ h → T (someBelow (leafWidth n) (R .pos b)) × (numberAt pairs (32 + b) ≡ firstBelow (leafWidth n) (R .pos b)))
       → ((e : ℕ) → e < R .count → T (someBelow (2 ^ h * leafWidth n) (pairAt n R e))
-      × (getD pairs (slotOf extra e) 0 ≡ firstBelow (2 ^ h * leafWidth n) (pairAt n R e)))
+      × (numberAt pairs (slotOf extra e) ≡ firstBelow (2 ^ h * leafWidth n) (pairAt n R e)))
       → PairsOf n h R extra pairs
   pairs-of extra pairs plains entries = record {
     plains = λ b l. plains b l .1 ∙ plain-first b (plains b l .0);

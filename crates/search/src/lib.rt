@@ -72,7 +72,7 @@ pub fn solve(
     sizes: Sizes,
     constants: &[u64; 32],
     search: Search,
-    pairs: &mut [u32; 64],
+    pairs: &mut [u64; 128],
 ) -> bool
     requires { ⌜ Readable (now clauses) (sizes .counts) (sizes .free) (sizes .own) ⌝ }
     requires { ⌜ Named (sizes .counts) search × (sizes .defined ≤ 32) × (sizes .height ≤ 5) × (extraOf search ≡ 0) ⌝ }
@@ -89,7 +89,7 @@ pub fn survey_leaves(
     clauses: &[u8; CLAUSE_BYTES],
     sizes: Sizes,
     constants: &[u64; 32],
-    pairs: &mut [u32; 64],
+    pairs: &mut [u64; 128],
 ) -> Survey
     requires { ⌜ Readable (now clauses) (sizes .counts) (sizes .free) (sizes .own) ⌝ }
     requires { ⌜ (sizes .defined ≤ 32) × (sizes .height ≤ 5) ⌝ }

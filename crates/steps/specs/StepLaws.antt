@@ -13,6 +13,7 @@ use Rattle.shares.specs.Constant.{bit}
 use Rattle.format.specs.Stored.{Stored}
 use Rattle.words.specs.Clause.{clauseTest}
 use Rattle.words.specs.Choices.{wordCount}
+use Rattle.words.specs.Kept.{numberAt}
 use Rattle.words.specs.Table.{Terms}
 use Rattle.beside.specs.declared.Sizes.{Sizes}
 use Rattle.beside.specs.Beside.{Readable}
@@ -157,7 +158,7 @@ module _ (sizes : Sizes) (clauses constants : List ℕ) (h b w : ℕ) (search : 
     module _ (e : search ≡ Unmet) (seen₃ : Seen) (pairs₃ rows₃ : List ℕ)
         (Q : Second (storedBy sizes clauses []) values (record { word = w; turn = turn; choices = x }) (record { met = met₂; possible = seen .possible; here = seen .here }) pairs₂ rows seen₃ pairs₃ rows₃)
         (possible-kept : seen₃ .possible ≡ seen .possible)
-        (met-kept : (k : ℕ) → (k ≡ 31 → ⊥) → bit (seen₃ .met) k ≡ bit met₂ k) (pairs-kept : (k : ℕ) → (k ≡ 31 → ⊥) → getD pairs₃ k 0 ≡ getD pairs₂ k 0) where
+        (met-kept : (k : ℕ) → (k ≡ 31 → ⊥) → bit (seen₃ .met) k ≡ bit met₂ k) (pairs-kept : (k : ℕ) → (k ≡ 31 → ⊥) → numberAt pairs₃ k ≡ numberAt pairs₂ k) where
       before : T (not (bit (seen₃ .met) 31)) → T (not (bit (seen .met) 31))
       before t = subst (λ c. T (not c)) met-apart (Q .stays t)
 
@@ -192,7 +193,7 @@ others-kept b w t x count word seen pairs met₁ pairs₁ met₂ pairs₂ few K 
 
 pub others-second : (b : ℕ) (seen : Seen) (pairs : List ℕ) (seen₂ : Seen) (pairs₂ : List ℕ) (seen₃ : Seen) (pairs₃ : List ℕ) → OthersKept b seen pairs seen₂ pairs₂
     → seen₃ .possible ≡ seen₂ .possible → ((k : ℕ) → (k ≡ 31 → ⊥) → bit (seen₃ .met) k ≡ bit (seen₂ .met) k)
-    → ((k : ℕ) → (k ≡ 31 → ⊥) → getD pairs₃ k 0 ≡ getD pairs₂ k 0) → OthersKept b seen pairs seen₃ pairs₃
+    → ((k : ℕ) → (k ≡ 31 → ⊥) → numberAt pairs₃ k ≡ numberAt pairs₂ k) → OthersKept b seen pairs seen₃ pairs₃
 others-second b seen pairs seen₂ pairs₂ seen₃ pairs₃ O e met-kept pairs-kept = record {
   possible-kept = e ∙ O .possible-kept;
   met-kept = λ k m n. met-kept k (λ q. omega arith) ∙ O .met-kept k m n;

@@ -10,6 +10,7 @@ use Rattle.shares.specs.Below.{someBelow}
 use Rattle.shares.specs.Constant.{bit}
 use Rattle.format.specs.Stored.{Stored, stored}
 use Rattle.words.specs.Choices.{wordCount}
+use Rattle.words.specs.Kept.{numberAt}
 use Rattle.words.specs.Table.{Terms, Within}
 use Rattle.beside.specs.declared.Sizes.{Sizes}
 use Rattle.entries.specs.Entry.{Entry, WordOf}
@@ -80,4 +81,4 @@ pub record Second (S : Stored) (values : ℕ) (at : Allowed) (seen : Seen) (pair
 pub record OthersKept (b : ℕ) (seen : Seen) (pairs : List ℕ) (seen′ : Seen) (pairs′ : List ℕ) : Type 0 where
   pub possible-kept : seen′ .possible ≡ seen .possible
   pub met-kept : (k : ℕ) → 32 ≤ k → (k ≡ 32 + b → ⊥) → bit (seen′ .met) k ≡ bit (seen .met) k
-  pub pairs-kept : (k : ℕ) → 32 ≤ k → (k ≡ 32 + b → ⊥) → getD pairs′ k 0 ≡ getD pairs k 0
+  pub pairs-kept : (k : ℕ) → 32 ≤ k → (k ≡ 32 + b → ⊥) → numberAt pairs′ k ≡ numberAt pairs k

@@ -7,6 +7,7 @@ ghost use Prim.Native.Nat.{ℕ, _+_, _*_, _<_};
 ghost use lib.ListN.{getD};
 ghost use Rattle.shares.specs.Constant.{bit};
 ghost use Rattle.words.specs.Choices.{wordCount};
+ghost use Rattle.words.specs.Kept.{numberAt};
 ghost use Rattle.words.specs.Table.{Terms};
 ghost use Rattle.beside.specs.Beside.{SameFree, Readable};
 ghost use Rattle.steps.specs.Tests.{leafValues, firstMeets, allowedIn, Named};
@@ -105,13 +106,13 @@ fn second_word(
     sizes: Sizes,
     at: Allowed,
     seen: Seen,
-    pairs: &mut [u32; 64],
+    pairs: &mut [u64; 128],
     rows: &mut [u64; 96],
 ) -> Seen
     requires { ⌜ Readable (now clauses) (sizes .counts) (sizes .free) (sizes .own) ⌝ }
     requires { ⌜ (at .word < wordCount (sizes .free)) × (at .turn < 2048) × SameFree (sizes .free) (at .choices) ⌝ }
     ensures { λ r. ⌜ ((values : ℕ) → Terms (sizes .free) (sizes .own) values (at .word) (now (terms .entry)) → Terms (sizes .free) (sizes .own) values (at .word) (now (terms .exit)) × (((i : ℕ) → i < 64 → bit (at .choices) i ≡ firstMeets (storedBy sizes (now (clauses .entry)) []) values (64 * at .word + i)) → Second (storedBy sizes (now (clauses .entry)) []) values at seen (now (pairs .entry)) (now (rows .entry)) r (now (pairs .exit)) (now (rows .exit)))) ⌝ }
-    ensures { λ r. ⌜ (r .possible ≡ seen .possible) × ((k : ℕ) → (k ≡ 31 → ⊥) → bit (r .met) k ≡ bit (seen .met) k) × ((k : ℕ) → (k ≡ 31 → ⊥) → getD (now (pairs .exit)) k 0 ≡ getD (now (pairs .entry)) k 0) ⌝ }
+    ensures { λ r. ⌜ (r .possible ≡ seen .possible) × ((k : ℕ) → (k ≡ 31 → ⊥) → bit (r .met) k ≡ bit (seen .met) k) × ((k : ℕ) → (k ≡ 31 → ⊥) → numberAt (now (pairs .exit)) k ≡ numberAt (now (pairs .entry)) k) ⌝ }
 {
     if basics::digit(seen.met, 31) {
         return seen;
@@ -155,7 +156,7 @@ pub fn pass_word(
     sizes: Sizes,
     spot: Spot,
     seen: Seen,
-    pairs: &mut [u32; 64],
+    pairs: &mut [u64; 128],
     rows: &mut [u64; 96],
 ) -> Seen
     requires { ⌜ Readable (now clauses) (sizes .counts) (sizes .free) (sizes .own) ⌝ }

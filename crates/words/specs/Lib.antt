@@ -5,5 +5,7 @@ pub mod ClauseLaws
 pub mod TermLaws
 pub mod Stores
 pub mod LowestLaws
+pub mod Kept
+pub mod KeptLaws
 pub mod TableLaws
 pub mod Shifts

@@ -13,7 +13,7 @@ use Rattle.entries.proofs.keep_all.Statement.{statement}
 use Rattle.entries.proofs.keep_all.Tie as tie
 
 abbrev Inv-loop : tie.InvT-loop
-Inv-loop terms clauses count turn x met pairs₀ r₀ i₀ pairs r i = (i ≤ count) × (length pairs ≡ 64)
+Inv-loop terms clauses count turn x met pairs₀ r₀ i₀ pairs r i = (i ≤ count) × (length pairs ≡ 128)
     × KeptAll i turn (λ i k. bit x k && not (clauseTest clauses (λ t. bit (getD terms t 0) k) (256 + 4 * i))) met pairs₀ r pairs
 
 abbrev μ-loop : tie.MeasureT-loop

@@ -2,8 +2,8 @@
 use mathlib.Core.Path.{sym, ap, _∙_}
 use native.Mathlib.Omega.{arith}
 use borrow.Author.Needs.{needs}
+use lib.ListN.{length-set}
 use Rattle.entries.specs.EntryLaws.{kept-before, kept-none, kept-found}
-use Rattle.shares.specs.BelowLaws.{first-le}
 use Rattle.shares.specs.BitLaws.{bit-zero}
 use Rattle.shares.specs.Constant.{bit}
 use Rattle.words.specs.Shifts.{power-shift}
@@ -22,20 +22,23 @@ returns-2 c = kept-none _ _ _ _ _ (λ i l. ap (λ y. bit y i) (c .if2 .taken) �
 mul-pairs : tie.Need-mul-pairs
 mul-pairs c = search needs
 
-lowest-requires : tie.Need-lowest-requires
-lowest-requires c κs = search needs
-
-add-pairs : tie.Need-add-pairs
-add-pairs c = omega (arith, c .lowest .ensures, first-le 64 (bit (c .before .before .before .before .before .args .y)))
-
-cast-pairs : tie.Need-cast-pairs
-cast-pairs c = omega (arith, c .lowest .ensures, first-le 64 (bit (c .before .before .before .before .before .args .y)))
-
 mul-pairs-2 : tie.Need-mul-pairs-2
 mul-pairs-2 c = search needs
 
 slice-write-pairs : tie.Need-slice-write-pairs
 slice-write-pairs c = search needs
+
+mul-pairs-3 : tie.Need-mul-pairs-3
+mul-pairs-3 c = search needs
+
+add-pairs : tie.Need-add-pairs
+add-pairs c = search needs
+
+mul-pairs-4 : tie.Need-mul-pairs-4
+mul-pairs-4 c = search needs
+
+slice-write-pairs-2 : tie.Need-slice-write-pairs-2
+slice-write-pairs-2 c = simp length-set (omega arith)
 
 shl-result : tie.Need-shl-result
 shl-result c = search needs
@@ -45,9 +48,9 @@ same-length c = search needs
 
 returns-3 : tie.Need-returns-3
 returns-3 c =
-    let a = c .before .before .before .before .before .args in
-    rw (power-shift (a .e) (omega arith), c .lowest .ensures)
-    (kept-found (a .e) (a .turn) (a .y) (a .met) (a .pairs .now) (omega arith) (search needs) (c .before .if2 .left) (sym (c .before .before .before .digit .ensures) ∙ c .before .before .if1 .left))
+    let a = c .before .before .before .before .args in
+    rw (power-shift (a .e) (omega arith))
+    (kept-found (a .e) (a .turn) (a .y) (a .met) (a .pairs .now) (omega arith) (search needs) (c .if2 .left) (sym (c .before .before .digit .ensures) ∙ c .before .if1 .left))
 
 pub keep-least-spec : {M : Type 1} → statement M
 keep-least-spec =
@@ -57,11 +60,12 @@ keep-least-spec =
     returns
     returns-2
     mul-pairs
-    lowest-requires
-    add-pairs
-    cast-pairs
     mul-pairs-2
     slice-write-pairs
+    mul-pairs-3
+    add-pairs
+    mul-pairs-4
+    slice-write-pairs-2
     shl-result
     same-length
     returns-3)

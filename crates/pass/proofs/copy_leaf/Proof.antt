@@ -1,55 +1,88 @@
 -- `pass::copy_leaf` meets its contract. Assumes nothing.
 use Prim.Native.Nat.{_+_}
 use native.Mathlib.Omega.{arith}
+use lib.ListN.{length-set}
 use borrow.Author.Needs.{needs}
 use Rattle.pass.specs.LeafLaws.{copied}
 use Rattle.words.specs.Shifts.{power-shift}
 use Rattle.pass.proofs.copy_leaf.Statement.{statement}
 use Rattle.pass.proofs.copy_leaf.Tie as tie
 
-add-pairs : tie.Need-add-pairs
-add-pairs c = search needs
+add-from : tie.Need-add-from
+add-from c = search needs
+
+mul-from : tie.Need-mul-from
+mul-from c = search needs
+
+add-to : tie.Need-add-to
+add-to c = search needs
+
+mul-to : tie.Need-mul-to
+mul-to c = search needs
+
+mul-word : tie.Need-mul-word
+mul-word c = search needs
+
+slice-read-word : tie.Need-slice-read-word
+slice-read-word c = search needs
+
+add-choices : tie.Need-add-choices
+add-choices c = search needs
+
+mul-choices : tie.Need-mul-choices
+mul-choices c = search needs
+
+slice-read-choices : tie.Need-slice-read-choices
+slice-read-choices c = search needs
 
 mul-pairs : tie.Need-mul-pairs
 mul-pairs c = search needs
 
-slice-read-pairs : tie.Need-slice-read-pairs
-slice-read-pairs c = search needs
+slice-write-pairs : tie.Need-slice-write-pairs
+slice-write-pairs c = search needs
 
-add-pairs-2 : tie.Need-add-pairs-2
-add-pairs-2 c = search needs
+add-pairs : tie.Need-add-pairs
+add-pairs c = search needs
 
 mul-pairs-2 : tie.Need-mul-pairs-2
 mul-pairs-2 c = search needs
 
-slice-write-pairs : tie.Need-slice-write-pairs
-slice-write-pairs c = search needs
+slice-write-pairs-2 : tie.Need-slice-write-pairs-2
+slice-write-pairs-2 c = simp length-set (omega arith)
 
-add-t5 : tie.Need-add-t5
-add-t5 c = search needs
+add-t12 : tie.Need-add-t12
+add-t12 c = search needs
 
-shl-t13 : tie.Need-shl-t13
-shl-t13 c = search needs
+shl-t16 : tie.Need-shl-t16
+shl-t16 c = search needs
 
 same-length : tie.Need-same-length
 same-length c = search needs
 
 returns : tie.Need-returns
 returns c =
-    let a = c .before .before .args in
+    let a = c .before .before .before .args in
     rw (power-shift (32 + a .number) (omega arith)) (copied (a .number) (a .like) (a .seen) (a .pairs .now) (omega arith))
 
 pub copy-leaf-spec : {M : Type 1} → statement M
 copy-leaf-spec =
     tie.close
     (tie.spec
-    add-pairs
+    add-from
+    mul-from
+    add-to
+    mul-to
+    mul-word
+    slice-read-word
+    add-choices
+    mul-choices
+    slice-read-choices
     mul-pairs
-    slice-read-pairs
-    add-pairs-2
-    mul-pairs-2
     slice-write-pairs
-    add-t5
-    shl-t13
+    add-pairs
+    mul-pairs-2
+    slice-write-pairs-2
+    add-t12
+    shl-t16
     same-length
     returns)

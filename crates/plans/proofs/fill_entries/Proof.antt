@@ -4,8 +4,10 @@ use Prim.Native.Nat.{_+_, _-_, _*_, _/_, _%_, _^_, _≤_, _<_}
 use native.Mathlib.Omega.{arith}
 use lib.ListN.{length, length-set}
 use borrow.Author.Needs.{needs}
-use Rattle.plans.specs.Pairs.{Filled, leafWidth, pairLeaf}
-use Rattle.plans.specs.PairLaws.{Taken, pair-leaf-lt, filled-none, taken-none, rank-le, taken-more, sub-leaf-is, filled-more}
+use Rattle.words.specs.Kept.{numberAt}
+use Rattle.guesses.specs.Guesses.{leastNumber}
+use Rattle.plans.specs.Pairs.{Filled, leafWidth, slotOf, pairLeaf}
+use Rattle.plans.specs.PairLaws.{Taken, slot-lt, pair-leaf-lt, filled-none, taken-none, rank-le, taken-more, sub-leaf-is, filled-more}
 use Rattle.plans.proofs.fill_entries.Statement.{statement}
 use Rattle.plans.proofs.fill_entries.Tie as tie
 
@@ -24,42 +26,54 @@ loop-holds c =
 add-if1 : tie.Need-add-if1 Inv-loop μ-loop
 add-if1 c = omega arith
 
-pair-at-requires : tie.Need-pair-at-requires Inv-loop μ-loop
-pair-at-requires c κs =
-    let fits = c .before .before .before .before .before .pre .0 in
-    (omega (arith, fits .extra), omega (arith, fits .extra, fits .few))
+slot-of-requires : tie.Need-slot-of-requires Inv-loop μ-loop
+slot-of-requires c κs = c .before .before .before .before .before .pre .0 .extra
 
-pair-leaf-requires : tie.Need-pair-leaf-requires Inv-loop μ-loop
-pair-leaf-requires c κs = search needs
+word-at-requires : tie.Need-word-at-requires Inv-loop μ-loop
+word-at-requires c κs =
+    let s = c .before .before .before .before .before .before in
+    let fits = s .pre .0 in
+    omega (arith, c .slot-of .ensures, slot-lt (s .args .outline .extra) (c .before .before .before .loop .e) (omega (arith, fits .extra, fits .few)))
+
+leaf-of-requires : tie.Need-leaf-of-requires Inv-loop μ-loop
+leaf-of-requires c κs = c .before .before .before .before .before .before .before .pre .0 .variables
+
+-- the number of the word at hand
+number : (c : tie.After-word-at Inv-loop μ-loop) → (
+    let s = c .before .before .before .before .before .before .before in
+    leastNumber (c .word-at .result) ≡ numberAt (s .args .pairs .now) (slotOf (s .args .outline .extra) (c .before .before .before .before .loop .e)))
+number c =
+    let s = c .before .before .before .before .before .before .before in
+    c .word-at .ensures ∙ ap (numberAt (s .args .pairs .now)) (c .before .slot-of .ensures)
 
 slice-aggregate-take-rank : tie.Need-slice-aggregate-take-rank Inv-loop μ-loop
 slice-aggregate-take-rank c = search needs
 
--- the leaf of the pair at hand
-at-leaf : (c : tie.After-pair-leaf Inv-loop μ-loop) → (
-    let s = c .before .before .before .before .before .before .before in
-    c .pair-leaf .result ≡ pairLeaf (s .args .outline) (s .args .pairs .now) (c .before .before .before .before .loop .e))
+-- its leaf
+at-leaf : (c : tie.After-leaf-of Inv-loop μ-loop) → (
+    let s = c .before .before .before .before .before .before .before .before in
+    c .leaf-of .result ≡ pairLeaf (s .args .outline) (s .args .pairs .now) (c .before .before .before .before .before .loop .e))
 at-leaf c =
-    let s = c .before .before .before .before .before .before .before in
-    c .pair-leaf .ensures ∙ ap (λ x. x / leafWidth (s .args .outline .free)) (c .before .pair-at .ensures)
+    let s = c .before .before .before .before .before .before .before .before in
+    c .leaf-of .ensures ∙ ap (λ x. x / leafWidth (s .args .outline .free)) (number (c .before))
 
-leaf-lt : (c : tie.After-pair-leaf Inv-loop μ-loop) → c .pair-leaf .result < 32
+leaf-lt : (c : tie.After-leaf-of Inv-loop μ-loop) → c .leaf-of .result < 32
 leaf-lt c =
-    let s = c .before .before .before .before .before .before .before in
-    omega (arith, at-leaf c, pair-leaf-lt (s .args .outline) (s .args .pairs .now) (s .pre .0) (c .before .before .before .before .loop .e) (c .before .before .if1 .taken))
+    let s = c .before .before .before .before .before .before .before .before in
+    omega (arith, at-leaf c, pair-leaf-lt (s .args .outline) (s .args .pairs .now) (s .pre .0) (c .before .before .before .before .before .loop .e) (c .before .before .before .if1 .taken))
 
 take-rank-requires : tie.Need-take-rank-requires Inv-loop μ-loop
 take-rank-requires c κs =
-    let l = c .before .before .before .before .before .loop in
-    let s = c .before .before .before .before .before .before .before .before in
+    let l = c .before .before .before .before .before .before .loop in
+    let s = c .before .before .before .before .before .before .before .before .before in
     let within = leaf-lt (c .before) in (
       omega (arith, within, l .inv .3),
-      omega (arith, s .pre .0 .extra, s .pre .0 .few, rank-le (s .args .outline) (s .args .pairs .now) (l .e) (c .before .pair-leaf .result) _ (l .taken) (at-leaf (c .before)) within refl (l .inv .4)),
+      omega (arith, s .pre .0 .extra, s .pre .0 .few, rank-le (s .args .outline) (s .args .pairs .now) (l .e) (c .before .leaf-of .result) _ (l .taken) (at-leaf (c .before)) within refl (l .inv .4)),
     )
 
 sub-leaf-requires : tie.Need-sub-leaf-requires Inv-loop μ-loop
 sub-leaf-requires c κs =
-    let s = c .before .before .before .before .before .before .before .before .before .before in
+    let s = c .before .before .before .before .before .before .before .before .before .before .before in
     (leaf-lt (c .before .before .before), s .pre .0 .splits, omega (arith, c .before .take-rank .ensures .1))
 
 mul-subleaf : tie.Need-mul-subleaf Inv-loop μ-loop
@@ -68,8 +82,11 @@ mul-subleaf c = omega arith
 slice-write-subleaf : tie.Need-slice-write-subleaf Inv-loop μ-loop
 slice-write-subleaf c = omega arith
 
-pair-choice-requires : tie.Need-pair-choice-requires Inv-loop μ-loop
-pair-choice-requires c κs = search needs
+choice-of-requires : tie.Need-choice-of-requires Inv-loop μ-loop
+choice-of-requires c κs =
+    let s = c .before .before .before .before .before .before .before .before .before .before .before .before in
+    let word = c .before .before .before .before .before in
+    (s .pre .0 .variables, rw (number word) (s .pre .0 .choices (word .before .before .before .before .loop .e) (word .before .before .if1 .taken)))
 
 mul-choice : tie.Need-mul-choice Inv-loop μ-loop
 mul-choice c = omega arith
@@ -85,24 +102,24 @@ loop-less c = omega arith
 
 loop-again : tie.Need-loop-again Inv-loop μ-loop
 loop-again c =
-    let l = c .before .before .before .before .before .before .before .before .before .loop in
-    let s = c .before .before .before .before .before .before .before .before .before .before .before .before in
+    let l = c .before .before .before .before .before .before .before .before .before .before .loop in
+    let s = c .before .before .before .before .before .before .before .before .before .before .before .before .before in
     let o = s .args .outline in
     let pairs = s .args .pairs .now in
     let leaf = c .before .before .before .before .before in
     let taking = c .before .before .before .take-rank in
-    let b = leaf .pair-leaf .result in
+    let b = leaf .leaf-of .result in
     let stands : c .before .sub-leaf .result ≡ b * 2 ^ o .splits + taking .result = c .before .sub-leaf .ensures in
-    let chosen : c .pair-choice .result ≡ leaf .before .pair-at .result % leafWidth (o .free) = c .pair-choice .ensures in (
+    let chosen : c .choice-of .result ≡ leastNumber (leaf .before .word-at .result) % leafWidth (o .free) = c .choice-of .ensures in (
       omega arith,
       simp length-set (l .inv .1),
       simp length-set (l .inv .2),
       ap length (taking .ensures .2) ∙ simp length-set (l .inv .3),
       taken-more o pairs (l .e) b (taking .result) (l .taken) (at-leaf leaf) (leaf-lt leaf) (taking .ensures .0) (l .inv .4) (taking .last .0)
           (omega (arith, leaf-lt leaf, l .inv .3)) (taking .ensures .2),
-      filled-more o pairs (l .e) (c .before .sub-leaf .result) (c .pair-choice .result) (l .subleaf) (l .choice) (omega arith) (omega arith)
+      filled-more o pairs (l .e) (c .before .sub-leaf .result) (c .choice-of .result) (l .subleaf) (l .choice) (omega arith) (omega arith)
           (stands ∙ sub-leaf-is o pairs (l .e) b (taking .result) (l .taken) (at-leaf leaf) (leaf-lt leaf) (taking .ensures .0) (l .inv .4))
-          (chosen ∙ ap (λ x. x % leafWidth (o .free)) (leaf .before .pair-at .ensures)) (l .inv .5),
+          (chosen ∙ ap (λ x. x % leafWidth (o .free)) (number (leaf .before))) (l .inv .5),
     )
 
 same-length : tie.Need-same-length Inv-loop μ-loop
@@ -126,14 +143,15 @@ fill-entries-spec =
     μ-loop
     loop-holds
     add-if1
-    pair-at-requires
-    pair-leaf-requires
+    slot-of-requires
+    word-at-requires
+    leaf-of-requires
     slice-aggregate-take-rank
     take-rank-requires
     sub-leaf-requires
     mul-subleaf
     slice-write-subleaf
-    pair-choice-requires
+    choice-of-requires
     mul-choice
     slice-write-choice
     add-e

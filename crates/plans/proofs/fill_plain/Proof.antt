@@ -3,33 +3,34 @@ use mathlib.Core.Path.{_≡_, refl}
 use Prim.Native.Nat.{ℕ, _+_, _-_, _≤_, _<_}
 use native.Mathlib.Omega.{arith}
 use lib.ListN.{length, getD, length-set}
+use Rattle.words.specs.Kept.{numberAt}
 use Rattle.words.specs.Stores.{store-law}
 use Rattle.plans.proofs.fill_plain.Statement.{statement}
 use Rattle.plans.proofs.fill_plain.Tie as tie
 
 abbrev Inv-loop : tie.InvT-loop
-Inv-loop pairs leaves plain₀ b₀ plain b = (b ≤ leaves) × (length plain ≡ 64) × ((i : ℕ) → i < b → getD plain i 0 ≡ getD pairs (32 + i) 0)
+Inv-loop pairs leaves free plain₀ b₀ plain b = (b ≤ leaves) × (length plain ≡ 64) × ((i : ℕ) → i < b → getD plain i 0 ≡ numberAt pairs (32 + i))
 
 abbrev μ-loop : tie.MeasureT-loop
-μ-loop pairs leaves plain₀ b₀ plain b = leaves - b
+μ-loop pairs leaves free plain₀ b₀ plain b = leaves - b
 
 loop-holds : tie.Need-loop-holds Inv-loop μ-loop
-loop-holds c = (omega arith, c .pre .1, λ i l. absurd (omega arith))
+loop-holds c = (omega arith, c .before .pre .2, λ i l. absurd (omega arith))
 
-add-plain : tie.Need-add-plain Inv-loop μ-loop
-add-plain c = omega arith
+plain-at-requires : tie.Need-plain-at-requires Inv-loop μ-loop
+plain-at-requires c κs =
+    let s = c .before .before .before .before in
+    let l = c .before .before .loop in
+    let pairs = s .args .pairs .now in (
+      (omega arith, s .pre .1, l .inv .1),
+      (
+        s .pre .3 (l .b) (c .before .loop-test .taken),
+        λ p. let e : 32 + (l .b - 1) ≡ 31 + l .b = omega arith in rw e at (l .inv .2 (l .b - 1) (omega arith)),
+      ),
+    )
 
 mul-plain : tie.Need-mul-plain Inv-loop μ-loop
 mul-plain c = omega arith
-
-element-copy-out-plain : tie.Need-element-copy-out-plain Inv-loop μ-loop
-element-copy-out-plain c = omega arith
-
-cast-plain : tie.Need-cast-plain Inv-loop μ-loop
-cast-plain c = omega (arith, c .before .before .before .pre .2 (c .before .before .loop .b) (c .before .loop-test .taken))
-
-mul-plain-2 : tie.Need-mul-plain-2 Inv-loop μ-loop
-mul-plain-2 c = omega arith
 
 slice-write-plain : tie.Need-slice-write-plain Inv-loop μ-loop
 slice-write-plain c = omega arith
@@ -42,12 +43,12 @@ loop-less c = omega arith
 
 loop-again : tie.Need-loop-again Inv-loop μ-loop
 loop-again c =
-    let l = c .before .before .loop in
-    let pairs = c .before .before .before .args .pairs .now in (
+    let l = c .before .before .before .loop in
+    let pairs = c .before .before .before .before .before .args .pairs .now in (
       omega arith,
       simp length-set (l .inv .1),
-      store-law (λ i x. i < l .b + 1 → x ≡ getD pairs (32 + i) 0) (l .plain) (l .b) (getD pairs (32 + l .b) 0) (omega arith)
-          (λ i n h. l .inv .2 i (omega arith)) (λ h. refl),
+      store-law (λ i x. i < l .b + 1 → x ≡ numberAt pairs (32 + i)) (l .plain) (l .b) (c .plain-at .result) (omega arith)
+          (λ i n h. l .inv .2 i (omega arith)) (λ h. c .plain-at .ensures),
     )
 
 same-length : tie.Need-same-length Inv-loop μ-loop
@@ -63,11 +64,8 @@ fill-plain-spec =
     Inv-loop
     μ-loop
     loop-holds
-    add-plain
+    plain-at-requires
     mul-plain
-    element-copy-out-plain
-    cast-plain
-    mul-plain-2
     slice-write-plain
     add-b
     loop-less

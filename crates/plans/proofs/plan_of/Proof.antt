@@ -16,7 +16,7 @@ fill-plain-requires : tie.Need-fill-plain-requires
 fill-plain-requires c κs =
     let s = c .before .before in
     let leaves = c .before .power .ensures in
-    (omega (arith, leaves, leaves-le (s .args .outline) (s .args .pairs .now) (s .pre)), refl, λ b l. s .pre .plains b (rw leaves at l))
+    (omega (arith, leaves, leaves-le (s .args .outline) (s .args .pairs .now) (s .pre)), s .pre .variables, refl, λ b l. s .pre .plains b (rw leaves at l))
 
 slice-aggregate-fill-entries : tie.Need-slice-aggregate-fill-entries
 slice-aggregate-fill-entries c = search needs
