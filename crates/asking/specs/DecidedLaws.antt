@@ -13,41 +13,42 @@ use Rattle.format.specs.Callers.{Taken}
 use Rattle.rows.specs.Rows.{rowLevels, answerBytes, zeros}
 use Rattle.rows.specs.RowLaws.{filled-ext}
 use Rattle.show.specs.Plans as shown
-use Rattle.decide.specs.declared.Decision.{Decision}
-use Rattle.decide.specs.Decision.{answerOf, Decided, StandsFor, DecidedFor, Planned}
+use Rattle.beside.specs.declared.Sizes.{Sizes}
+use Rattle.decide.specs.declared.Finding.{Finding}
+use Rattle.decide.specs.Decision.{answerOf, Decided, SizedFor, DecidedFor, Planned}
 use Rattle.asking.specs.declared.Outcome.{Outcome}
 use Rattle.asking.specs.Asking.{workBytes, answered, answerOutcome, outcomeOf, answerAfter, workAfter}
 use Rattle.asking.specs.AskingLaws.{asked-answered}
 use Rattle.asking.specs.Given.{Given}
 use Rattle.asking.specs.AskedRight.{given}
 
-module _ (q : Question) (x : Stored) (d : Decision) (D : Decided x q d) where
+module _ (q : Question) (x : Stored) (f : Finding) (pairs : List ℕ) (D : Decided x q f pairs) where
   -- the answer that was found is the question's, and so is the height given with it
-  pub outcome-same : answerOutcome (answerOf (d .finding)) (heightGiven (questionHeight q) q (answerOf (d .finding))) ≡ outcomeOf (answered q)
+  pub outcome-same : answerOutcome (answerOf f) (heightGiven (questionHeight q) q (answerOf f)) ≡ outcomeOf (answered q)
   outcome-same = ap (λ a. answerOutcome a (heightGiven (questionHeight q) q a)) (D .answer)
 
   -- where a solution is shown its plan's rows are those of the solution
-  pub answer-shown : shows (answerOf (d .finding)) ≡ true → (plan : Plan) → Planned q plan → (free : ℕ) → free ≡ q .free → (answer : List ℕ)
+  pub answer-shown : shows (answerOf f) ≡ true → (plan : Plan) → Planned q plan → (free : ℕ) → free ≡ q .free → (answer : List ℕ)
       → shown.shownAnswer free plan answer ≡ answerAfter (answered q) answer
   unfolding answerAfter
   answer-shown s plan P free e answer = rw (e, ← (D .answer), s) (filled-ext rowLevels (q .free) _ _ (P .trees) answer)
 
   -- where none is the buffer is unchanged
-  pub answer-kept : shows (answerOf (d .finding)) ≡ false → (answer : List ℕ) → answer ≡ answerAfter (answered q) answer
+  pub answer-kept : shows (answerOf f) ≡ false → (answer : List ℕ) → answer ≡ answerAfter (answered q) answer
   unfolding answerAfter
   answer-kept s answer = rw (← (D .answer), s)
 
 -- asking, once a question was read that both buffers are long enough for, and decided
 pub given-answer : (s answer work : List ℕ) (x : Reading) (clauses : List ℕ) (T : Taken s x clauses) → answerBytes ≤ length answer → workBytes ≤ length work
-    → (d : Decision) → DecidedFor (x .question) d (T .question)
+    → (sizes : Sizes) (f : Finding) (pairs : List ℕ) → DecidedFor sizes f pairs (T .question)
     → (r : Outcome)
-    → ((q : Question) → StandsFor (x .question) q → r ≡ answerOutcome (answerOf (d .finding)) (heightGiven (questionHeight q) q (answerOf (d .finding))))
-    → (answer′ : List ℕ) → ((q : Question) → DecidedFor (x .question) d q → answer′ ≡ answerAfter (answered q) answer)
+    → ((q : Question) → SizedFor sizes q → r ≡ answerOutcome (answerOf f) (heightGiven (questionHeight q) q (answerOf f)))
+    → (answer′ : List ℕ) → ((q : Question) → DecidedFor sizes f pairs q → answer′ ≡ answerAfter (answered q) answer)
     → (work′ : List ℕ) → work′ ≡ zeros workBytes ++ drop workBytes work → Given s answer work r answer′ work′
 unfolding workAfter
-given-answer s answer work x clauses T la lw d D r er answer′ ea work′ ew =
+given-answer s answer work x clauses T la lw sizes f pairs D r er answer′ ea work′ ew =
     let q = T .question in
     given s answer work (answered q) (asked-answered s (length answer) (length work) q (T .read) la lw) r answer′ work′
-    (er q (D .standing) ∙ outcome-same q _ d (D .decided))
+    (er q (D .sizing) ∙ outcome-same q _ f pairs (D .decided))
     (ea q D)
     ew

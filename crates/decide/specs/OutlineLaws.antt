@@ -15,8 +15,9 @@ use Rattle.format.specs.declared.Section.the-variants.{FirstDisequation}
 use Rattle.steps.specs.Tests.{extraOf, roomOf}
 use Rattle.steps.specs.declared.Search.{Search}
 use Rattle.steps.specs.declared.Search.the-variants.{First, Unmet, Missed}
-use Rattle.decide.specs.ReadableLaws.{height-is}
-use Rattle.decide.specs.Decision.{answerOf, searchOf, outlineOf}
+use Rattle.beside.specs.declared.Sizes.{Sizes}
+use Rattle.decide.specs.ReadableLaws.{height-is, question-low}
+use Rattle.decide.specs.Decision.{answerOf, searchOf, SizedFor, outlineOf}
 use Rattle.decide.specs.declared.Finding.{Finding}
 use Rattle.decide.specs.declared.Finding.the-variants.{Satisfied, Unsatisfied, Vacuous, Entailed, Unmet, Missed}
 
@@ -54,6 +55,19 @@ module _ {kind : ℕ} (x : Stored) (q : Question) (St : Stands kind x q) where
       → room ≡ roomOf search (getD (x .counts) 1 0) → splits ≡ c room → extra ≡ extraOf search
       → record { free = x .free; height = height; splits = splits; extra = extra; count = getD (x .counts) 1 0 } ≡ outlineOf q search
   outline-is search height room splits extra h r s e = rw (St .free, h ∙ height-is x q St, s, r, e, count-is)
+
+-- from the numbers of a question that was read
+module _ (sizes : Sizes) (q : Question) (S : SizedFor sizes q) where
+  pub count-sized : getD (sizes .counts) 1 0 ≤ 31
+  count-sized = rw (S .sized) (S .standing .stands .counted FirstDisequation)
+
+  pub outline-sized : (search : Search) (room splits extra : ℕ) → room ≡ roomOf search (getD (sizes .counts) 1 0) → splits ≡ c room → extra ≡ extraOf search
+      → record { free = sizes .free; height = sizes .height; splits = splits; extra = extra; count = getD (sizes .counts) 1 0 } ≡ outlineOf q search
+  outline-sized search room splits extra r s e =
+      rw (S .sized) (outline-is _ q (S .standing .stands) search _ room splits extra refl (rw (S .sized) at r) s e)
+
+  pub heights-low : (search : Search) → (questionHeight q ≤ 5) × (c (roomOf search (firstCount q)) ≤ 5)
+  heights-low search = (question-low _ q (S .standing .stands), splits-few _ q (S .standing .stands) search)
 
 -- ---- the height given
 

@@ -1,6 +1,6 @@
 -- `asking::ask` meets its contract: each refusal by what was read and the lengths, an answer by what was decided. Assumes nothing.
 use lib.ListN.{length}
-use Rattle.format.specs.Callers.{answer-taken, answer-refused}
+use Rattle.format.specs.Callers.{Taken, answer-taken, answer-refused}
 use Rattle.asking.specs.AskingLaws.{asked-refused, asked-11, asked-12}
 use Rattle.asking.specs.AskedRight.{given-refused}
 use Rattle.asking.specs.DecidedLaws.{given-answer}
@@ -46,32 +46,44 @@ returns-3 c =
     (asked-12 (start .question .now) (length (start .answer .now)) (length (start .work .now)) (T .question) (T .read)
     (c .before .before .if2 .left) (c .before .if3 .taken)) _ (c .refused3 .ensures)
 
+-- what was read, once the tests are passed
+taken : (c : tie.Else3) → (
+    let reading = c .before .before .before .before in
+    Taken (reading .before .before .before .before .before .args .question .now) (reading .read .result) (reading .read .last .1 .0))
+taken c =
+    let reading = c .before .before .before .before in
+    answer-taken (reading .before .before .before .before .before .args .question .now) _ (reading .read .ensures .0) _ (reading .read .ensures .1 .1) (c .before .before .if1 .left)
+
+sizes-of-requires : tie.Need-sizes-of-requires
+sizes-of-requires c κs = let T = taken c in (T .question, record { clauses = _; stands = T .stands })
+
 decide-requires : tie.Need-decide-requires
 decide-requires c κs =
-    let test = c .before .before .before .before in
-    let reading = test .before .before in
-    let start = reading .before .before .before .before .before .args in
-    let T = answer-taken (start .question .now) _ (reading .read .ensures .0) _ (reading .read .ensures .1 .1) (test .if1 .left) in
-    (T .question, T .stands, T .formed)
+    let T = taken (c .before .before .before) in
+    ((T .question, T .stands, T .formed), c .before .before .sizes-of .ensures)
 
 show-solution-requires : tie.Need-show-solution-requires
 show-solution-requires c κs =
-    let test = c .before .before .before .before .before in
-    let reading = test .before .before .before in
-    let start = reading .before .before .before .before .before .args in
-    let T = answer-taken (start .question .now) _ (reading .read .ensures .0) _ (reading .read .ensures .1 .1) (test .before .if1 .left) in
-    (test .if2 .left, (T .question, record { standing = record { clauses = _; stands = T .stands }; decided = c .before .decide .ensures (T .question) (T .stands) (T .formed) }))
+    let passed = c .before .before .before .before .before .before in
+    let T = taken passed in (
+      passed .before .if2 .left,
+      (
+        T .question,
+        record {
+          sizing = record { question = _; standing = record { clauses = _; stands = T .stands }; sized = c .before .before .before .before .before .sizes-of .ensures };
+          decided = c .before .before .decide .ensures (T .question) (T .stands) (T .formed);
+        },
+      ),
+    )
 
 clear-work-requires : tie.Need-clear-work-requires
 clear-work-requires c κs = search needs
 
 found-requires : tie.Need-found-requires
 found-requires c κs =
-    let test = c .before .before .before .before .before .before .before .before .before .before .before .before .before in
-    let reading = test .before .before in
-    let start = reading .before .before .before .before .before .args in
-    let T = answer-taken (start .question .now) _ (reading .read .ensures .0) _ (reading .read .ensures .1 .1) (test .if1 .left) in
-    (T .question, record { clauses = _; stands = T .stands })
+    let sizes = c .before .before .before .before .before .before .before .before .before .before .before .before in
+    let T = taken (sizes .before) in
+    (T .question, record { question = _; standing = record { clauses = _; stands = T .stands }; sized = sizes .sizes-of .ensures })
 
 same-length : tie.Need-same-length
 same-length c = search needs
@@ -82,12 +94,16 @@ same-length-2 c = search needs
 returns-4 : tie.Need-returns-4
 returns-4 c =
     let shown = c .before .before .before .before .before .before .before in
-    let tests = shown .before .before .before .before .before in
-    let reading = tests .before .before .before .before in
-    let start = reading .before .before .before .before .before .args in
-    let T = answer-taken (start .question .now) _ (reading .read .ensures .0) _ (reading .read .ensures .1 .1) (tests .before .before .if1 .left) in
-    given-answer (start .question .now) (start .answer .now) (start .work .now) _ _ T (tests .before .if2 .left) (tests .if3 .left)
-    _ (record { standing = record { clauses = _; stands = T .stands }; decided = shown .before .before .decide .ensures (T .question) (T .stands) (T .formed) })
+    let found = shown .before .before .before in
+    let passed = found .before .before .before .before in
+    let start = passed .before .before .before .before .before .before .before .before .before .args in
+    let T = taken passed in
+    given-answer (start .question .now) (start .answer .now) (start .work .now) _ _ T (passed .before .if2 .left) (passed .if3 .left)
+    _ _ _
+    (record {
+      sizing = record { question = _; standing = record { clauses = _; stands = T .stands }; sized = found .before .before .before .sizes-of .ensures };
+      decided = found .decide .ensures (T .question) (T .stands) (T .formed);
+    })
     _ (c .found .ensures) _ (shown .show-solution .ensures) _ (c .before .before .before .clear-work .ensures)
 
 pub ask-spec : {M : Type 1} → statement M
@@ -101,6 +117,7 @@ ask-spec =
     returns-2
     refused-requires-3
     returns-3
+    sizes-of-requires
     decide-requires
     show-solution-requires
     clear-work-requires

@@ -1,5 +1,5 @@
 -- `asking::show_solution` shows the plan where there is a solution to show. Assumes nothing.
-use mathlib.Core.Path.{sym, _∙_}
+use mathlib.Core.Path.{sym, ap, _∙_}
 use native.Mathlib.Omega.{arith}
 use borrow.Author.Needs.{needs}
 use Rattle.shares.specs.Test.{of-true}
@@ -17,7 +17,7 @@ write-rows-requires : tie.Need-write-rows-requires
 write-rows-requires c κs =
     let start = c .before .before .before .before .before in
     let (q, D) = start .pre .1 in
-    (c .before .plan .ensures q D .formed, (start .pre .0, omega (arith, D .standing .stands .variables)))
+    (c .before .plan .ensures q D .formed, (start .pre .0, rw (D .sizing .sized) (omega (arith, D .sizing .standing .stands .variables))))
 
 same-length : tie.Need-same-length
 same-length c = search needs
@@ -27,10 +27,11 @@ returns c =
     let plan = c .before .before .before .before in
     λ q D.
     c .before .before .write-rows .ensures
-    ∙ answer-shown q _ _ (D .decided) (sym (plan .before .before .is-shown .ensures) ∙ plan .before .if1 .taken) _ (plan .plan .ensures q D) _ (D .standing .stands .free) _
+    ∙ answer-shown q _ _ _ (D .decided) (sym (plan .before .before .is-shown .ensures) ∙ plan .before .if1 .taken) _ (plan .plan .ensures q D) _
+    (ap (λ s. s .free) (D .sizing .sized) ∙ D .sizing .standing .stands .free) _
 
 returns-2 : tie.Need-returns-2
-returns-2 c = λ q D. answer-kept q _ _ (D .decided) (sym (c .before .is-shown .ensures) ∙ c .if1 .left) _
+returns-2 c = λ q D. answer-kept q _ _ _ (D .decided) (sym (c .before .is-shown .ensures) ∙ c .if1 .left) _
 
 pub show-solution-spec : {M : Type 1} → statement M
 show-solution-spec =

@@ -10,13 +10,10 @@ use Rattle.decide.proofs.decide_entailment.Tie as tie
 survey-leaves-requires : tie.Need-survey-leaves-requires
 survey-leaves-requires c κs = (c .before .pre .0, (c .before .pre .1, c .before .pre .2))
 
-nothing-shown-requires : tie.Need-nothing-shown-requires
-nothing-shown-requires c κs = search needs
-
 returns : tie.Need-returns
 returns c =
     λ constants same k q St kind e.
-    rw (c .nothing-shown .ensures) (decided-vacuous _ q St _ _ (rw e at (surveyed-same _ _ _ constants _ _ _ same _ (c .before .before .before .survey-leaves .ensures))) kind (flip _ (c .before .if1 .taken)))
+    decided-vacuous _ q St _ _ (rw e at (surveyed-same _ _ _ constants _ _ _ same _ (c .before .before .survey-leaves .ensures))) kind (flip _ (c .if1 .taken))
 
 returns-2 : tie.Need-returns-2
 returns-2 c =
@@ -38,27 +35,21 @@ returns-3 c =
     decided-missed _ q St _ _ (rw e at (surveyed-same _ _ _ constants _ _ _ same _ (tests .before .before .before .survey-leaves .ensures))) kind (flip _ (tests .before .if1 .left)) (tests .if2 .left)
     (c .before .before .if3 .taken) _ _ (rw e at (solved-same _ _ _ constants _ _ _ same _ (Missed _) (c .before .before .if3 .taken) (c .solve .ensures)))
 
-nothing-shown-requires-2 : tie.Need-nothing-shown-requires-2
-nothing-shown-requires-2 c κs = search needs
-
 returns-4 : tie.Need-returns-4
 returns-4 c =
-    let tests = c .before .before .before in
+    let tests = c .before .before in
     λ constants same k q St kind e.
-    rw (c .nothing-shown2 .ensures)
-    (decided-entailed _ q St _ _ (rw e at (surveyed-same _ _ _ constants _ _ _ same _ (tests .before .before .before .survey-leaves .ensures))) kind (flip _ (tests .before .if1 .left)) (tests .if2 .left)
-    (c .before .if3 .left))
+    decided-entailed _ q St _ _ (rw e at (surveyed-same _ _ _ constants _ _ _ same _ (tests .before .before .before .survey-leaves .ensures))) kind (flip _ (tests .before .if1 .left)) (tests .if2 .left)
+    (c .if3 .left)
 
 pub decide-entailment-spec : {M : Type 1} → statement M
 decide-entailment-spec =
     tie.close
     (tie.spec
     survey-leaves-requires
-    nothing-shown-requires
     returns
     returns-2
     element-copy-out-if3
     solve-requires
     returns-3
-    nothing-shown-requires-2
     returns-4)

@@ -1,6 +1,5 @@
 -- `decide::decide_satisfiability` meets its contract: two findings. Assumes nothing.
 use mathlib.Core.Path.{refl}
-use borrow.Author.Needs.{needs}
 use Rattle.decide.specs.DecideLaws.{decided-satisfied, decided-unsatisfied}
 use Rattle.decide.specs.NamedLaws.{solved-same}
 use Rattle.steps.specs.declared.Search.the-variants.{First}
@@ -15,15 +14,11 @@ returns c =
     λ constants same k q St kind e.
     decided-satisfied _ q St _ _ (rw e at (solved-same _ _ _ constants _ _ _ same _ First tt (c .before .solve .ensures))) kind (c .if1 .taken)
 
-nothing-shown-requires : tie.Need-nothing-shown-requires
-nothing-shown-requires c κs = search needs
-
 returns-2 : tie.Need-returns-2
 returns-2 c =
     λ constants same k q St kind e.
-    rw (c .nothing-shown .ensures)
-    (decided-unsatisfied _ q St _ _ (rw e at (solved-same _ _ _ constants _ _ _ same _ First tt (c .before .before .solve .ensures))) kind (c .before .if1 .left))
+    decided-unsatisfied _ q St _ _ (rw e at (solved-same _ _ _ constants _ _ _ same _ First tt (c .before .solve .ensures))) kind (c .if1 .left)
 
 pub decide-satisfiability-spec : {M : Type 1} → statement M
 decide-satisfiability-spec =
-    tie.close (tie.spec solve-requires returns nothing-shown-requires returns-2)
+    tie.close (tie.spec solve-requires returns returns-2)

@@ -3,9 +3,8 @@ use mathlib.Core.Path.{sym, ap, _∙_}
 use Prim.Native.Nat.{_+_}
 use native.Mathlib.Omega.{arith}
 use borrow.Author.Needs.{needs}
-use Rattle.decide.specs.OutlineLaws.{splits-few, shown-height, no-height}
+use Rattle.decide.specs.OutlineLaws.{heights-low, shown-height, no-height}
 use Rattle.decide.specs.DecideLaws.{flip}
-use Rattle.decide.specs.ReadableLaws.{question-low}
 use Rattle.decide.specs.Decision.{outlineOf}
 use Rattle.decide.proofs.height_given.Statement.{statement}
 use Rattle.decide.proofs.height_given.Tie as tie
@@ -26,7 +25,7 @@ outline-requires c κs = search needs
 add-result : tie.Need-add-result
 add-result c =
     let (q, S) = c .before .before .before .before .before .pre in
-    omega (arith, ap (λ o. o .height + o .splits) (c .before .outline .ensures q S), question-low _ q (S .stands), splits-few _ q (S .stands) (c .before .before .search-of .result))
+    omega (arith, ap (λ o. o .height + o .splits) (c .before .outline .ensures q S), heights-low _ q S (c .before .before .search-of .result))
 
 returns-2 : tie.Need-returns-2
 returns-2 c =

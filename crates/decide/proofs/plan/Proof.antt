@@ -11,21 +11,21 @@ search-of-requires c κs = search needs
 
 outline-requires : tie.Need-outline-requires
 outline-requires c κs =
-    let (q, S) = c .before .before .before .pre .0 in
-    (q, S .standing)
+    let (q, D) = c .before .pre .0 in
+    (q, D .sizing)
 
 plan-of-requires : tie.Need-plan-of-requires
 plan-of-requires c κs =
-    let start = c .before .before .before .before in
-    let (q, S) = start .pre .0 in
-    rw (c .outline .ensures q (S .standing) ∙ ap (outlineOf q) (c .before .search-of .ensures))
-    (decided-fits _ q (S .standing .stands) _ _ (S .decided) (start .pre .1))
+    let start = c .before .before in
+    let (q, D) = start .pre .0 in
+    rw (c .outline .ensures q (D .sizing) ∙ ap (outlineOf q) (c .before .search-of .ensures))
+    (decided-fits _ q (D .sizing .standing .stands) _ _ (D .decided) (start .pre .1))
 
 returns : tie.Need-returns
 returns c =
-    λ q S.
-    let e = c .before .outline .ensures q (S .standing) ∙ ap (outlineOf q) (c .before .before .search-of .ensures) in
-    decided-planned _ q (S .standing .stands) _ _ (S .decided) (c .before .before .before .before .before .pre .1) _ (rw e at (c .plan-of .ensures))
+    λ q D.
+    let e = c .before .outline .ensures q (D .sizing) ∙ ap (outlineOf q) (c .before .before .search-of .ensures) in
+    decided-planned _ q (D .sizing .standing .stands) _ _ (D .decided) (c .before .before .before .pre .1) _ (rw e at (c .plan-of .ensures))
 
 pub plan-spec : {M : Type 1} → statement M
 plan-spec = tie.close (tie.spec search-of-requires outline-requires plan-of-requires returns)
