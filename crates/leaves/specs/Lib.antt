@@ -7,9 +7,12 @@ pub mod ChoiceLaws
 pub mod Problem
 pub mod Second
 pub mod Fixed
+pub mod FixedExamples
+pub mod FixedWords
 pub mod Entailment
 pub mod LeafSolutions
 pub mod ProblemLaws
+pub mod FixedLaws
 pub mod Numbers
 pub mod SameLaws
 pub mod LeafExtensions

@@ -1,35 +1,25 @@
 -- A solution of a problem at the leaves is cut into what each block has, and one is glued together from that: there is a solution exactly if
--- the test passes, and then the fixed one solves the problem. Assumes nothing.
-use mathlib.Core.Path.{_≡_, refl, ap}
+-- the test passes, and then the fixed one solves the problem. The examples are named so that they are checked first. Assumes nothing.
+use mathlib.Core.Path.{_≡_, ap}
 use mathlib.Core.Logic.{_⊎_, inl, inr}
-use mathlib.Core.Bool.{Bool, true, false, not, _&&_}
+use mathlib.Core.Bool.{Bool, not, _&&_}
 use Prim.Native.Nat.{ℕ, _+_, _-_, _*_, _/_, _%_, _^_, _≤_, _<_, suc-le-suc}
 use native.Mathlib.Nat.{le-trans, le-add-right, eq-or-lt-of-le}
 use native.Mathlib.Omega.{arith}
 use lib.Dec.{T, ltb, eqb, ltb→lt, lt→ltb, eqb→eq, eqb-refl}
 use lib.Pow.{shr-lt, high, low}
 use Rattle.shares.specs.Test.{passes, and-intro, and-left, and-right, cond-passed, cond-failed}
-use Rattle.shares.specs.Below.{everyBelow, someBelow, firstBelow, countBelow}
+use Rattle.shares.specs.Below.{everyBelow, someBelow, countBelow}
 use Rattle.shares.specs.BelowLaws.{every-at, every-intro, some-intro, some-found, first-passes, first-below, first-min, count-le, count-lt}
 use Rattle.shares.specs.Blocks.{blockOf, firstOf}
 use Rattle.shares.specs.BlockLaws.{block-lt, first-lt, block-first, block-split, leaf-lt}
 use Rattle.leaves.specs.Room.{Room}
-use Rattle.leaves.specs.Choices.{Picker, someChoice, Row, nil, cons, at, pickRow, least}
+use Rattle.leaves.specs.Choices.{Picker}
 use Rattle.leaves.specs.ChoiceLaws.{choice-intro, choice-found, both-intro}
 use Rattle.leaves.specs.Problem.{Problem, plainAt, specialAt, solvable}
 use Rattle.leaves.specs.Fixed.{leafOf, placeOf, heldAt, carriedAt, fixedAt}
+use Rattle.leaves.specs.FixedExamples
 use Rattle.leaves.specs.LeafSolutions.{SolvesLeaves, LeafSolution, Leafwise}
-
--- ---- an example, computed: one block, two variables that are never both full, and neither of them empty
-
-abbrev apart : Problem (Row Bool 2)
-apart = record { pos = λ b x. not (at false x 0 && at false x 1); count = 2; dis = λ j b x. at false x j }
-
--- no choice meets both disequations: each has a sub-leaf of its own
-apart-solved : (solvable (least 2) 0 apart ≡ true) × (placeOf (least 2) 0 apart 1 ≡ 1)
-    × (fixedAt (least 2) 0 apart 1 0 ≡ cons true (cons false nil)) × (fixedAt (least 2) 0 apart 1 1 ≡ cons false (cons true nil))
-unfolding everyBelow someBelow firstBelow countBelow someChoice at pickRow plainAt specialAt solvable leafOf placeOf heldAt carriedAt fixedAt
-apart-solved = (refl, refl, refl, refl)
 
 -- ---- cut: a solution of any height has what each block needs
 

@@ -5,6 +5,7 @@ pub mod Solutions
 pub mod Answers
 pub mod AtLeaves
 pub mod Decide
+pub mod ShownWords
 pub mod ShownLaws
 pub mod SystemLaws
 pub mod AtomLaws
@@ -12,6 +13,7 @@ pub mod Link
 pub mod Exact
 pub mod HeightRule
 pub mod Heights
+pub mod ShownWordLaws
 pub mod Worked
 pub mod FormedTest
 pub mod WorkedRight
