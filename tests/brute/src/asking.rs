@@ -1,11 +1,11 @@
 //! Asks the library and compares all that it gives with what is due: every field of the number, and every lent
 //! byte before and after.
 
-use crate::due::{decided, due, Decided};
+use crate::due::{decided, due, Answered, Decided};
 use crate::judge::{judge, ANSWER_BYTES};
 use crate::lent::{Lent, CONTENTS};
 use crate::library::{self, ASK_WORK_BYTES};
-use crate::question::{hex, write, Question};
+use crate::question::{hex, write, write_in_order, Question};
 use crate::random::Random;
 use crate::report::Report;
 use crate::seen::Seen;
@@ -18,11 +18,12 @@ const MORE: usize = 300;
 pub type Lengths = (usize, usize);
 pub const EXACT: Lengths = (ANSWER_BYTES, ASK_WORK_BYTES);
 
-/// A question whose answer is told by how it was made. The rows of a shown solution may be left out.
+/// A question whose answer is told by how it was made, and perhaps the rows of the shown solution.
 #[derive(Clone, Debug)]
 pub struct Built {
     pub question: Question,
     pub outcome: Outcome,
+    pub rows: Option<Vec<u8>>,
 }
 
 /// Asks one question after the other with the same memory.
@@ -66,7 +67,8 @@ impl Asker<'_> {
         self.case(bytes, lengths, &decided(bytes));
     }
 
-    /// One case of asking: a question, its two systems mixed at random. What is due comes from route B.
+    /// One case of asking: a question, its two systems mixed at random. What is due comes from route B and the fixed
+    /// solution.
     pub fn question(&mut self, question: &Question) {
         let bytes = self.mixed(question);
         let lengths = self.enough();
@@ -76,26 +78,40 @@ impl Asker<'_> {
     /// The same of a question that was built. That route B gives what was built is checked apart.
     pub fn built(&mut self, built: &Built) {
         let outcome = decide(&built.question);
-        let mut expected = built.outcome.clone();
-        if expected.rows.is_none() {
-            expected.rows.clone_from(&outcome.rows);
-        }
-        self.report.apart(if outcome == expected {
-            Ok(())
-        } else {
-            let bytes = hex(&write(&built.question, || false));
-            let given = (outcome.yes, outcome.reason, outcome.disequation);
-            Err(format!("{bytes}: route B gives {given:?}"))
-        });
-        self.told(&built.question, expected);
+        self.as_built(built, "route B", outcome == built.outcome);
+        self.told(built);
     }
 
-    /// The same of a question whose whole outcome is known, with the rows. Route B has no part in it.
-    pub fn told(&mut self, question: &Question, outcome: Outcome) {
-        let bytes = self.mixed(question);
+    /// The same without route B. If the rows are known, it is checked apart that they are the fixed solution's.
+    pub fn told(&mut self, built: &Built) {
+        let answered = Answered::new(built.question.clone(), built.outcome);
+        if built.rows.is_some() {
+            self.as_built(built, "the fixed solution", answered.rows == built.rows);
+        }
+        let bytes = self.mixed(&built.question);
         let lengths = self.enough();
-        let decided = Decided::Answered(question.clone(), outcome);
-        self.case(&bytes, lengths, &decided);
+        self.case(&bytes, lengths, &Decided::Answered(answered));
+    }
+
+    /// Checks apart that wrong rows are noticed.
+    pub fn notices(&mut self, wrong: Answered) {
+        let bytes = self.mixed(&wrong.question);
+        let lengths = self.enough();
+        let fault = self.fault_of_call(&bytes, lengths, &Decided::Answered(wrong));
+        self.report.apart(match fault {
+            Some(_) => Ok(()),
+            None => Err(format!("{}: wrong rows are not noticed", hex(&bytes))),
+        });
+    }
+
+    fn as_built(&mut self, built: &Built, what: &str, same: bool) {
+        self.report.apart(match same {
+            true => Ok(()),
+            false => {
+                let bytes = hex(&write_in_order(&built.question));
+                Err(format!("{bytes}: {what} is not as built"))
+            }
+        });
     }
 
     fn mixed(&mut self, question: &Question) -> Vec<u8> {
@@ -105,7 +121,7 @@ impl Asker<'_> {
     fn case(&mut self, bytes: &[u8], lengths: Lengths, decided: &Decided) {
         match decided {
             Decided::Refused(refusal) => self.seen.note_refusal(refusal.number),
-            Decided::Answered(question, outcome) => self.seen.note(question, outcome),
+            Decided::Answered(one) => self.seen.note(&one.question, &one.outcome),
         }
         let fault = self.fault_of_call(bytes, lengths, decided);
         self.report.case(match fault {
@@ -144,9 +160,9 @@ impl Asker<'_> {
             let due = due.number;
             return Some(format!("number {number:016X}, expected {due:016X}"));
         }
-        if let (Decided::Answered(asked, outcome), false) = (decided, due.answer.is_empty()) {
+        if let (Decided::Answered(one), false) = (decided, due.answer.is_empty()) {
             let shown = &self.answer.part()[..ANSWER_BYTES];
-            if let Err(flaw) = judge(asked, outcome, shown) {
+            if let Err(flaw) = judge(&one.question, &one.outcome, shown) {
                 return Some(format!("shown rows are wrong: {flaw:?}: {}", hex(shown)));
             }
             if shown != due.answer {

@@ -166,9 +166,12 @@ pub fn satisfiable(question: Question, yes: bool) -> Built {
         height,
         reason: 0,
         disequation: 0,
-        rows: None,
     };
-    Built { question, outcome }
+    Built {
+        question,
+        outcome,
+        rows: None,
+    }
 }
 
 /// A question of kind 1 with the reason it is to give. The rows are left out.
@@ -184,7 +187,10 @@ pub fn entailment(question: Question, reason: u8, disequation: usize) -> Built {
         height,
         reason,
         disequation,
-        rows: None,
     };
-    Built { question, outcome }
+    Built {
+        question,
+        outcome,
+        rows: None,
+    }
 }

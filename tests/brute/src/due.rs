@@ -1,5 +1,6 @@
 //! What asking is to give: the 64-bit number, and what the lent buffers hold afterwards.
 
+use crate::fixed;
 use crate::judge::ANSWER_BYTES;
 use crate::library::ASK_WORK_BYTES;
 use crate::question::{read, Question, Refusal};
@@ -8,16 +9,34 @@ use crate::single::{decide, Outcome};
 /// What is to be said of some bytes, with buffers that are long enough.
 pub enum Decided {
     Refused(Refusal),
-    Answered(Question, Outcome),
+    Answered(Answered),
 }
 
-/// By the reader and route B.
+/// A question, its answer, and the rows of the solution that is shown with it, if one is.
+pub struct Answered {
+    pub question: Question,
+    pub outcome: Outcome,
+    pub rows: Option<Vec<u8>>,
+}
+
+impl Answered {
+    /// The rows are those of the fixed solution.
+    pub fn new(question: Question, outcome: Outcome) -> Answered {
+        Answered {
+            rows: fixed::rows(&question, &outcome),
+            question,
+            outcome,
+        }
+    }
+}
+
+/// By the reader, route B and the fixed solution.
 pub fn decided(bytes: &[u8]) -> Decided {
     match read(bytes) {
         Err(refusal) => Decided::Refused(refusal),
         Ok(question) => {
             let outcome = decide(&question);
-            Decided::Answered(question, outcome)
+            Decided::Answered(Answered::new(question, outcome))
         }
     }
 }
@@ -34,9 +53,9 @@ pub fn due(decided: &Decided, answer_bytes: usize, work_bytes: usize) -> Due {
         Decided::Refused(refusal) => refused(*refusal),
         Decided::Answered(..) if answer_bytes < ANSWER_BYTES => refused(of_buffer(11)),
         Decided::Answered(..) if work_bytes < ASK_WORK_BYTES => refused(of_buffer(12)),
-        Decided::Answered(_, outcome) => Due {
-            number: packed_outcome(outcome),
-            answer: outcome.rows.clone().unwrap_or_default(),
+        Decided::Answered(answered) => Due {
+            number: packed_outcome(&answered.outcome),
+            answer: answered.rows.clone().unwrap_or_default(),
             work: vec![0; ASK_WORK_BYTES],
         },
     }

@@ -1,5 +1,6 @@
 //! A family of the judge alone: rows that are wrong in a way known beforehand.
 
+use crate::fixed;
 use crate::judge::{holds, judge, trees_of_rows, Flaw, ANSWER_BYTES, ROW_BYTES};
 use crate::make::{random_question, Size};
 use crate::question::{disequations, read, Question};
@@ -15,7 +16,7 @@ fn judge_rejects(report: &mut Report) {
     let question = |text| read(&worked::bytes(text)).expect("a worked question");
     let three = question(worked::THREE_NOT_EMPTY);
     let outcome = decide(&three);
-    let rows = outcome.rows.clone().expect("a solution is shown");
+    let rows = fixed::rows(&three, &outcome).expect("a solution is shown");
     report.same_apart("right rows", judge(&three, &outcome, &rows), Ok(()));
 
     let mut foreign = rows.clone();
@@ -25,7 +26,7 @@ fn judge_rejects(report: &mut Report) {
 
     let lower = Outcome {
         height: 1,
-        ..outcome.clone()
+        ..outcome
     };
     let flaw = Err(Flaw::TooTall(0));
     report.same_apart("too tall", judge(&three, &lower, &rows), flaw);
@@ -52,7 +53,7 @@ fn extending_rows(report: &mut Report, entailment: &Question) {
     rows[..ROW_BYTES].fill(0xFF);
     let flaw = Err(Flaw::WrongReason);
     report.same_apart("rows that extend", judge(entailment, &outcome, &rows), flaw);
-    let rows = outcome.rows.clone().expect("a solution is shown");
+    let rows = fixed::rows(entailment, &outcome).expect("a solution is shown");
     let other = Outcome {
         reason: 2,
         ..outcome
@@ -75,7 +76,7 @@ fn flipped_rows(report: &mut Report) {
     while left > 0 {
         let question = random_question(&mut random, &size);
         let outcome = decide(&question);
-        let (Some(mut rows), 1..) = (outcome.rows.clone(), question.free) else {
+        let (Some(mut rows), 1..) = (fixed::rows(&question, &outcome), question.free) else {
             continue;
         };
         left -= 1;

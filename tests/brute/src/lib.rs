@@ -3,7 +3,8 @@
 //!
 //! - `tree`, `question`: the share model and the byte format;
 //! - `whole`: route A, every assignment of whole trees up to a height;
-//! - `single`: route B, one choice of values at a time, leaf by leaf, and the fixed solution;
+//! - `single`: route B, one choice of values at a time, leaf by leaf;
+//! - `fixed`, `least`, `slips`: the fixed solution by its words, by whole trees, and with one word misread;
 //! - `judge`: whether shown rows are a solution, and do not extend for the reason given;
 //! - `random`, `make`, `hidden`, `damage`, `worked`, `refusals`, `limits`, `every_byte`: questions and bytes;
 //! - `draft`, `pinned`: questions whose answer is told by how they were built;
@@ -20,9 +21,11 @@ pub mod documents;
 pub mod draft;
 pub mod due;
 pub mod every_byte;
+pub mod fixed;
 pub mod hidden;
 pub mod judge;
 pub mod judging;
+pub mod least;
 pub mod lent;
 pub mod library;
 pub mod limits;
@@ -40,6 +43,7 @@ pub mod report;
 pub mod routes;
 pub mod seen;
 pub mod single;
+pub mod slips;
 pub mod splits;
 pub mod terms;
 pub mod tree;
@@ -55,6 +59,7 @@ pub const WITH_THE_LIBRARY: &[&[Family]] = &[
     documents::FAMILIES,
     by_hand::FAMILIES,
     made::FAMILIES,
+    slips::FAMILIES,
     splits::FAMILIES,
     numbers::FAMILIES,
     terms::FAMILIES,
@@ -62,4 +67,9 @@ pub const WITH_THE_LIBRARY: &[&[Family]] = &[
 ];
 
 /// The families that have no part of the library in them.
-pub const WITHOUT_IT: &[&[Family]] = &[plain::FAMILIES, routes::FAMILIES, judging::FAMILIES];
+pub const WITHOUT_IT: &[&[Family]] = &[
+    plain::FAMILIES,
+    routes::FAMILIES,
+    least::FAMILIES,
+    judging::FAMILIES,
+];

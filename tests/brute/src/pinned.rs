@@ -277,8 +277,8 @@ impl Builder<'_> {
             Verdict::Unmet => draft::entailment(question, 2, 0),
             Verdict::Missed => draft::entailment(question, 3, lowest.expect("it was put in")),
         };
-        if built.outcome.yes != built.question.entailment {
-            built.outcome.rows = Some(rows);
+        if built.outcome.shows(&built.question) {
+            built.rows = Some(rows);
         }
         built
     }

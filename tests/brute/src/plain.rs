@@ -1,11 +1,13 @@
 //! Families of the solver's parts: plain trees, the reader, route B and route A on what was worked by hand.
 
+use crate::fixed;
 use crate::judge::{trees_of_rows, ROW_BYTES};
 use crate::make::{random_question, random_tree, Size};
 use crate::question::{read, write, Question};
 use crate::refusals;
 use crate::report::{Family, Report};
 use crate::single::decide;
+use crate::slips::Changed;
 use crate::tree::{
     bytes_of_leaves, leaves_of_bytes, number_of_tree, row_of_tree, splits, tree_of_number,
     tree_of_row, Tree,
@@ -100,12 +102,26 @@ fn worked_by_hand(report: &mut Report) {
         );
         let expected = (worked.yes, worked.height, worked.reason, worked.disequation);
         report.same_apart(worked.name, given, expected);
-        let texts = outcome.rows.map(|rows| texts_of_rows(&question, &rows));
+        let rows = fixed::rows(&question, &outcome);
+        let texts = rows.map(|rows| texts_of_rows(&question, &rows));
         let expected = worked
             .shown
             .map(|texts| texts.iter().map(|text| text.to_string()).collect());
         report.same_apart(worked.name, texts, expected);
     }
+    each_word_matters(report);
+}
+
+/// Each slip shows other rows for one of the questions that were worked for it.
+fn each_word_matters(report: &mut Report) {
+    let mut changed = Changed::default();
+    for worked in worked::FIXED {
+        let question = read(&worked::bytes(worked.bytes)).expect("a worked question");
+        let outcome = decide(&question);
+        let rows = fixed::rows(&question, &outcome).expect("a solution is shown");
+        changed.note(&question, &outcome, &rows);
+    }
+    changed.enough(report, 1);
 }
 
 fn heights_without_a_solution(report: &mut Report) {

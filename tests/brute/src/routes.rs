@@ -1,6 +1,7 @@
-//! Families of route A against route B: verdict, reason and disequation number; what route B shows, by the judge and by
+//! Families of route A against route B: verdict, reason and disequation number; the fixed solution, by the judge and by
 //! route A. The library has no part in it.
 
+use crate::fixed;
 use crate::judge::{extension_by_leaf, judge, trees_of_rows};
 use crate::make::{entailment, random_question, random_system, random_tree, Counts, Size, CHANGES};
 use crate::question::{hex, read, write_in_order, Question, MOST_VARIABLES};
@@ -35,7 +36,7 @@ fn heights(question: &Question, more: u32) -> (u32, u32) {
 }
 
 /// Whether route A can try all assignments.
-fn affordable(question: &Question, more: u32) -> bool {
+pub fn affordable(question: &Question, more: u32) -> bool {
     let (free, own) = heights(question, more);
     if free.max(own) > TALLEST {
         return false;
@@ -61,7 +62,7 @@ fn verdict_by_trees(trees: &Trees, question: &Question, more: u32) -> Verdict {
     }
 }
 
-/// Both routes give one verdict, and the judge and route A accept what route B shows.
+/// Both routes give one verdict, and the judge and route A accept the fixed solution.
 fn same_by_both(trees: &Trees, question: &Question, more: u32) -> Result<(), String> {
     let outcome = decide(question);
     let by_trees = verdict_by_trees(trees, question, more);
@@ -82,18 +83,14 @@ fn same_by_both(trees: &Trees, question: &Question, more: u32) -> Result<(), Str
 }
 
 fn fault_of_shown(trees: &Trees, question: &Question, outcome: &Outcome) -> Option<String> {
-    let should_show = outcome.yes != question.entailment;
-    if outcome.rows.is_some() != should_show {
-        return Some("a solution is shown, or not, against the rule".to_string());
-    }
-    let rows = outcome.rows.as_ref()?;
-    if let Err(flaw) = judge(question, outcome, rows) {
-        return Some(format!("route B's solution: {flaw:?}"));
+    let rows = fixed::rows(question, outcome)?;
+    if let Err(flaw) = judge(question, outcome, &rows) {
+        return Some(format!("the fixed solution: {flaw:?}"));
     }
     if !question.entailment {
         return None;
     }
-    let solution = trees_of_rows(question, rows);
+    let solution = trees_of_rows(question, &rows);
     let (_, own) = heights(question, 0);
     let by_trees = extension_of_trees(trees, question, &solution, own);
     let by_leaf = extension_by_leaf(question, &solution);

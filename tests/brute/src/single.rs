@@ -1,20 +1,23 @@
 //! Route B: the question falls into 2^h leaves; at each leaf every choice of values is tried by itself,
-//! clause by clause. It gives the verdict, the reason, the disequation number, the height, and the one
-//! solution that the library's contract names (`shownAt`, crates/systems/specs/Decide.antt).
+//! clause by clause. It gives the verdict, the reason, the disequation number and the height.
 
-use crate::question::{
-    disequations, positive, split, Clause, Question, Relation, Split, Term, MOST_VARIABLES,
-};
-use crate::tree::{bytes_of_leaves, join_leaves, ROW_HEIGHT};
+use crate::question::{disequations, positive, split, Clause, Question, Relation, Split, Term};
+use crate::tree::join_leaves;
 
-/// What asking gives, and the rows of a shown solution.
-#[derive(Clone, Debug, PartialEq, Eq)]
+/// What asking gives.
+#[derive(Clone, Copy, Debug, PartialEq, Eq)]
 pub struct Outcome {
     pub yes: bool,
     pub height: u32,
     pub reason: u8,
     pub disequation: usize,
-    pub rows: Option<Vec<u8>>,
+}
+
+impl Outcome {
+    /// Whether a solution is shown: for a yes of kind 0 and a no of kind 1.
+    pub fn shows(&self, question: &Question) -> bool {
+        self.yes != question.entailment
+    }
 }
 
 /// A value for each variable: the free ones, or the free ones and the own ones.
@@ -44,7 +47,7 @@ fn all_hold(clauses: &[Clause], choice: &[bool], constants: &[bool]) -> bool {
         .all(|clause| holds_at_leaf(clause, choice, constants))
 }
 
-/// All choices of so many values, the least first: variable 0 is compared first, empty before full.
+/// All choices of so many values.
 fn choices(count: usize) -> impl Iterator<Item = Choice> {
     (0..1_usize << count).map(move |number| {
         (0..count)
@@ -94,10 +97,10 @@ pub fn beside(second: &Split, own: usize, choice: &[bool], constants: &[bool]) -
 /// A choice that meets the first system's positive clauses at a leaf.
 struct Allowed {
     choice: Choice,
-    beside: Option<Beside>,
+    beside: Beside,
 }
 
-/// A leaf with the choices allowed there, the least first.
+/// A leaf with the choices allowed there.
 struct Leaf {
     constants: Vec<bool>,
     allowed: Vec<Allowed>,
@@ -109,76 +112,24 @@ fn leaf(question: &Question, constants: Vec<bool>) -> Leaf {
     let mut allowed = Vec::new();
     for choice in choices(question.free) {
         if all_hold(&clauses, &choice, &constants) {
-            let beside = question
-                .entailment
-                .then(|| beside(&second, question.own, &choice, &constants));
+            let beside = beside(&second, question.own, &choice, &constants);
             allowed.push(Allowed { choice, beside });
         }
     }
     Leaf { constants, allowed }
 }
 
-/// Which choices every sub-leaf carries: per leaf the least one, and those of its disequations.
-struct Plan {
-    least: Vec<Choice>,
-    carried: Vec<Vec<Choice>>,
-}
-
-/// The plan for the first system with only the choices that count, if there is one.
-fn plan(question: &Question, leaves: &[Leaf], counts: impl Fn(&Allowed) -> bool) -> Option<Plan> {
-    let mut made = Plan {
-        least: Vec::new(),
-        carried: vec![Vec::new(); leaves.len()],
+/// Whether the first system has a solution with only the choices that count: every leaf has one, and each disequation
+/// holds with one of them somewhere.
+fn solved(question: &Question, leaves: &[Leaf], counts: impl Fn(&Allowed) -> bool) -> bool {
+    let met_at = |leaf: &Leaf, disequation: &Clause| {
+        leaf.allowed.iter().any(|allowed| {
+            counts(allowed) && holds_at_leaf(disequation, &allowed.choice, &leaf.constants)
+        })
     };
-    for leaf in leaves {
-        let least = leaf.allowed.iter().find(|a| counts(a))?;
-        made.least.push(least.choice.clone());
-    }
-    for disequation in disequations(&question.first) {
-        let (home, choice) = leftmost(leaves, |leaf, allowed| {
-            counts(allowed) && holds_at_leaf(&disequation, &allowed.choice, &leaf.constants)
-        })?;
-        made.carried[home].push(choice);
-    }
-    Some(made)
-}
-
-/// The leftmost leaf with a choice that passes the test, and the least such choice there.
-fn leftmost(leaves: &[Leaf], test: impl Fn(&Leaf, &Allowed) -> bool) -> Option<(usize, Choice)> {
-    leaves.iter().enumerate().find_map(|(at, leaf)| {
-        let least = leaf.allowed.iter().find(|allowed| test(leaf, allowed))?;
-        Some((at, least.choice.clone()))
-    })
-}
-
-/// The 12 rows of a plan whose sub-leaves stand at the height given.
-fn rows(question: &Question, plan: &Plan, given: u32) -> Vec<u8> {
-    let below = 1 << (given - question.height());
-    let mut bytes = Vec::new();
-    for variable in 0..MOST_VARIABLES {
-        let mut leaves = Vec::new();
-        if variable < question.free {
-            for (least, carried) in plan.least.iter().zip(&plan.carried) {
-                assert!(carried.len() <= below, "a leaf has too few sub-leaves");
-                for sub in 0..below {
-                    leaves.push(carried.get(sub).unwrap_or(least)[variable]);
-                }
-            }
-        } else {
-            leaves.push(false);
-        }
-        bytes.extend(bytes_of_leaves(&stretched(&leaves)));
-    }
-    bytes
-}
-
-/// Leaves unfolded to a row's 1,024.
-fn stretched(leaves: &[bool]) -> Vec<bool> {
-    let times = (1 << ROW_HEIGHT) / leaves.len();
-    leaves
-        .iter()
-        .flat_map(|leaf| std::iter::repeat_n(*leaf, times))
-        .collect()
+    let met = |disequation: &Clause| leaves.iter().any(|leaf| met_at(leaf, disequation));
+    leaves.iter().all(|leaf| leaf.allowed.iter().any(&counts))
+        && disequations(&question.first).iter().all(met)
 }
 
 fn nothing_shown(yes: bool, reason: u8) -> Outcome {
@@ -187,7 +138,6 @@ fn nothing_shown(yes: bool, reason: u8) -> Outcome {
         height: 0,
         reason,
         disequation: 0,
-        rows: None,
     }
 }
 
@@ -197,53 +147,42 @@ pub fn decide(question: &Question) -> Outcome {
         .into_iter()
         .map(|constants| leaf(question, constants))
         .collect();
-    let solved = plan(question, &leaves, |_| true);
-    if question.entailment {
-        entails(question, &leaves, solved)
-    } else {
-        satisfiable(question, solved)
+    let has_solution = solved(question, &leaves, |_| true);
+    match (question.entailment, has_solution) {
+        (true, true) => entails(question, &leaves),
+        (true, false) => nothing_shown(true, 1),
+        (false, true) => satisfiable(question),
+        (false, false) => nothing_shown(false, 0),
     }
 }
 
-fn satisfiable(question: &Question, solved: Option<Plan>) -> Outcome {
-    let Some(plan) = solved else {
-        return nothing_shown(false, 0);
-    };
-    let height = question.height_if_satisfiable();
+fn satisfiable(question: &Question) -> Outcome {
     Outcome {
         yes: true,
-        height,
+        height: question.height_if_satisfiable(),
         reason: 0,
         disequation: 0,
-        rows: Some(rows(question, &plan, height)),
     }
 }
 
-fn entails(question: &Question, leaves: &[Leaf], solved: Option<Plan>) -> Outcome {
-    let Some(mut plan_of_first) = solved else {
-        return nothing_shown(true, 1);
-    };
-    let unmet = |allowed: &Allowed| allowed.beside.as_ref().is_some_and(|b| !b.met);
-    if let Some((home, choice)) = leftmost(leaves, |_, allowed| unmet(allowed)) {
-        plan_of_first.carried[home].insert(0, choice);
-        return not_entailed(question, &plan_of_first, 2, 0);
+fn entails(question: &Question, leaves: &[Leaf]) -> Outcome {
+    let mut allowed = leaves.iter().flat_map(|leaf| &leaf.allowed);
+    if allowed.any(|allowed| !allowed.beside.met) {
+        return not_entailed(question, 2, 0);
     }
-    for number in 0..disequations(&question.second).len() {
-        let lacks = |allowed: &Allowed| allowed.beside.as_ref().is_some_and(|b| !b.had[number]);
-        if let Some(plan) = plan(question, leaves, lacks) {
-            return not_entailed(question, &plan, 3, number);
-        }
+    let mut numbers = 0..disequations(&question.second).len();
+    let lacked = |number: &usize| solved(question, leaves, |a| !a.beside.had[*number]);
+    match numbers.find(lacked) {
+        Some(number) => not_entailed(question, 3, number),
+        None => nothing_shown(true, 0),
     }
-    nothing_shown(true, 0)
 }
 
-fn not_entailed(question: &Question, plan: &Plan, reason: u8, disequation: usize) -> Outcome {
-    let height = question.height_if_not_entailed();
+fn not_entailed(question: &Question, reason: u8, disequation: usize) -> Outcome {
     Outcome {
         yes: false,
-        height,
+        height: question.height_if_not_entailed(),
         reason,
         disequation,
-        rows: Some(rows(question, plan, height)),
     }
 }

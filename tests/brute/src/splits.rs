@@ -118,7 +118,7 @@ fn every_choice(report: &mut Report) {
                 free,
             };
             let built = pinned(&mut asker.random, &wanted);
-            asker.told(&built.question, built.outcome);
+            asker.told(&built);
         }
     }
 }

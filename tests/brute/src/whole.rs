@@ -167,6 +167,23 @@ pub fn satisfiable(trees: &Trees, question: &Question, height: u32) -> bool {
     search(trees, question, question.first.clone(), heights).from(&[], &mut |_| true)
 }
 
+/// All assignments to the free variables of trees no taller than `height` that meet these clauses.
+pub fn assignments(
+    trees: &Trees,
+    question: &Question,
+    clauses: Vec<Clause>,
+    height: u32,
+) -> Vec<Vec<Tree>> {
+    let heights = vec![height; question.free];
+    let mut all = Vec::new();
+    search(trees, question, clauses, heights).from(&[], &mut |numbers| {
+        let assignment = numbers.iter().map(|number| trees.trees[*number].clone());
+        all.push(assignment.collect());
+        false
+    });
+    all
+}
+
 /// What a solution of the first system cannot have beside it.
 #[derive(Clone, Debug, PartialEq, Eq)]
 pub struct Extension {

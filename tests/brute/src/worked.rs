@@ -1,7 +1,7 @@
 //! Questions worked by hand: those of SPEC 12, the properties of figure 1 of Le, Nguyen, Chin and Hobor,
-//! "A certified decision procedure for tree shares", and one for each mistake of SPEC 13. The bytes are
-//! written out; `E`, `F`, `L`, `R` stand for the commands that define the empty share, the full one, the left
-//! half and the right half, and `|` only parts the commands for the reader.
+//! "A certified decision procedure for tree shares", one for each mistake of SPEC 13, and those for each word of the
+//! fixed solution. The bytes are written out; `E`, `F`, `L`, `R` stand for the commands that define the empty share,
+//! the full one, the left half and the right half, and `|` only parts the commands for the reader.
 
 use crate::due::packed_outcome;
 use crate::single::Outcome;
@@ -25,7 +25,6 @@ impl Worked {
             height: self.height,
             reason: self.reason,
             disequation: self.disequation,
-            rows: None,
         })
     }
 }
@@ -287,20 +286,6 @@ pub const MISTAKES: &[Worked] = &[
         (3, 30),
         &["*"],
     ),
-    not_entailed(
-        "the choice that leaves the second unmet stands before the disequations",
-        "01 01 01 00 | E F | 13 00 20 | 13 00 20 | 22 00 21 | 00",
-        2,
-        (2, 0),
-        &["((o*)(*o))"],
-    ),
-    not_entailed(
-        "for reason 3 a disequation of the first goes where a choice that counts meets it",
-        "01 01 01 00 | E R | 13 00 20 | 23 00 21 | 00",
-        2,
-        (3, 0),
-        &["(o*)"],
-    ),
     unshown(
         "an own variable may be named by no clause",
         "01 01 00 0C | 00",
@@ -313,6 +298,113 @@ pub const MISTAKES: &[Worked] = &[
         0,
         (3, 0),
         &[],
+    ),
+];
+
+/// Questions that another reading of the fixed solution's words would show otherwise. In the comments a choice is written as its
+/// values, that of variable 0 first: o is empty, * is full.
+pub const FIXED: &[Worked] = &[
+    // h = 0 and W = 0: one leaf and one sub-leaf, which holds nothing. The choices are o** and *oo. They differ at v0 first.
+    yes(
+        "the least choice: v0 join v1 is full, v0 join v2 is full",
+        "01 00 03 00 | F | 10 00 01 20 | 10 00 02 20 | 00",
+        0,
+        &["o", "*", "*"],
+    ),
+    // h = 0, d = 2, W = 1. The choices are o* and *o. Sub-leaf 0 holds "v1 is not empty" and carries o*, sub-leaf 1 holds "v0 is
+    // not empty" and carries *o. In 13.1 the two stand the other way round.
+    yes(
+        "two disequations at one leaf, in question order",
+        "01 00 02 00 | E F | 10 00 01 21 | 13 01 20 | 13 00 20 | 00",
+        1,
+        &["(o*)", "(*o)"],
+    ),
+    // h = 1, d = 1, W = 1. R is o at leaf 0, where only * differs from it, and * at leaf 1, where o would do. It goes to leaf 0 all
+    // the same; leaf 1 holds nothing and carries o.
+    yes(
+        "the leftmost leaf, though one to the right has a lesser choice",
+        "01 00 01 00 | R | 13 00 20 | 00",
+        1,
+        &["(*o)"],
+    ),
+    // h = 1, d = 2, W = 2. At leaf 0 R is o and the only choice is oo, which meets neither disequation. At leaf 1 the choices are o*
+    // and *o; there sub-leaf 0 holds "v1 is not empty" and carries o*, sub-leaf 1 holds "v0 is not empty" and carries *o.
+    yes(
+        "disequations whose leftmost leaf is leaf 1",
+        "01 00 02 00 | E R | 10 00 01 21 | 13 01 20 | 13 00 20 | 00",
+        2,
+        &["(o(o*))", "(o(*o))"],
+    ),
+    // h = 0, d = 3, W = 2. The choices are o* and *o. Sub-leaves 0 to 2 hold "v1 is not full" and carry *o. Sub-leaf 3 holds nothing
+    // and carries o*.
+    yes(
+        "an idle sub-leaf carries the least choice of all",
+        "01 00 02 00 | F | 10 00 01 20 | 13 01 20 | 13 01 20 | 13 01 20 | 00",
+        2,
+        &["(*(*o))", "(o(o*))"],
+    ),
+    // h = 0, d = 2, W = 0 + c(3) = 2. Sub-leaf 0 carries o, which is not full, sub-leaves 1 and 2 hold "v0 is not empty" and carry *.
+    // Sub-leaf 3 holds nothing and carries o.
+    not_entailed(
+        "reason 2: the choice that leaves the second unmet stands before the disequations",
+        "01 01 01 00 | E F | 13 00 20 | 13 00 20 | 22 00 21 | 00",
+        2,
+        (2, 0),
+        &["((o*)(*o))"],
+    ),
+    // v1 join v2 is R; v1 is not empty; entails: v0 join R is own v3. h = 1, d = 1, W = 1 + c(2) = 2. At leaf 0 the choices are ooo and
+    // *oo, own v3 can be v0, and nothing is held: ooo twice. At leaf 1 the choices are oo*, o*o, *o* and **o; with v0 full the join is
+    // undefined. So sub-leaf 0 carries *o*, the lesser of the last two, and sub-leaf 1 holds "v1 is not empty" and carries o*o.
+    not_entailed(
+        "reason 2: the same at leaf 1",
+        "01 01 03 01 | E R | 10 01 02 21 | 13 01 20 | 20 00 21 03 | 00",
+        2,
+        (2, 0),
+        &["(o(*o))", "(o(o*))", "(o(*o))"],
+    ),
+    // v0 is not empty; entails: v0 join R is own v1. h = 1, d = 1, W = 2. At leaf 0 own v1 can be v0; the disequation goes there: *, then o,
+    // which holds nothing. At leaf 1 the join is undefined if v0 is full: *, then o, which holds nothing.
+    not_entailed(
+        "reason 2: a disequation at another leaf",
+        "01 01 01 01 | E R | 13 00 20 | 20 00 21 01 | 00",
+        2,
+        (2, 0),
+        &["((*o)(*o))"],
+    ),
+    // h = 1, d = 0, W = 1 + c(1) = 1. At both leaves * is not empty. The leftmost carries it; leaf 1 holds nothing and carries o.
+    not_entailed(
+        "reason 2: the leftmost of two leaves",
+        "01 01 01 00 | E L | 22 00 20 | 00",
+        1,
+        (2, 0),
+        &["(*o)"],
+    ),
+    // h = 0, d = 0, W = 0. The choices are o* and *o. With the first v1 is not empty; only the second counts.
+    not_entailed(
+        "reason 3: the least choice can have the disequation, so a greater one is shown",
+        "01 01 02 00 | F E | 10 00 01 20 | 23 01 21 | 00",
+        0,
+        (3, 0),
+        &["*", "o"],
+    ),
+    // v0 join v1 is full; not (v0 join v2 is L); entails: own v3 join own v4 is v1, v0 is not v1, v3 is not empty. v0 and v1 always differ; v3
+    // must be empty where v1 is. So number 1 is named, and only *oo and *o* count. h = 1, d = 1, W = 1 + c(2) = 2. At leaf 0 L is full and
+    // * join o is full too: sub-leaf 0 carries *o*, where the join is undefined. (o*o, which does not count, would be less.) The others hold
+    // nothing and carry *oo.
+    not_entailed(
+        "reason 3: in every leaf, a disequation's too, only choices that count",
+        "01 01 03 02 | F E L | 10 00 01 20 | 11 00 02 22 | 20 03 04 01 | 23 00 01 | 23 03 21 | 00",
+        2,
+        (3, 1),
+        &["*", "o", "((*o)o)"],
+    ),
+    // h = 1, d = 1, W = 2. v0 is not R at no leaf, so o counts at leaf 0 and * at leaf 1. "v0 is not empty" goes to leaf 1.
+    not_entailed(
+        "reason 3: a disequation goes where a choice that counts meets it",
+        "01 01 01 00 | E R | 13 00 20 | 23 00 21 | 00",
+        2,
+        (3, 0),
+        &["(o*)"],
     ),
 ];
 
@@ -333,5 +425,5 @@ pub fn bytes(text: &str) -> Vec<u8> {
 }
 
 pub fn all() -> impl Iterator<Item = &'static Worked> {
-    WORKED.iter().chain(FIGURE_1).chain(MISTAKES)
+    WORKED.iter().chain(FIGURE_1).chain(MISTAKES).chain(FIXED)
 }

@@ -26,9 +26,9 @@ pub fn ask(
             due.number
         ));
     }
-    if let (Decided::Answered(asked, outcome), false) = (decided, due.answer.is_empty()) {
+    if let (Decided::Answered(one), false) = (decided, due.answer.is_empty()) {
         let shown = &answer.all()[answer.start()..answer.start() + ANSWER_BYTES];
-        if let Err(flaw) = judge(asked, outcome, shown) {
+        if let Err(flaw) = judge(&one.question, &one.outcome, shown) {
             return Err(format!("shown rows are wrong: {flaw:?}"));
         }
     }

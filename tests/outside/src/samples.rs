@@ -51,9 +51,11 @@ pub fn one_of_each() -> Vec<(Vec<u8>, Decided)> {
         let decided = decided(&bytes);
         let kind = match &decided {
             Decided::Refused(_) => (false, false, 0),
-            Decided::Answered(question, outcome) => {
-                (question.entailment, outcome.yes, outcome.reason + 1)
-            }
+            Decided::Answered(one) => (
+                one.question.entailment,
+                one.outcome.yes,
+                one.outcome.reason + 1,
+            ),
         };
         if !kinds.contains(&kind) {
             kinds.push(kind);
