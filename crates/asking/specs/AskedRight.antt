@@ -12,7 +12,7 @@ use Rattle.shares.specs.TreeLaws.{share-path}
 use Rattle.systems.specs.Questions.{Question, WellFormed, questionHeight}
 use Rattle.systems.specs.Answers.{shows, heightGiven}
 use Rattle.systems.specs.Decide.{decide, shownAt}
-use Rattle.systems.specs.ShownLaws.{shown-past, shown-low}
+use Rattle.systems.specs.ShownLaws.{shown-past, shown-low, shown-fixed}
 use Rattle.systems.specs.Heights.{height-rule, exact, verdict-exact}
 use Rattle.format.specs.FormatLaws.{Limited, accepted-formed, accepted-limited}
 use Rattle.rows.specs.Rows.{rowLevels, answerBytes, filledWith}
@@ -42,6 +42,7 @@ module _ (q : Question) (F : WellFormed q) (L : Limited q) (answer : List ℕ) (
 
   filled : RowsShow q (decide q) (answerAfter (answered q) answer)
   filled = record {
+    fixed = rw rows-are (shown-fixed (questionHeight q) q t);
     solution = rw rows-are (height-rule q F .shown t);
     low = λ v. subst (λ σ. height (σ v .tree) ≤ heightGiven (questionHeight q) q (decide q)) (sym rows-are) (low v);
     others = λ v l m. rw after (filled-zero rowLevels (q .free) (shownTrees q) answer room v l m);

@@ -9,6 +9,7 @@ use Rattle.leaves.specs.Heights.{anyHeight}
 use Rattle.systems.specs.Clauses.{Assignment}
 use Rattle.systems.specs.Questions.{Question, questionHeight}
 use Rattle.systems.specs.Answers.{Answer, Answers, shows, heightGiven, Shown}
+use Rattle.systems.specs.ShownWords.{ShownFixed}
 use Rattle.systems.specs.HeightRule.{HeightRule}
 use Rattle.rows.specs.Rows.{rowLevels, rowBytes, rowCount, rowTree, rowPart, zeros}
 use Rattle.asking.specs.declared.Outcome.{Outcome}
@@ -17,9 +18,11 @@ use Rattle.asking.specs.declared.Outcome.{Outcome}
 abbrev pub rowShares : List ℕ → Assignment
 rowShares answer v = record { tree = rowTree rowLevels (rowPart rowLevels answer v); folded = treeOf-folded rowLevels _ }
 
--- an answer buffer shows a solution that goes with the answer a
+-- an answer buffer shows the solution that goes with the answer a
 pub record RowsShow (q : Question) (a : Answer) (answer : List ℕ) : Type 0 where
-  -- the rows' shares solve the first system, are no taller than the height given and, for a no, do not extend, for the reason given
+  -- the rows' shares are the fixed ones, which are as the words say
+  pub fixed : ShownFixed (questionHeight q) q a (rowShares answer)
+  -- they solve the first system, are no taller than the height given and, for a no, do not extend, for the reason given
   pub solution : Shown (questionHeight q) q a (rowShares answer)
   -- no row is taller than the height given
   pub low : (v : ℕ) → tree.height (rowShares answer v .tree) ≤ heightGiven (questionHeight q) q a

@@ -10,7 +10,7 @@ use lib.Dec.{T, T-not, not-T, eqb, eqb→eq, eqb-refl, ltb, ltb→lt, lt→ltb}
 use lib.Pow.{pow-pos, high, low, split}
 use Rattle.shares.specs.Test.{beq-iff, holds, and-intro, and-left, and-right, cond-passed, cond-failed}
 use Rattle.shares.specs.Below.{countBelow, one}
-use Rattle.shares.specs.BelowLaws.{Below, some-or, first-least, first-below, count-lt}
+use Rattle.shares.specs.BelowLaws.{Below, some-or, first-least, first-below}
 use Rattle.shares.specs.Blocks.{blockOf}
 use Rattle.shares.specs.BlockLaws.{block-lt}
 use Rattle.leaves.specs.Choices.{Picker, someChoice, Row, nil, cons, at, pickRow, least}
@@ -19,7 +19,7 @@ use Rattle.leaves.specs.Problem.{Problem, plainAt, specialAt, solvable}
 use Rattle.leaves.specs.Second.{Second, meets, meetsWith}
 use Rattle.leaves.specs.Fixed.{leafOf, placeOf, heldAt, carriedAt, fixedAt, withUnmet, withMissed}
 use Rattle.leaves.specs.FixedWords.{Leftmost, Less, Least, Together, Words, Unmet, UnmetFirst, Counts}
-use Rattle.leaves.specs.ProblemLaws.{plain-passes, block-passes, at-block, rank-lt}
+use Rattle.leaves.specs.ProblemLaws.{plain-passes, block-passes, places-in-order, at-block, rank-lt}
 
 and-iff : (a b : Bool) → T (a && b) ↔ (T a × T b)
 and-iff a b = (λ t. (and-left a b t, and-right a b t), λ (s, t). and-intro a b s t)
@@ -113,10 +113,6 @@ module _ {n : ℕ} (h : ℕ) (P : Problem (Row Bool n)) where
   abbrev placeFor : ℕ → ℕ
   placeFor = placeOf (least n) h P
 
-  place-order : (i j : ℕ) → i < j → leafFor i ≡ leafFor j → placeFor i < placeFor j
-  unfolding placeOf
-  place-order i j l p = rw p (count-lt j (λ i. eqb (leafFor i) (leafFor j)) i l (rw p (eqb-refl (leafFor j))))
-
   place-left : (j r : ℕ) → r < placeFor j → (i : ℕ) × (i < j) × (leafFor i ≡ leafFor j) × (placeFor i ≡ r)
   unfolding placeOf
   place-left j r l =
@@ -157,7 +153,7 @@ module _ {n : ℕ} (h : ℕ) (P : Problem (Row Bool n)) where
       place = placeFor;
       leftmost = leaf-leftmost;
       room = λ j l. rank-lt (least n) h P (W - h) j enough l;
-      in-order = λ i j l _ e. place-order i j l e;
+      in-order = λ i j l _ e. places-in-order (least n) h P i j l e;
       from-left = λ j r _ l. place-left j r l;
       carries = λ j l.
           let b = leafFor j in

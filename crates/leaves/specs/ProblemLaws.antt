@@ -9,7 +9,7 @@ use native.Mathlib.Omega.{arith}
 use lib.Dec.{T, ltb, eqb, ltb→lt, lt→ltb, eqb→eq, eqb-refl}
 use lib.Pow.{shr-lt, high, low}
 use Rattle.shares.specs.Test.{passes, and-intro, and-left, and-right, cond-passed, cond-failed}
-use Rattle.shares.specs.Below.{everyBelow, someBelow, countBelow}
+use Rattle.shares.specs.Below.{everyBelow, someBelow}
 use Rattle.shares.specs.BelowLaws.{every-at, every-intro, some-intro, some-found, first-passes, first-below, first-min, count-le, count-lt}
 use Rattle.shares.specs.Blocks.{blockOf, firstOf}
 use Rattle.shares.specs.BlockLaws.{block-lt, first-lt, block-first, block-split, leaf-lt}
@@ -84,13 +84,10 @@ module _ {X : Type 0} (C : Picker X) (h : ℕ) (P : Problem X) where
             rw (cond-failed (ltb j (P .count)) (C .pick (λ x. P .pos b x && P .dis j b x)) (C .pick (P .pos b)) v)
             (choice-found C (P .pos b) (plain-passes b l))
 
-  -- no two disequations stand at one sub-leaf
-  ranks-apart : (i j : ℕ) → i < j → leafOf C h P i ≡ leafOf C h P j → ¬ (placeOf C h P i ≡ placeOf C h P j)
+  -- the disequations of a leaf stand in question order
+  pub places-in-order : (i j : ℕ) → i < j → leafOf C h P i ≡ leafOf C h P j → placeOf C h P i < placeOf C h P j
   unfolding placeOf
-  ranks-apart i j l p q =
-      let v : T (eqb (leafOf C h P i) (leafOf C h P j)) = rw p (eqb-refl (leafOf C h P j)) in
-      let e : countBelow i (λ i. eqb (leafOf C h P i) (leafOf C h P j)) ≡ countBelow j (λ i. eqb (leafOf C h P i) (leafOf C h P j)) = rw p at q in
-      omega (arith, count-lt j (λ i. eqb (leafOf C h P i) (leafOf C h P j)) i l v)
+  places-in-order i j l p = rw p (count-lt j (λ i. eqb (leafOf C h P i) (leafOf C h P j)) i l (rw p (eqb-refl (leafOf C h P j))))
 
   -- the disequation that stands where j stands is j
   pub at-block : (j : ℕ) → j < P .count → heldAt C h P (leafOf C h P j) (placeOf C h P j) ≡ j
@@ -114,9 +111,8 @@ module _ {X : Type 0} (C : Picker X) (h : ℕ) (P : Problem X) where
       go (inr m) =
           let i = heldAt C h P b r in
           let v : T (p i) = first-passes (P .count) p j l own .1 in
-          absurd (ranks-apart i j m
-          (eqb→eq (leafOf C h P i) b (and-left (eqb (leafOf C h P i) b) _ v))
-          (eqb→eq (placeOf C h P i) r (and-right (eqb (leafOf C h P i) b) _ v)))
+          let e : placeOf C h P i ≡ r = eqb→eq (placeOf C h P i) r (and-right (eqb (leafOf C h P i) b) _ v) in
+          absurd (omega (arith, places-in-order i j m (eqb→eq (leafOf C h P i) b (and-left (eqb (leafOf C h P i) b) _ v))))
 
   pub rank-lt : (k j : ℕ) → P .count ≤ 2 ^ k → j < P .count → placeOf C h P j < 2 ^ k
   unfolding placeOf

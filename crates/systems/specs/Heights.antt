@@ -6,22 +6,19 @@ use mathlib.Core.List.{List, [], _∷_}
 use Prim.Native.Nat.{ℕ, zero, suc, _+_, _^_, _≤_, _<_, max}
 use native.Mathlib.Nat.{le-trans, le-max-left, le-max-right, max-le, le-add-right, not-suc-le-zero, le-of-suc-le-suc}
 use native.Mathlib.Omega.{arith}
-use lib.Dec.{T, ltb, ltb→lt}
+use lib.Dec.{T}
 use lib.ListN.{length, getD}
-use Rattle.shares.specs.Test.{cond-law}
-use Rattle.shares.specs.BelowLaws.{first-below}
 use Rattle.shares.specs.Tree.{height}
 use Rattle.shares.specs.TreeLaws.{treeOf-height}
 use Rattle.shares.specs.Constant.{numberTree}
 use Rattle.leaves.specs.Heights.{c, anyHeight, atMost, exactly}
 use Rattle.leaves.specs.HeightLaws.{c-enough, room-any, room-at}
 use Rattle.leaves.specs.Choices.{Row, at, least}
-use Rattle.leaves.specs.Problem.{Problem}
+use Rattle.leaves.specs.Problem.{Problem, solvable}
 use Rattle.leaves.specs.LeafSolutions.{SolvesLeaves}
 use Rattle.leaves.specs.ProblemLaws.{cut-solvable, fixed-solves as solves-leaves, solution-glued}
-use Rattle.leaves.specs.Fixed.{fixedAt, withUnmet, withMissed}
-use Rattle.leaves.specs.Entailment.{canBeMissed, firstMissed}
-use Rattle.leaves.specs.SecondLaws.{extension-room, unmet-solvable, unmet-first, unmet-counter, missed-first, missed-counter}
+use Rattle.leaves.specs.Fixed.{fixedAt}
+use Rattle.leaves.specs.SecondLaws.{extension-room, unmet-first, unmet-counter, missed-first, missed-counter}
 use Rattle.systems.specs.Clauses.{Term, variable, constant, Constants, Assignment}
 use Rattle.systems.specs.Questions.{Kind, satisfiability, entailment, Question, Defined, WellFormed, tallestConstant, questionHeight, firstCount, secondCount}
 use Rattle.systems.specs.Bounds.{Within, Bounds}
@@ -30,7 +27,8 @@ use Rattle.systems.specs.Answers.{Answer, satisfied, unsatisfied, vacuou
 use Rattle.systems.specs.SystemLaws.{in-system}
 use Rattle.systems.specs.AtLeaves.{firstAt, secondAt}
 use Rattle.systems.specs.AtomLaws.{Reads}
-use Rattle.systems.specs.Decide.{canSolve, someUnmet, lowestMissed, decideKind, decideAt, decide, fixed, shownWith, shownAt}
+use Rattle.systems.specs.Decide.{canSolve, decideKind, decideAt, decide, fixed, askedFor, shownWith, shownAt}
+use Rattle.systems.specs.ShownLaws.{asked-solvable}
 use Rattle.systems.specs.Link.{rows-read, shares-read, shares-low, Read, read-any, read-most, first-iff, extension-iff, meets-iff, with-iff}
 use Rattle.systems.specs.Exact.{extends-positives, extends-with, to-leaves, from-leaves, says-right, decide-kind, answers-iff}
 use Rattle.systems.specs.HeightRule.{HeightRule}
@@ -180,11 +178,11 @@ module _ (h : ℕ) (q : Question) (F : WellFormed q) (B : Bounds h q) where
   room-more : suc (firstCount q) ≤ 2 ^ c (firstCount q + 1)
   room-more = omega (arith, c-enough (firstCount q + 1))
 
-  shown-unmet : T (canSolve h q) → T (someUnmet h q) → Shown h q unmet (shownWith h q unmet)
-  shown-unmet t u =
+  shown-unmet : T (solvable (least (q .free)) h (askedFor h q unmet)) → Shown h q unmet (shownWith h q unmet)
+  shown-unmet t =
       let k = c (firstCount q + 1) in
-      let P = withUnmet (least (q .own)) (secondAt h q) (firstAt h q) in
-      let S = solves-leaves (least (q .free)) h P (unmet-solvable (least (q .free)) (least (q .own)) h (firstAt h q) (secondAt h q) t u) k room-more in
+      let P = askedFor h q unmet in
+      let S = solves-leaves (least (q .free)) h P t k room-more in
       let S₁ = unmet-first (least (q .own)) h (firstAt h q) (secondAt h q) (h + k) _ S in
       record {
         solves = fixed-solves P k S₁;
@@ -193,12 +191,11 @@ module _ (h : ℕ) (q : Question) (F : WellFormed q) (B : Bounds h q) where
             (meets-iff h q F B (h + k) (le-add-right h k) _ _ (fixed-reads P k S₁) .0 m));
       }
 
-  shown-missed : (j : ℕ) → j < secondCount q → T (canBeMissed (least (q .free)) (least (q .own)) h (firstAt h q) (secondAt h q) j)
+  shown-missed : (j : ℕ) → j < secondCount q → T (solvable (least (q .free)) h (askedFor h q (missed j)))
       → Shown h q (missed j) (shownWith h q (missed j))
-  unfolding canBeMissed
   shown-missed j l t =
       let k = c (firstCount q + 1) in
-      let P = withMissed (least (q .own)) (secondAt h q) (firstAt h q) j in
+      let P = askedFor h q (missed j) in
       let S = solves-leaves (least (q .free)) h P t k (omega (arith, room-more)) in
       let S₁ = missed-first (least (q .own)) h (firstAt h q) (secondAt h q) (h + k) _ j S in
       record {
@@ -209,22 +206,15 @@ module _ (h : ℕ) (q : Question) (F : WellFormed q) (B : Bounds h q) where
       }
 
   shown-rule : T (shows (decideAt h q)) → Shown h q (decideAt h q) (shownAt h q)
-  unfolding decideKind firstMissed
-  shown-rule = go (q .kind)
+  shown-rule t = go (decideAt h q) t (asked-solvable h q t) (says-right h q F B anyHeight anyHeight (read-any h) (q .kind) (room-any h _))
     where
-      M : Answer → Type 0
-      M a = T (shows a) → Shown h q a (shownWith h q a)
-
-      go : (k : Kind) → M (decideKind h q k)
-      go satisfiability = cond-law M (canSolve h q) satisfied unsatisfied (λ t _. shown-satisfied t) (λ _ f. absurd f)
-      go entailment =
-          cond-law M (canSolve h q) _ vacuous
-          (λ t. cond-law M (someUnmet h q) unmet _
-          (λ u _. shown-unmet t u)
-          (λ u. cond-law M (ltb (lowestMissed h q) (secondCount q)) (missed (lowestMissed h q)) entailed
-          (λ v _. let l = ltb→lt (lowestMissed h q) (secondCount q) v in shown-missed (lowestMissed h q) l (first-below (secondCount q) _ l))
-          (λ _ f. absurd f)))
-          (λ _ f. absurd f)
+      go : (a : Answer) → T (shows a) → T (solvable (least (q .free)) h (askedFor h q a)) → Says anyHeight q a → Shown h q a (shownWith h q a)
+      go satisfied f u s = shown-satisfied u
+      go unsatisfied f u s = absurd f
+      go vacuous f u s = absurd f
+      go entailed f u s = absurd f
+      go unmet f u s = shown-unmet u
+      go (missed j) f u s = shown-missed j (s .0) u
 
   -- with any h that bounds the constants that clauses name
   pub height-rule-at : HeightRule h q

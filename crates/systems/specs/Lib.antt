@@ -13,7 +13,6 @@ pub mod Link
 pub mod Exact
 pub mod HeightRule
 pub mod Heights
-pub mod ShownWordLaws
 pub mod Worked
 pub mod FormedTest
 pub mod WorkedRight

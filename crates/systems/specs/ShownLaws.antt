@@ -1,15 +1,32 @@
--- The solution that is shown: its trees past the free variables are empty, and none is taller than the height given. Assumes nothing.
-use mathlib.Core.Path.{_≡_, _∙_}
+-- The solution that is shown: its trees past the free variables are empty, none is taller than the height given, and it is the one solution
+-- that the words fix. Assumes nothing.
+use mathlib.Core.Path.{_≡_, sym, ap, _∙_}
 use mathlib.Core.Bool.{Bool, false}
-use Prim.Native.Nat.{ℕ, _≤_}
-use lib.Dec.{T}
+use Prim.Native.Nat.{ℕ, _+_, _-_, _^_, _≤_, _<_}
+use native.Mathlib.Nat.{add-sub-cancel-left}
+use native.Mathlib.Omega.{arith}
+use lib.Dec.{T, ltb, ltb→lt}
+use Rattle.shares.specs.Test.{cond-law}
+use Rattle.shares.specs.BelowLaws.{first-below}
+use Rattle.shares.specs.Blocks.{blockOf}
 use Rattle.shares.specs.Tree.{leaf, height}
-use Rattle.shares.specs.TreeLaws.{treeOf-ext, treeOf-leaf, treeOf-height}
-use Rattle.leaves.specs.Choices.{Row}
+use Rattle.shares.specs.TreeLaws.{share-path, treeOf-ext, treeOf-leaf, treeOf-height, leafAt-treeOf, equal-iff}
+use Rattle.leaves.specs.Heights.{c}
+use Rattle.leaves.specs.HeightLaws.{c-enough}
+use Rattle.leaves.specs.Choices.{Row, at, least}
 use Rattle.leaves.specs.ChoiceLaws.{at-past}
-use Rattle.systems.specs.Questions.{Question}
+use Rattle.leaves.specs.Problem.{solvable}
+use Rattle.leaves.specs.Fixed.{fixedAt}
+use Rattle.leaves.specs.FixedWords.{UnmetFirst, Counts}
+use Rattle.leaves.specs.FixedLaws.{fixed-words, words-positive, words-one, unmet-words, missed-means}
+use Rattle.leaves.specs.Entailment.{canBeMissed, firstMissed}
+use Rattle.leaves.specs.SecondLaws.{unmet-solvable}
+use Rattle.systems.specs.Clauses.{Assignment}
+use Rattle.systems.specs.Questions.{Kind, satisfiability, entailment, Question, firstCount, secondCount}
 use Rattle.systems.specs.Answers.{Answer, satisfied, unsatisfied, vacuous, entailed, unmet, missed, shows, heightGiven}
-use Rattle.systems.specs.Decide.{sharesOf, shownWith}
+use Rattle.systems.specs.AtLeaves.{firstAt, secondAt}
+use Rattle.systems.specs.Decide.{canSolve, someUnmet, lowestMissed, decideKind, decideAt, sharesOf, askedFor, shownWith, shownAt}
+use Rattle.systems.specs.ShownWords.{ShownFixed}
 
 shares-past : {n : ℕ} (k : ℕ) (s : ℕ → Row Bool n) (v : ℕ) → n ≤ v → sharesOf k s v .tree ≡ leaf false
 unfolding sharesOf
@@ -35,3 +52,76 @@ module _ (h : ℕ) (q : Question) (v : ℕ) where
   shown-low entailed t = absurd t
   shown-low unmet t = shares-height _ _ v
   shown-low (missed j) t = shares-height _ _ v
+
+-- ---- what is asked of it can be met, and there is room for that
+
+module _ (h : ℕ) (q : Question) where
+  pub asked-solvable : T (shows (decideAt h q)) → T (solvable (least (q .free)) h (askedFor h q (decideAt h q)))
+  unfolding decideKind firstMissed canBeMissed
+  asked-solvable = go (q .kind)
+    where
+      M : Answer → Type 0
+      M a = T (shows a) → T (solvable (least (q .free)) h (askedFor h q a))
+
+      go : (k : Kind) → M (decideKind h q k)
+      go satisfiability = cond-law M (canSolve h q) satisfied unsatisfied (λ t _. t) (λ _ f. absurd f)
+      go entailment =
+          cond-law M (canSolve h q) _ vacuous
+          (λ t. cond-law M (someUnmet h q) unmet _
+          (λ u _. unmet-solvable (least (q .free)) (least (q .own)) h (firstAt h q) (secondAt h q) t u)
+          (λ _. cond-law M (ltb (lowestMissed h q) (secondCount q)) (missed (lowestMissed h q)) entailed
+          (λ v _. first-below (secondCount q) _ (ltb→lt (lowestMissed h q) (secondCount q) v))
+          (λ _ f. absurd f)))
+          (λ _ f. absurd f)
+
+  given-tall : (a : Answer) → T (shows a) → h ≤ heightGiven h q a
+  given-tall satisfied t = omega arith
+  given-tall unsatisfied t = absurd t
+  given-tall vacuous t = absurd t
+  given-tall entailed t = absurd t
+  given-tall unmet t = omega arith
+  given-tall (missed j) t = omega arith
+
+  enough : (n : ℕ) → n ≤ 2 ^ (h + c n - h)
+  enough n = rw add-sub-cancel-left (c-enough n)
+
+  given-room : (a : Answer) → T (shows a) → askedFor h q a .count ≤ 2 ^ (heightGiven h q a - h)
+  given-room satisfied t = enough (firstCount q)
+  given-room unsatisfied t = absurd t
+  given-room vacuous t = absurd t
+  given-room entailed t = absurd t
+  given-room unmet t = omega (arith, enough (firstCount q + 1))
+  given-room (missed j) t = omega (arith, enough (firstCount q + 1))
+
+  -- ---- it is the solution that the words fix
+
+  pub shown-fixed : T (shows (decideAt h q)) → ShownFixed h q (decideAt h q) (shownAt h q)
+  unfolding sharesOf
+  shown-fixed t =
+      let a = decideAt h q in
+      record {
+        values = fixedAt (least (q .free)) h (askedFor h q a) (heightGiven h q a);
+        words = fixed-words h (askedFor h q a) (asked-solvable t) (heightGiven h q a) (given-room a t);
+        leaves = λ v _ i l. leafAt-treeOf (heightGiven h q a) _ i l;
+        low = λ v _. shown-low h q v a t;
+      }
+
+  -- with reason 2 the leftmost leaf that can be unmet carries the least such choice in its first sub-leaf
+  pub fixed-unmet : (σ : Assignment) (S : ShownFixed h q unmet σ) → UnmetFirst h (firstAt h q) (secondAt h q) (heightGiven h q unmet) (S .values)
+  fixed-unmet σ S = unmet-words (least (q .own)) h (firstAt h q) (secondAt h q) (heightGiven h q unmet) (S .values) (S .words)
+
+  -- with reason 3 every sub-leaf carries a choice that counts
+  pub fixed-missed : (j : ℕ) (σ : Assignment) (S : ShownFixed h q (missed j) σ) (i : ℕ) → i < 2 ^ heightGiven h q (missed j)
+      → Counts (firstAt h q) (secondAt h q) j (blockOf h (heightGiven h q (missed j)) i) (S .values i)
+  fixed-missed j σ S i l =
+      missed-means (least (q .own)) h (firstAt h q) (secondAt h q) j _ (S .values i) .0
+      (words-positive h (askedFor h q (missed j)) (heightGiven h q (missed j)) (S .words) (given-tall (missed j) tt) i l)
+
+  -- there is no other
+  pub one-shown : (a : Answer) → T (shows a) → (σ τ : Assignment) → ShownFixed h q a σ → ShownFixed h q a τ → (v : ℕ) → v < q .free → σ v ≡ τ v
+  one-shown a t σ τ S R v l =
+      share-path (σ v) (τ v)
+      (equal-iff (heightGiven h q a) (σ v .tree) (τ v .tree) (σ v .folded) (τ v .folded) (S .low v l) (R .low v l) .1 (λ i m.
+      S .leaves v l i m
+      ∙ ap (λ r. at false r v) (words-one h (askedFor h q a) (heightGiven h q a) (S .words) (R .words) (given-tall a t) i m)
+      ∙ sym (R .leaves v l i m)))
