@@ -14,6 +14,9 @@ use Rattle.rows.specs.Blocks.{Inside, AllLeaves, BlockSet, wholeByte}
 use Rattle.rows.specs.BlockLaws.{byte-inside, set-byte, byte-constant, bytes-inside, set-bytes, bytes-constant}
 
 module _ (row : List ℕ) (h q : ℕ) (inside : Inside h q (length row)) where
+  pub first-at : (s : ℕ) → s ≡ 2 ^ h → q * s < 8 * length row
+  first-at s e = rw e (omega (arith, pow-pos h, inside .fits))
+
   module _ (at-most : h ≤ 3) (s : ℕ) (e : s ≡ 2 ^ (3 - h)) where
     pub size-pos : 0 < s
     size-pos = rw e (pow-pos (3 - h))

@@ -1,15 +1,15 @@
 -- Laws of blocks, for every height: which bytes and bits they are, and their trees. Assumes nothing.
 use mathlib.Core.Path.{_≡_, refl, sym, ap, ap₂, _∙_, subst}
-use mathlib.Core.Bool.{Bool, true, false, cond}
+use mathlib.Core.Bool.{Bool, true, false, cond, _&&_}
 use mathlib.Core.List.{List, _++_}
 use mathlib.Core.Logic.{_↔_}
-use Prim.Native.Nat.{ℕ, zero, suc, _+_, _-_, _*_, _/_, _%_, _^_, _≤_, _<_}
+use Prim.Native.Nat.{ℕ, zero, suc, _+_, _-_, _*_, _/_, _%_, _^_, _≤_, _<_, zero-le}
 use native.Mathlib.Nat.{add-sub-of-le, two-pow-succ, mul-add, add-mul, mul-assoc, one-mul, two-mul, mod-lt, div-lt-iff-lt-mul, lt-div-mul-add}
 use native.Mathlib.Decide.{decLt, ℕ-discrete}
 use native.Mathlib.Omega.{arith}
-use borrow.Author.Tests.{eq-eqb, ne-eqb}
+use borrow.Author.Tests.{eq-eqb, ne-eqb, lt-ltb, le-ltb}
 use lib.Arith.{digits-div, digits-lt}
-use lib.Dec.{eqb, lit<}
+use lib.Dec.{eqb, ltb, lit<}
 use lib.ListN.{length, getD, set, take, drop, replicate, length-replicate, getD-replicate, List·getD-append}
 use lib.Pow.{pow-pos, pow-add, pow-mono, shr-shr, shl-shr, field, split}
 use lib.Seq.{length-take-le, getD-append-add, getD-set-same, getD-set-other, getD-take, getD-drop}
@@ -20,9 +20,9 @@ use Rattle.shares.specs.Tree.{Tree, leaf, pair, twins, fold, leafAt, treeOf}
 use Rattle.shares.specs.TreeLaws.{treeOf-ext, treeOf-leaf, leafAt-leaf, leafAt-treeOf}
 use Rattle.shares.specs.Constant.{bit}
 use Rattle.shares.specs.BitLaws.{bit-zero, bits-same}
-use Rattle.rows.specs.Rows.{bytesAt, rowLeaf, rowTree}
-use Rattle.rows.specs.RowLaws.{eight, leaf-byte}
-use Rattle.rows.specs.Blocks.{Inside, blockTree, AllLeaves, BlockSet, wholeByte}
+use Rattle.rows.specs.Rows.{bytesAt, rowLeaf, rowTree, zeros}
+use Rattle.rows.specs.RowLaws.{ltb-next, eight, leaf-byte, zeros-leaf}
+use Rattle.rows.specs.Blocks.{Inside, blockTree, AllLeaves, BlockSet, FirstBlocks, wholeByte}
 
 -- ---- a leaf of a lower tree
 
@@ -243,10 +243,31 @@ block-pair row (suc h) q n =
 
 -- ---- blocks set one after the other
 
-pub blocks-more : (h k : ℕ) (f : ℕ → Bool) (v : Bool) (row after : List ℕ) → ((i : ℕ) → i / 2 ^ h < k → rowLeaf row i ≡ f (i / 2 ^ h))
-    → BlockSet row after h k v → v ≡ f k → (i : ℕ) → i / 2 ^ h < k + 1 → rowLeaf after i ≡ f (i / 2 ^ h)
-blocks-more h k f v row after old step e i l = step i ∙ pick (ℕ-discrete (i / 2 ^ h) k)
+-- a block whose leaves are v already is set as it stands
+pub block-same : (row : List ℕ) (h q : ℕ) (v : Bool) → AllLeaves row h q v → BlockSet row row h q v
+block-same row h q v all i = pick (ℕ-discrete (i / 2 ^ h) q)
   where
-    pick : Dec (i / 2 ^ h ≡ k) → cond (eqb (i / 2 ^ h) k) v (rowLeaf row i) ≡ f (i / 2 ^ h)
-    pick (yes p) = rw (eq-eqb (i / 2 ^ h) k p) (e ∙ ap f (sym p))
-    pick (no n) = rw (ne-eqb (i / 2 ^ h) k n) (old i (omega arith))
+    pick : Dec (i / 2 ^ h ≡ q) → rowLeaf row i ≡ cond (eqb (i / 2 ^ h) q) v (rowLeaf row i)
+    pick (yes e) = rw (eq-eqb (i / 2 ^ h) q e) (all i e)
+    pick (no n) = rw (ne-eqb (i / 2 ^ h) q n)
+
+module _ (h : ℕ) (f : ℕ → Bool) where
+  -- none: a row of zeros
+  pub blocks-none : (n : ℕ) → FirstBlocks (zeros n) h 0 f
+  blocks-none n i = rw (le-ltb (i / 2 ^ h) 0 zero-le) (zeros-leaf n i)
+
+  -- the next is empty
+  pub blocks-next : (k : ℕ) (row : List ℕ) → FirstBlocks row h k f → AllLeaves row h k false
+  blocks-next k row first i e = first i ∙ rw (le-ltb (i / 2 ^ h) k (omega arith))
+
+  -- one more
+  pub blocks-more : (k : ℕ) (v : Bool) (row after : List ℕ) → FirstBlocks row h k f → BlockSet row after h k v → v ≡ f k → FirstBlocks after h (k + 1) f
+  blocks-more k v row after first step e i = step i ∙ pick (ℕ-discrete (i / 2 ^ h) k)
+    where
+      pick : Dec (i / 2 ^ h ≡ k) → cond (eqb (i / 2 ^ h) k) v (rowLeaf row i) ≡ (ltb (i / 2 ^ h) (k + 1) && f (i / 2 ^ h))
+      pick (yes p) = rw (eq-eqb (i / 2 ^ h) k p, lt-ltb (i / 2 ^ h) (k + 1) (omega arith)) (e ∙ ap f (sym p))
+      pick (no n) = rw (ne-eqb (i / 2 ^ h) k n, ← ltb-next (i / 2 ^ h) k n) (first i)
+
+  -- the leaves of those blocks
+  pub blocks-all : (k : ℕ) (row : List ℕ) → FirstBlocks row h k f → (i : ℕ) → i / 2 ^ h < k → rowLeaf row i ≡ f (i / 2 ^ h)
+  blocks-all k row first i l = first i ∙ rw (lt-ltb (i / 2 ^ h) k l)

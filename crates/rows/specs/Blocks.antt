@@ -1,9 +1,9 @@
 -- Blocks of a row: block q of height h is the leaves q * 2 ^ h to q * 2 ^ h + 2 ^ h - 1. Assumes nothing.
 use mathlib.Core.Path.{_≡_}
-use mathlib.Core.Bool.{Bool, cond}
+use mathlib.Core.Bool.{Bool, cond, _&&_}
 use mathlib.Core.List.{List}
 use Prim.Native.Nat.{ℕ, _+_, _*_, _/_, _^_, _≤_}
-use lib.Dec.{eqb}
+use lib.Dec.{eqb, ltb}
 use Rattle.shares.specs.Tree.{Tree, treeOf}
 use Rattle.rows.specs.Rows.{rowLeaf}
 
@@ -24,6 +24,10 @@ AllLeaves row h q v = (i : ℕ) → i / 2 ^ h ≡ q → rowLeaf row i ≡ v
 -- the leaves of the block are set to v, the others are as before
 abbrev pub BlockSet : List ℕ → List ℕ → ℕ → ℕ → Bool → Type 0
 BlockSet before after h q v = (i : ℕ) → rowLeaf after i ≡ cond (eqb (i / 2 ^ h) q) v (rowLeaf before i)
+
+-- the first n blocks have the leaves f, the others are empty
+abbrev pub FirstBlocks : List ℕ → ℕ → ℕ → (ℕ → Bool) → Type 0
+FirstBlocks row h n f = (i : ℕ) → rowLeaf row i ≡ (ltb (i / 2 ^ h) n && f (i / 2 ^ h))
 
 -- the byte whose eight leaves are all v
 abbrev pub wholeByte : Bool → ℕ

@@ -6,18 +6,26 @@ use mathlib.Core.Logic.{_⊎_, inl, inr}
 use Prim.Native.Nat.{ℕ, zero, suc, _+_, _-_, _*_, _/_, _%_, _^_, _≤_, _<_, zero-le}
 use native.Mathlib.Nat.{not-suc-le-zero, le-of-suc-le-suc, eq-or-lt-of-le, zero-mul, suc-mul, le-trans, add-mul, one-mul, mul-le-mul-right}
 use native.Mathlib.Decide.{decLt}
-use native.Mathlib.Numerals.{add-one}
 use native.Mathlib.Omega.{arith}
 use borrow.Author.Tests.{lt-ltb, le-ltb, le-leb, lt-leb}
 use lib.Dec.{ltb}
-use lib.ListN.{length, getD, take, drop, replicate, length-append, length-drop, length-replicate, getD-replicate, List·getD-eq-default}
+use lib.ListN.{length, getD, take, drop, replicate, length-append, length-drop, length-replicate, replicate-append-replicate, getD-replicate, List·getD-eq-default}
 use lib.Pow.{pow-add}
-use lib.Seq.{ext-getD, take-at, drop-at, drop-drop}
+use lib.Seq.{ext-getD, take-at, drop-at}
 use Rattle.shares.specs.Tree.{Tree, leaf, Folded, height, leafAt}
 use Rattle.shares.specs.TreeLaws.{treeOf-ext, treeOf-leaf, treeOf-leafAt, leafAt-treeOf}
 use Rattle.shares.specs.Constant.{bit, numberOf}
 use Rattle.shares.specs.BitLaws.{bit-zero, bits-same, number-lt, bit-number}
-use Rattle.rows.specs.Rows.{rowCount, bytesAt, rowLeaf, rowTree, listOf, rowOf, emptyRange, rowRange, rowPart, zeros, variableRow, rowsOf, filledWith}
+use Rattle.rows.specs.Rows.{rowCount, bytesAt, rowLeaf, rowTree, listOf, rowOf, emptyRange, rowRange, rowPart, zeros, variableRow, rowsOf, filledWith, emptied}
+
+-- ---- below one more
+
+pub ltb-next : (x n : ℕ) → (x ≡ n → ⊥) → ltb x n ≡ ltb x (n + 1)
+ltb-next x n d = go (decLt x n)
+  where
+    go : Dec (x < n) → ltb x n ≡ ltb x (n + 1)
+    go (yes l) = lt-ltb x n l ∙ sym (lt-ltb x (n + 1) (omega arith))
+    go (no m) = le-ltb x n (omega arith) ∙ sym (le-ltb x (n + 1) (omega arith))
 
 -- ---- a list and its elements
 
@@ -89,23 +97,18 @@ rowOf-rowTree k h row len byte = sym (row-is k h row (rowTree k row) len byte (�
 
 -- ---- rows one after the other, each of b bytes
 
+rows-ext : (f g : ℕ → List ℕ) (n : ℕ) → ((i : ℕ) → i < n → f i ≡ g i) → rowsOf f n ≡ rowsOf g n
+unfolding rowsOf
+rows-ext f g zero same = refl
+rows-ext f g (suc n) same = ap₂ _++_ (rows-ext f g n (λ i l. same i (omega arith))) (same n (omega arith))
+
 module _ (f : ℕ → List ℕ) (b : ℕ) (size : (v : ℕ) → length (f v) ≡ b) where
   rows-length : (n : ℕ) → length (rowsOf f n) ≡ n * b
   unfolding rowsOf
   rows-length zero = sym (zero-mul b)
   rows-length (suc n) = length-append (rowsOf f n) (f n) ∙ ap₂ _+_ (rows-length n) (size n) ∙ sym (suc-mul n b)
 
-  -- a buffer whose first v rows are written, after one row more
-  pub rows-more : (before now row : List ℕ) (v k : ℕ) → now ≡ rowsOf f v ++ drop (v * b) before → row ≡ f v → k ≡ b
-      → take (v * b) now ++ (row ++ drop k (drop (v * b) now)) ≡ rowsOf f (v + 1) ++ drop ((v + 1) * b) before
-  unfolding rowsOf
-  rows-more before now row v k e er ek =
-      let next : v * b + b ≡ suc v * b = sym (suc-mul v b) in
-      let ht = take-at (rowsOf f v) (drop (v * b) before) (v * b) (rows-length v) in
-      let hd = drop-at (rowsOf f v) (drop (v * b) before) (v * b) (rows-length v) in
-      rw (e, er, ek, ht, hd, drop-drop b (v * b) before, next, add-one v, append-assoc)
-
-  pub rows-whole : (before : List ℕ) (v : ℕ) → v * b ≤ length before → length (rowsOf f v ++ drop (v * b) before) ≡ length before
+  rows-whole : (before : List ℕ) (v : ℕ) → v * b ≤ length before → length (rowsOf f v ++ drop (v * b) before) ≡ length before
   rows-whole before v h = simp (length-append, length-drop, rows-length) (omega arith)
 
   -- row v of those written
@@ -117,6 +120,25 @@ module _ (f : ℕ → List ℕ) (b : ℕ) (size : (v : ℕ) → length (f v) ≡
       pick : (v ≡ n) ⊎ (v < n) → (v < n → take b (drop (v * b) (rowsOf f n ++ (f n ++ rest))) ≡ f v) → take b (drop (v * b) (rowsOf f n ++ (f n ++ rest))) ≡ f v
       pick (inl e) ih = rw (e, drop-at (rowsOf f n) (f n ++ rest) (n * b) (rows-length n)) (take-at (f n) rest b (size n))
       pick (inr l) ih = ih l
+
+  -- with another row v they are those of g, which differs from f there alone
+  rows-set : (g : ℕ → List ℕ) (n v : ℕ) (rest : List ℕ) → v < n → ((i : ℕ) → (i ≡ v → ⊥) → f i ≡ g i)
+      → take (v * b) (rowsOf f n ++ rest) ++ (g v ++ drop b (drop (v * b) (rowsOf f n ++ rest))) ≡ rowsOf g n ++ rest
+  unfolding rowsOf
+  rows-set g zero v rest h same = absurd (not-suc-le-zero h)
+  rows-set g (suc n) v rest h same =
+      rw (append-assoc (rowsOf f n) (f n) rest, append-assoc (rowsOf g n) (g n) rest)
+      (pick (eq-or-lt-of-le (le-of-suc-le-suc h)) (λ l. rows-set g n v (f n ++ rest) l same))
+    where
+      whole : List ℕ
+      whole = rowsOf f n ++ (f n ++ rest)
+
+      pick : (v ≡ n) ⊎ (v < n) → (v < n → take (v * b) whole ++ (g v ++ drop b (drop (v * b) whole)) ≡ rowsOf g n ++ (f n ++ rest))
+          → take (v * b) whole ++ (g v ++ drop b (drop (v * b) whole)) ≡ rowsOf g n ++ (g n ++ rest)
+      pick (inl e) ih =
+          rw (e, take-at (rowsOf f n) (f n ++ rest) (n * b) (rows-length n), drop-at (rowsOf f n) (f n ++ rest) (n * b) (rows-length n), drop-at (f n) rest b (size n))
+          (ap (λ l. l ++ (g n ++ rest)) (rows-ext f g n (λ i l. same i (λ p. absurd (omega arith)))))
+      pick (inr l) ih = ih l ∙ ap (λ r. rowsOf g n ++ (r ++ rest)) (same n (λ p. absurd (omega arith)))
 
 -- ---- the row of one variable
 
@@ -158,10 +180,17 @@ module _ (k : ℕ) (answer : List ℕ) (v : ℕ) where
 
 -- ---- rows of zeros
 
--- a row of zeros is that of the empty tree
-zero-row : (k : ℕ) (row : List ℕ) → ((j : ℕ) → getD row j 0 ≡ 0) → rowTree k row ≡ leaf false
+-- a row of zeros has empty leaves, and is that of the empty tree
+zero-leaf : (row : List ℕ) → ((j : ℕ) → getD row j 0 ≡ 0) → (i : ℕ) → rowLeaf row i ≡ false
 unfolding rowLeaf
-zero-row k row z = treeOf-ext k _ _ (λ i _. ap (λ b. bit b (i % 8)) (z (i / 8)) ∙ bit-zero (i % 8)) ∙ treeOf-leaf k false
+zero-leaf row z i = ap (λ b. bit b (i % 8)) (z (i / 8)) ∙ bit-zero (i % 8)
+
+zero-row : (k : ℕ) (row : List ℕ) → ((j : ℕ) → getD row j 0 ≡ 0) → rowTree k row ≡ leaf false
+zero-row k row z = treeOf-ext k _ _ (λ i _. zero-leaf row z i) ∙ treeOf-leaf k false
+
+pub zeros-length : (n : ℕ) → length (zeros n) ≡ n
+unfolding zeros
+zeros-length n = length-replicate n 0
 
 zeros-at : (n j : ℕ) → _≡_ {A = ℕ} (getD (zeros n) j 0) 0
 unfolding zeros
@@ -169,18 +198,21 @@ zeros-at n j = go (decLt j n)
   where
     go : Dec (j < n) → _≡_ {A = ℕ} (getD (replicate n 0) j 0) 0
     go (yes l) = getD-replicate n j 0 0 l
-    go (no l) = List·getD-eq-default (replicate n 0) 0 (omega (arith, length-replicate {A = ℕ} n 0))
+    go (no l) = List·getD-eq-default (replicate n 0) 0 (omega (arith, zeros-length n))
+
+pub zeros-leaf : (n i : ℕ) → rowLeaf (zeros n) i ≡ false
+zeros-leaf n = zero-leaf (zeros n) (zeros-at n)
 
 -- ---- the rows of variables, of which the first n have the trees f
 
 module _ (k n : ℕ) (f : ℕ → Tree) where
-  pub variable-length : (v : ℕ) → length (variableRow k n f v) ≡ bytesAt k
-  unfolding variableRow zeros
+  variable-length : (v : ℕ) → length (variableRow k n f v) ≡ bytesAt k
+  unfolding variableRow
   variable-length v = go (ltb v n)
     where
-      go : (t : Bool) → length (cond t (rowOf k (f v)) (replicate (bytesAt k) 0)) ≡ bytesAt k
+      go : (t : Bool) → length (cond t (rowOf k (f v)) (zeros (bytesAt k))) ≡ bytesAt k
       go true = row-length k (f v)
-      go false = length-replicate (bytesAt k) 0
+      go false = zeros-length (bytesAt k)
 
   variable-zero : (v : ℕ) → n ≤ v → variableRow k n f v ≡ zeros (bytesAt k)
   unfolding variableRow
@@ -197,18 +229,21 @@ module _ (k n : ℕ) (f : ℕ → Tree) where
           let l : n ≤ v = omega arith in
           rw (le-ltb v n l) (zero-row k (zeros (bytesAt k)) (zeros-at (bytesAt k)) ∙ sym (past l))
 
+  -- the rows of a buffer that is filled with them are they
+  filled-row : (answer : List ℕ) (v : ℕ) → v < rowCount → take (bytesAt k) (drop (v * bytesAt k) (filledWith k n f answer)) ≡ variableRow k n f v
+  unfolding filledWith
+  filled-row answer v l = rows-at (variableRow k n f) (bytesAt k) variable-length rowCount v (drop (rowCount * bytesAt k) answer) l
+
   module _ (answer : List ℕ) (room : rowCount * bytesAt k ≤ length answer) where
-    -- a buffer that is filled with them is as long as before, and its parts are they
-    filled-length : length (filledWith k n f answer) ≡ length answer
+    -- it is as long as before, and its parts are they
+    pub filled-length : length (filledWith k n f answer) ≡ length answer
     unfolding filledWith
     filled-length = rows-whole (variableRow k n f) (bytesAt k) variable-length answer rowCount room
 
     filled-part : (v : ℕ) → v < rowCount → rowPart k (filledWith k n f answer) v ≡ variableRow k n f v
-    unfolding filledWith
     filled-part v l =
         let long : rowCount * bytesAt k ≤ length (filledWith k n f answer) = omega (arith, filled-length) in
-        part-some k (filledWith k n f answer) v l long
-        ∙ rows-at (variableRow k n f) (bytesAt k) variable-length rowCount v (drop (rowCount * bytesAt k) answer) l
+        part-some k (filledWith k n f answer) v l long ∙ filled-row answer v l
 
     pub filled-zero : (v : ℕ) → n ≤ v → v < rowCount → rowPart k (filledWith k n f answer) v ≡ zeros (bytesAt k)
     filled-zero v l m = filled-part v m ∙ variable-zero v l
@@ -221,6 +256,41 @@ module _ (k n : ℕ) (f : ℕ → Tree) where
         go : Dec (v < rowCount) → rowTree k (rowPart k (filledWith k n f answer) v) ≡ f v
         go (yes l) = ap (rowTree k) (filled-part v l) ∙ variable-tree h v folded low past
         go (no m) = ap (rowTree k) (part-none k (filledWith k n f answer) v (omega arith)) ∙ zero-row k [] (λ j. refl) ∙ sym (past (omega arith))
+
+-- ---- a buffer that is emptied and then filled with one row after the other
+
+module _ (k : ℕ) (f : ℕ → Tree) (answer : List ℕ) where
+  -- what its rows were is gone
+  pub filled-emptied : (n : ℕ) → filledWith k n f (emptied k answer) ≡ filledWith k n f answer
+  unfolding filledWith emptied
+  filled-emptied n =
+      let b = rowCount * bytesAt k in
+      ap (λ rest. rowsOf (variableRow k n f) rowCount ++ rest) (drop-at (zeros b) (drop b answer) b (zeros-length b))
+
+  -- emptied, it is filled with no row
+  pub filled-none : emptied k answer ≡ filledWith k 0 f (emptied k answer)
+  unfolding filledWith emptied rowsOf zeros
+  filled-none = ap (λ rows. rows ++ drop (rowCount * bytesAt k) answer) (sym (none rowCount)) ∙ sym (filled-emptied 0)
+    where
+      none : (n : ℕ) → rowsOf (variableRow k 0 f) n ≡ replicate (n * bytesAt k) 0
+      none zero = rw (zero-mul (bytesAt k))
+      none (suc n) =
+          ap₂ _++_ (none n) (variable-zero k 0 f n zero-le) ∙ replicate-append-replicate (n * bytesAt k) (bytesAt k) 0
+          ∙ ap (λ (m : ℕ). replicate m 0) (sym (suc-mul n (bytesAt k)))
+
+  module _ (v s : ℕ) (now : List ℕ) (next : v < rowCount) (size : s ≡ bytesAt k) (filled : now ≡ filledWith k v f answer) where
+    -- the row after the first v is zero
+    pub filled-next : take s (drop (v * bytesAt k) now) ≡ zeros (bytesAt k)
+    filled-next = rw (filled, size) (filled-row k v f answer v next ∙ variable-zero k v f v (omega arith))
+
+    -- once it is written, one row more is filled
+    pub filled-more : (row : List ℕ) → row ≡ rowOf k (f v) → take (v * bytesAt k) now ++ (row ++ drop s (drop (v * bytesAt k) now)) ≡ filledWith k (v + 1) f answer
+    unfolding filledWith variableRow
+    filled-more row e =
+        let this : variableRow k (v + 1) f v ≡ rowOf k (f v) = rw (lt-ltb v (v + 1) (omega arith)) in
+        rw (filled, size, e, ← this)
+        (rows-set (variableRow k v f) (bytesAt k) (variable-length k v f) (variableRow k (v + 1) f) rowCount v (drop (rowCount * bytesAt k) answer) next
+        (λ i n. ap (λ t. cond t (rowOf k (f i)) (zeros (bytesAt k))) (ltb-next i v n)))
 
 -- only the trees of the first n count
 pub filled-ext : (k n : ℕ) (f g : ℕ → Tree) → ((v : ℕ) → v < n → f v ≡ g v) → (answer : List ℕ) → filledWith k n f answer ≡ filledWith k n g answer

@@ -2,10 +2,11 @@
 ghost use mathlib.Core.Path.{_≡_};
 ghost use mathlib.Core.Logic.{_↔_};
 ghost use mathlib.Core.Bool.{cond};
-ghost use Prim.Native.Nat.{ℕ, _-_, _/_, _^_, _<_, _≤_};
+ghost use Prim.Native.Nat.{ℕ, _-_, _*_, _/_, _^_, _<_, _≤_};
 ghost use lib.Dec.{T, eqb};
 ghost use lib.ListN.{length, getD};
 ghost use Rattle.shares.specs.Constant.{bit};
+ghost use Rattle.rows.specs.Rows.{rowLeaf};
 ghost use Rattle.rows.specs.Blocks.{Inside, AllLeaves, BlockSet, wholeByte};
 
 // The bits of block `a` of a byte: as many ones as a block has leaves, moved to where it lies.
@@ -69,6 +70,26 @@ pub fn write_block(row: &mut [u8], height: usize, q: usize, full: bool)
     let size = basics::power(height - 3);
     let start = q * size;
     basics::fill(&mut row[start..start + size], whole(full));
+}
+
+// Sets the leaves of block q, which are all `old`. Nothing is written where they are to stay so.
+pub fn change_block(row: &mut [u8], height: usize, q: usize, old: bool, full: bool)
+    requires { ⌜ Inside height q (length (now row)) × AllLeaves (now row) height q old ⌝ }
+    ensures { λ _. ⌜ BlockSet (now (row .entry)) (now (row .exit)) height q full ⌝ }
+{
+    if old == full {
+        return;
+    }
+    write_block(row, height, q, full);
+}
+
+// The first leaf of block q.
+pub fn first_leaf(row: &[u8], height: usize, q: usize) -> bool
+    requires { ⌜ Inside height q (length (now row)) ⌝ }
+    ensures { λ r. ⌜ r ≡ rowLeaf (now (row .entry)) (q * 2 ^ height) ⌝ }
+{
+    let i = q * basics::power(height);
+    basics::digit(basics::wide(row[i / 8]), i % 8)
 }
 
 // Whether every leaf of block q is the one asked for. It stops at the first byte that has another.

@@ -1,15 +1,16 @@
 // Showing a plan: the rows of its trees, written to the answer buffer.
 use plans::Plan;
+use rows::ANSWER_BYTES;
 use rows::ROW_BYTES;
-use rows::ROW_COUNT;
 use rows::ROW_LEVELS;
-use rows::blocks::write_block;
+use rows::blocks::change_block;
+use rows::blocks::first_leaf;
 ghost use mathlib.Core.Path.{_≡_};
 ghost use Prim.Native.Nat.{ℕ, _-_, _/_, _^_, _<_, _≤_};
 ghost use lib.ListN.{length, getD};
 ghost use Rattle.shares.specs.Constant.{bit};
-ghost use Rattle.plans.specs.Shown.{Showable, planTree, planTrees};
-ghost use Rattle.rows.specs.Rows.{rowLevels, rowBytes, rowCount, answerBytes, rowLeaf, rowOf, variableRow};
+ghost use Rattle.plans.specs.Shown.{Showable, planTree};
+ghost use Rattle.rows.specs.Rows.{rowLevels, rowBytes, rowCount, answerBytes, rowLeaf, rowOf, zeros, emptied};
 ghost use Rattle.show.specs.Plans.{Shows, shownAnswer};
 
 // Digit p of a choice.
@@ -20,16 +21,17 @@ fn digit_of(choice: u16, p: usize) -> bool
     basics::digit(choice as u64, p)
 }
 
-// Fills a row with the 2^low leaves, each with digit p of its choice.
+// Writes the 2^low leaves, each with digit p of its choice, to a row that is empty. The end is tested by `!=`, since `k < 2^low` is made a shift and a
+// test at each turn.
 fn write_leaves(row: &mut [u8], plain: &[u16; 64], low: usize, p: usize)
-    requires { ⌜ (low ≤ 6) × (length (now row) ≡ rowBytes) × (p < 16) ⌝ }
+    requires { ⌜ (low ≤ 6) × (now row ≡ zeros rowBytes) × (p < 16) ⌝ }
     ensures { λ _. ⌜ ((i : ℕ) → i < 2 ^ rowLevels → rowLeaf (now (row .exit)) i ≡ bit (getD (now (plain .entry)) (i / 2 ^ (rowLevels - low)) 0) p) ⌝ }
 {
     let height = ROW_LEVELS - low;
     let count = basics::power(low);
     let mut k: usize = 0;
-    while k < count {
-        write_block(row, height, k, digit_of(plain[k], p));
+    while k != count {
+        change_block(row, height, k, false, digit_of(plain[k], p));
         k += 1;
     }
 }
@@ -44,48 +46,45 @@ fn write_sub_leaves(row: &mut [u8], plan: Plan, p: usize)
     let mut n: usize = 0;
     while n < plan.count {
         let s = plan.subleaf[n] as usize;
-        write_block(row, height, s, digit_of(plan.choice[n], p));
+        let old = first_leaf(row, height, s);
+        change_block(row, height, s, old, digit_of(plan.choice[n], p));
         n += 1;
     }
 }
 
-// Writes the row of the variable whose value is digit p.
-fn write_row(row: &mut [u8], plan: Plan, p: usize)
+// Writes the row of the variable whose value is digit p, which is empty. The plan's choices at the leaves are lent beside it, not copied for each row.
+fn write_row(row: &mut [u8], plan: Plan, plain: &[u16; 64], p: usize)
     requires { ⌜ Showable rowLevels plan ⌝ }
-    requires { ⌜ (length (now row) ≡ rowBytes) × (p < 16) ⌝ }
+    requires { ⌜ (now row ≡ zeros rowBytes) × (now plain ≡ plan .plain) × (p < 16) ⌝ }
     ensures { λ _. ⌜ now (row .exit) ≡ rowOf rowLevels (planTree plan p) ⌝ }
 {
-    let plain = plan.plain;
-    write_leaves(row, &plain, plan.low, p);
+    write_leaves(row, plain, plan.low, p);
     write_sub_leaves(row, plan, p);
 }
 
-// Writes the row of variable v, of n free ones: zero where it is none of them.
-fn show_row(row: &mut [u8], n: usize, plan: Plan, v: usize)
-    requires { ⌜ Showable rowLevels plan ⌝ }
-    requires { ⌜ (length (now row) ≡ rowBytes) × (n ≤ rowCount) ⌝ }
-    ensures { λ _. ⌜ now (row .exit) ≡ variableRow rowLevels n (planTrees n plan) v ⌝ }
+// Empties every row.
+fn empty_rows(answer: &mut [u8])
+    requires { ⌜ answerBytes ≤ length (now answer) ⌝ }
+    ensures { λ _. ⌜ now (answer .exit) ≡ emptied rowLevels (now (answer .entry)) ⌝ }
 {
-    if v < n {
-        write_row(row, plan, n - 1 - v);
-        return;
-    }
-    basics::fill(row, 0);
+    basics::fill(&mut answer[..ANSWER_BYTES], 0);
 }
 
-// Shows a plan of n free variables in the answer buffer.
+// Shows a plan of n free variables in the answer buffer: the rows of other variables stay empty.
 pub fn write_rows(answer: &mut [u8], n: usize, plan: Plan)
     requires { ⌜ Showable rowLevels plan ⌝ }
     requires { ⌜ (answerBytes ≤ length (now answer)) × (n ≤ rowCount) ⌝ }
     ensures { λ _. ⌜ now (answer .exit) ≡ shownAnswer n plan (now (answer .entry)) ⌝ }
 {
+    empty_rows(answer);
+    let plain = plan.plain;
     let mut v: usize = 0;
-    while v < ROW_COUNT {
-        show_row(
+    while v < n {
+        write_row(
             &mut answer[v * ROW_BYTES..v * ROW_BYTES + ROW_BYTES],
-            n,
             plan,
-            v,
+            &plain,
+            n - 1 - v,
         );
         v += 1;
     }

@@ -1,21 +1,27 @@
--- `show::write_leaves` writes every leaf. The loop's invariant: the first k are written. Assumes nothing.
+-- `show::write_leaves` writes every leaf. The loop's invariant: the first k are written, the others are empty. Assumes nothing.
 use native.Mathlib.Omega.{arith}
-use mathlib.Core.Path.{_≡_, refl, sym, _∙_, subst}
-use Prim.Native.Nat.{ℕ, _-_, _/_, _^_, _≤_, _<_}
+use mathlib.Core.Path.{_≡_, refl, sym, ap, _∙_, subst}
+use mathlib.Core.Bool.{Bool}
+use mathlib.Core.List.{List}
+use Prim.Native.Nat.{ℕ, _-_, _^_, _≤_, _<_}
 use lib.Dec.{lit≤}
 use lib.ListN.{length, getD}
 use lib.Pow.{pow-mono}
 use Rattle.shares.specs.Constant.{bit}
 use Rattle.shares.specs.BlockLaws.{block-lt}
-use Rattle.rows.specs.Rows.{rowLevels, rowLeaf}
-use Rattle.rows.specs.Blocks.{Inside}
-use Rattle.rows.specs.BlockLaws.{leaf-inside, blocks-more}
+use Rattle.rows.specs.Rows.{rowLevels, rowBytes}
+use Rattle.rows.specs.RowLaws.{zeros-length}
+use Rattle.rows.specs.Blocks.{Inside, FirstBlocks}
+use Rattle.rows.specs.BlockLaws.{leaf-inside, blocks-none, blocks-next, blocks-more, blocks-all}
 use Rattle.show.proofs.write_leaves.Statement.{statement}
 use Rattle.show.proofs.write_leaves.Tie as tie
 
+-- digit p of the choice at each leaf
+abbrev digits : List ℕ → ℕ → ℕ → Bool
+digits plain p k = bit (getD plain k 0) p
+
 abbrev Inv-loop : tie.InvT-loop
-Inv-loop row₀ plain low p height count k₀ row k =
-    (k ≤ count) × (length row ≡ length row₀) × ((i : ℕ) → i / 2 ^ height < k → rowLeaf row i ≡ bit (getD plain (i / 2 ^ height) 0) p)
+Inv-loop row₀ plain low p height count k₀ row k = (k ≤ count) × (length row ≡ length row₀) × FirstBlocks row height k (digits plain p)
 
 abbrev μ-loop : tie.MeasureT-loop
 μ-loop row₀ plain low p height count k₀ row k = count - k
@@ -27,7 +33,9 @@ power-requires : tie.Need-power-requires Inv-loop μ-loop
 power-requires c κs = omega arith
 
 loop-holds : tie.Need-loop-holds Inv-loop μ-loop
-loop-holds c = (omega arith, refl, λ i l. absurd (omega arith))
+loop-holds c =
+    let start = c .before .before in
+    (omega arith, refl, rw (start .pre .1) (blocks-none _ (digits (start .args .plain .now) (start .args .p)) rowBytes))
 
 mul-digit-of : tie.Need-mul-digit-of Inv-loop μ-loop
 mul-digit-of c = omega (arith, pow-mono (c .before .before .before .before .before .pre .0))
@@ -38,13 +46,16 @@ element-copy-out-digit-of c = omega (arith, pow-mono (c .before .before .before 
 digit-of-requires : tie.Need-digit-of-requires Inv-loop μ-loop
 digit-of-requires c κs = c .before .before .before .before .before .before .pre .2
 
-write-block-requires : tie.Need-write-block-requires Inv-loop μ-loop
-write-block-requires c κs =
+change-block-requires : tie.Need-change-block-requires Inv-loop μ-loop
+change-block-requires c κs =
     let start = c .before .before .before .before .before .before .before in
     let l = c .before .before .before .before .loop in
     let within : start .args .low ≤ rowLevels = omega arith in
     let below : l .k < 2 ^ start .args .low = omega arith in
-    subst (Inside (rowLevels - start .args .low) (l .k)) (sym (l .inv .1 ∙ start .pre .1)) (leaf-inside (lit≤ tt) (lit≤ tt) within below)
+    let size = l .inv .1 ∙ ap length (start .pre .1) ∙ zeros-length rowBytes in (
+      subst (Inside (rowLevels - start .args .low) (l .k)) (sym size) (leaf-inside (lit≤ tt) (lit≤ tt) within below),
+      blocks-next _ (digits (start .args .plain .now) (start .args .p)) _ (l .row) (l .inv .2),
+    )
 
 add-k : tie.Need-add-k Inv-loop μ-loop
 add-k c = omega arith
@@ -57,8 +68,8 @@ loop-again c =
     let start = c .before .before .before .before .before .before .before .before .before .before in
     let l = c .before .before .before .before .before .before .before .loop in (
       omega arith,
-      c .before .before .write-block .kept .0 ∙ l .inv .1,
-      blocks-more _ _ (λ k. bit (getD (start .args .plain .now) k 0) (start .args .p)) _ (l .row) _ (l .inv .2) (c .before .before .write-block .ensures) (c .before .before .before .digit-of .ensures),
+      c .before .before .change-block .kept .0 ∙ l .inv .1,
+      blocks-more _ (digits (start .args .plain .now) (start .args .p)) _ _ (l .row) _ (l .inv .2) (c .before .before .change-block .ensures) (c .before .before .before .digit-of .ensures),
     )
 
 same-length : tie.Need-same-length Inv-loop μ-loop
@@ -68,7 +79,7 @@ returns : tie.Need-returns Inv-loop μ-loop
 returns c =
     let start = c .before .before .before .before in
     let within : start .args .low ≤ rowLevels = omega arith in
-    λ i l. c .before .loop .inv .2 i (omega (arith, block-lt within l))
+    λ i l. blocks-all _ (digits (start .args .plain .now) (start .args .p)) _ (c .before .loop .row) (c .before .loop .inv .2) i (omega (arith, block-lt within l))
 
 pub write-leaves-spec : {M : Type 1} → statement M
 write-leaves-spec =
@@ -82,7 +93,7 @@ write-leaves-spec =
     mul-digit-of
     element-copy-out-digit-of
     digit-of-requires
-    write-block-requires
+    change-block-requires
     add-k
     loop-less
     loop-again

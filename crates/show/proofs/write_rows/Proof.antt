@@ -1,12 +1,11 @@
--- `show::write_rows` shows the plan. The loop's invariant: the first v rows are written, the rest is as it was. Assumes nothing.
+-- `show::write_rows` shows the plan. The loop's invariant: the first v rows are written, the others are zero. Assumes nothing.
 use native.Mathlib.Omega.{arith}
-use mathlib.Core.Path.{_≡_, refl, sym, ap, _∙_}
-use mathlib.Core.List.{_++_}
-use Prim.Native.Nat.{ℕ, _+_, _*_, _-_, _≤_}
-use lib.ListN.{length, drop}
-use Rattle.rows.specs.Rows.{rowLevels, rowBytes, rowCount, variableRow, rowsOf, filledWith}
-use Rattle.rows.specs.RowLaws.{rows-more, rows-whole, variable-length}
+use mathlib.Core.Path.{_≡_, refl, ap, _∙_}
+use Prim.Native.Nat.{ℕ, _+_, _*_, _-_, _≤_, _<_}
+use lib.ListN.{length}
 use Rattle.plans.specs.Shown.{planTrees}
+use Rattle.rows.specs.Rows.{rowLevels, rowBytes, rowCount, filledWith}
+use Rattle.rows.specs.RowLaws.{filled-length, filled-emptied, filled-none, filled-next, filled-more}
 use Rattle.show.proofs.write_rows.Statement.{statement}
 use Rattle.show.proofs.write_rows.Tie as tie
 
@@ -14,38 +13,55 @@ part-size : (k : ℕ) → k + rowBytes - k ≡ rowBytes
 part-size k = omega arith
 
 abbrev Inv-loop : tie.InvT-loop
-Inv-loop answer₀ n plan v₀ answer v = (v ≤ rowCount) × (length answer ≡ length answer₀) × (answer ≡ rowsOf (variableRow rowLevels n (planTrees n plan)) v ++ drop (v * rowBytes) answer₀)
+Inv-loop answer₀ n plan plain v₀ answer v = (v ≤ n) × (length answer ≡ length answer₀) × (answer ≡ filledWith rowLevels v (planTrees n plan) answer₀)
 
 abbrev μ-loop : tie.MeasureT-loop
-μ-loop answer₀ n plan v₀ answer v = rowCount - v
+μ-loop answer₀ n plan plain v₀ answer v = n - v
+
+empty-rows-requires : tie.Need-empty-rows-requires Inv-loop μ-loop
+empty-rows-requires c κs = c .before .before .pre .1 .0
 
 loop-holds : tie.Need-loop-holds Inv-loop μ-loop
-unfolding rowsOf
-loop-holds c = (omega arith, refl, refl)
+loop-holds c =
+    let a = c .before .before .before .before .before .before .args in
+    (omega arith, refl, rw (c .before .before .before .empty-rows .ensures) (filled-none rowLevels (planTrees (a .n) (a .plan)) (a .answer .now)))
 
-mul-show-row : tie.Need-mul-show-row Inv-loop μ-loop
-mul-show-row c = omega arith
+mul-write-row : tie.Need-mul-write-row Inv-loop μ-loop
+mul-write-row c = omega arith
 
-mul-show-row-2 : tie.Need-mul-show-row-2 Inv-loop μ-loop
-mul-show-row-2 c = omega arith
+mul-write-row-2 : tie.Need-mul-write-row-2 Inv-loop μ-loop
+mul-write-row-2 c = omega arith
 
-add-show-row : tie.Need-add-show-row Inv-loop μ-loop
-add-show-row c = omega arith
+add-write-row : tie.Need-add-write-row Inv-loop μ-loop
+add-write-row c = omega arith
 
-sub-show-row : tie.Need-sub-show-row Inv-loop μ-loop
-sub-show-row c = omega arith
+sub-write-row : tie.Need-sub-write-row Inv-loop μ-loop
+sub-write-row c = omega arith
 
-part-show-row-start : tie.Need-part-show-row-start Inv-loop μ-loop
-part-show-row-start c = omega arith
+part-write-row-start : tie.Need-part-write-row-start Inv-loop μ-loop
+part-write-row-start c = omega arith
 
-part-show-row-end : tie.Need-part-show-row-end Inv-loop μ-loop
-part-show-row-end c = omega arith
+part-write-row-end : tie.Need-part-write-row-end Inv-loop μ-loop
+part-write-row-end c = omega arith
 
-show-row-requires : tie.Need-show-row-requires Inv-loop μ-loop
-show-row-requires c κs =
-    let start = c .before .before .before .before in
-    let v = c .before .before .loop .v in
-    (start .pre .0, (sym (c .show-row-arg .given .1) ∙ part-size (v * rowBytes), start .pre .1 .1))
+sub-write-row-2 : tie.Need-sub-write-row-2 Inv-loop μ-loop
+sub-write-row-2 c = omega arith
+
+sub-write-row-3 : tie.Need-sub-write-row-3 Inv-loop μ-loop
+sub-write-row-3 c = omega arith
+
+write-row-requires : tie.Need-write-row-requires Inv-loop μ-loop
+write-row-requires c κs =
+    let start = c .before .before .before .before .before .before .before .before .before .before in
+    let l = c .before .before .before .loop in
+    let next : l .v < rowCount = omega arith in (
+      start .pre .0,
+      (
+        filled-next rowLevels (planTrees (start .args .n) (start .args .plan)) _ (l .v) _ (l .answer) next (part-size (l .v * rowBytes)) (l .inv .2),
+        refl,
+        omega arith,
+      ),
+    )
 
 add-v : tie.Need-add-v Inv-loop μ-loop
 add-v c = omega arith
@@ -55,19 +71,22 @@ loop-less c = omega arith
 
 loop-again : tie.Need-loop-again Inv-loop μ-loop
 loop-again c =
-    let start = c .before .before .before .before .before .before .before in
-    let l = c .before .before .before .before .before .loop in
-    let fits : (l .v + 1) * rowBytes ≤ length (start .args .answer .now) = omega arith in
-    let size = variable-length rowLevels (start .args .n) (planTrees (start .args .n) (start .args .plan)) in
-    let e = rows-more (variableRow rowLevels (start .args .n) (planTrees (start .args .n) (start .args .plan))) rowBytes size (start .args .answer .now) (l .answer) _ (l .v) _ (l .inv .2) (c .before .before .show-row .ensures) (part-size (l .v * rowBytes)) in
-    (omega arith, ap length e ∙ rows-whole (variableRow rowLevels (start .args .n) (planTrees (start .args .n) (start .args .plan))) rowBytes size _ _ fits, e)
+    let start = c .before .before .before .before .before .before .before .before .before .before .before .before .before in
+    let l = c .before .before .before .before .before .before .loop in
+    let next : l .v < rowCount = omega arith in
+    let trees = planTrees (start .args .n) (start .args .plan) in
+    let e = filled-more rowLevels trees _ (l .v) _ (l .answer) next (part-size (l .v * rowBytes)) (l .inv .2) _ (c .before .before .write-row .ensures) in
+    (omega arith, ap length e ∙ filled-length rowLevels _ trees _ (omega arith), e)
 
 same-length : tie.Need-same-length Inv-loop μ-loop
-same-length c = c .before .loop .inv .1
+same-length c = omega arith
 
 returns : tie.Need-returns Inv-loop μ-loop
-unfolding filledWith
-returns c = let past : c .before .loop .v ≡ rowCount = omega arith in rw past at (c .before .loop .inv .2)
+returns c =
+    let start = c .before .before .before .before .before .before .before .before in
+    let all : c .before .loop .v ≡ start .args .n = omega arith in
+    rw (all, c .before .before .before .before .before .empty-rows .ensures) at (c .before .loop .inv .2)
+    ∙ filled-emptied rowLevels (planTrees (start .args .n) (start .args .plan)) (start .args .answer .now) (start .args .n)
 
 pub write-rows-spec : {M : Type 1} → statement M
 write-rows-spec =
@@ -75,14 +94,17 @@ write-rows-spec =
     (tie.spec
     Inv-loop
     μ-loop
+    empty-rows-requires
     loop-holds
-    mul-show-row
-    mul-show-row-2
-    add-show-row
-    sub-show-row
-    part-show-row-start
-    part-show-row-end
-    show-row-requires
+    mul-write-row
+    mul-write-row-2
+    add-write-row
+    sub-write-row
+    part-write-row-start
+    part-write-row-end
+    sub-write-row-2
+    sub-write-row-3
+    write-row-requires
     add-v
     loop-less
     loop-again

@@ -1,14 +1,12 @@
 -- `show::write_sub_leaves` shows every choice with a sub-leaf of its own. The loop's invariant: the first n are shown. Assumes nothing.
 use native.Mathlib.Omega.{arith}
-use mathlib.Core.Path.{_≡_, refl, sym, _∙_, subst}
+use mathlib.Core.Path.{_≡_, refl, _∙_, subst}
 use Prim.Native.Nat.{ℕ, _≤_, _-_}
 use lib.Dec.{lit≤}
-use lib.ListN.{length, getD}
+use lib.ListN.{length}
 use Rattle.rows.specs.Rows.{rowLevels}
-use Rattle.rows.specs.Blocks.{Inside}
-use Rattle.rows.specs.BlockLaws.{leaf-inside}
 use Rattle.show.specs.Plans.{Shows}
-use Rattle.show.specs.PlanLaws.{sub-leaf-small, shows-more}
+use Rattle.show.specs.PlanLaws.{sub-leaf-small, sub-leaf-inside, shows-even, shows-more}
 use Rattle.show.proofs.write_sub_leaves.Statement.{statement}
 use Rattle.show.proofs.write_sub_leaves.Tie as tie
 
@@ -33,35 +31,44 @@ element-copy-out-s c = omega (arith, c .before .before .before .pre .0 .few)
 cast-s : tie.Need-cast-s Inv-loop μ-loop
 cast-s c = omega (arith, sub-leaf-small rowLevels _ (c .before .before .before .before .pre .0) _ (c .before .loop-test .taken))
 
+first-leaf-requires : tie.Need-first-leaf-requires Inv-loop μ-loop
+first-leaf-requires c κs =
+    let start = c .before .before .before .before .before in
+    let l = c .before .before .before .loop in
+    sub-leaf-inside rowLevels _ (start .pre .0) (lit≤ tt) (lit≤ tt) (l .n) _ (c .before .before .loop-test .taken) (l .inv .1 ∙ start .pre .1 .0)
+
 mul-digit-of : tie.Need-mul-digit-of Inv-loop μ-loop
-mul-digit-of c = omega (arith, c .before .before .before .before .before .pre .0 .few)
+mul-digit-of c = omega (arith, c .before .before .before .before .before .before .before .pre .0 .few)
 
 element-copy-out-digit-of : tie.Need-element-copy-out-digit-of Inv-loop μ-loop
-element-copy-out-digit-of c = omega (arith, c .before .before .before .before .before .pre .0 .few)
+element-copy-out-digit-of c = omega (arith, c .before .before .before .before .before .before .before .pre .0 .few)
 
 digit-of-requires : tie.Need-digit-of-requires Inv-loop μ-loop
-digit-of-requires c κs = c .before .before .before .before .before .before .pre .1 .1
+digit-of-requires c κs = c .before .before .before .before .before .before .before .before .pre .1 .1
 
-write-block-requires : tie.Need-write-block-requires Inv-loop μ-loop
-write-block-requires c κs =
-    let start = c .before .before .before .before .before .before .before in
-    let l = c .before .before .before .before .before .loop in
-    let ok = start .pre .0 in
-    subst (Inside (rowLevels - start .args .t2 .high) (getD (start .args .t2 .subleaf) (l .n) 0)) (sym (l .inv .1 ∙ start .pre .1 .0))
-    (leaf-inside (lit≤ tt) (lit≤ tt) (ok .within) (ok .sub-leaves (l .n) (c .before .before .before .before .loop-test .taken)))
+change-block-requires : tie.Need-change-block-requires Inv-loop μ-loop
+change-block-requires c κs =
+    let start = c .before .before .before .before .before .before .before .before .before in
+    let l = c .before .before .before .before .before .before .before .loop in
+    let taken = c .before .before .before .before .before .before .loop-test .taken in (
+      sub-leaf-inside rowLevels _ (start .pre .0) (lit≤ tt) (lit≤ tt) (l .n) _ taken (l .inv .1 ∙ start .pre .1 .0),
+      shows-even rowLevels _ (start .pre .0) (start .args .p) _ _ _ (l .row) (l .inv .2) (start .pre .0 .sub-leaves (l .n) taken) (c .before .before .before .first-leaf .ensures),
+    )
 
 add-n : tie.Need-add-n Inv-loop μ-loop
-add-n c = omega (arith, c .before .before .before .before .before .before .before .before .before .before .pre .0 .few, c .before .before .before .before .before .before .before .loop-test .taken)
+add-n c =
+    omega (arith, c .before .before .before .before .before .before .before .before .before .before .before .before .pre .0 .few, c .before .before .before .before .before .before .before .before .before .loop-test .taken)
 
 loop-less : tie.Need-loop-less Inv-loop μ-loop
 loop-less c = omega arith
 
 loop-again : tie.Need-loop-again Inv-loop μ-loop
 loop-again c =
-    let l = c .before .before .before .before .before .before .before .before .loop in (
+    let start = c .before .before .before .before .before .before .before .before .before .before .before .before in
+    let l = c .before .before .before .before .before .before .before .before .before .before .loop in (
       omega arith,
-      c .before .before .write-block .kept .0 ∙ l .inv .1,
-      shows-more rowLevels _ (c .before .before .before .before .before .before .before .before .before .before .pre .0) _ _ _ (l .row) _ (l .inv .2) (c .before .before .write-block .ensures) (c .before .before .before .digit-of .ensures),
+      c .before .before .change-block .kept .0 ∙ l .inv .1,
+      shows-more rowLevels _ (start .pre .0) _ _ _ (l .row) _ (l .inv .2) (c .before .before .change-block .ensures) (c .before .before .before .digit-of .ensures),
     )
 
 same-length : tie.Need-same-length Inv-loop μ-loop
@@ -84,10 +91,11 @@ write-sub-leaves-spec =
     mul-s
     element-copy-out-s
     cast-s
+    first-leaf-requires
     mul-digit-of
     element-copy-out-digit-of
     digit-of-requires
-    write-block-requires
+    change-block-requires
     add-n
     loop-less
     loop-again
