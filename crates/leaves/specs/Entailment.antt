@@ -8,7 +8,7 @@ use Rattle.leaves.specs.Second.{Second, meets}
 use Rattle.leaves.specs.Fixed.{withMissed}
 
 module _ {X Y : Type 0} (C : Picker X) (D : Picker Y) (h : ℕ) (P : Problem X) (Q : Second X Y) where
-  -- some block has a choice for the first system beside which no own choice meets the second's positive clauses
+  -- some leaf has a choice for the first system beside which no own choice meets the second's positive clauses
   unfoldable pub canBeUnmet : Bool
   canBeUnmet = someBelow (2 ^ h) (λ b. someChoice C (λ x. P .pos b x && not (meets D Q b x)))
 

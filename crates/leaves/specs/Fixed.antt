@@ -14,12 +14,12 @@ module _ {X : Type 0} (C : Picker X) (h : ℕ) (P : Problem X) where
   leafOf j = firstBelow (2 ^ h) (specialAt C P j)
 
   -- from the left, the sub-leaves of a leaf hold its disequations in question order: so many of them stand before disequation j
-  unfoldable pub placeOf : ℕ → ℕ
-  placeOf j = countBelow j (λ i. eqb (leafOf i) (leafOf j))
+  unfoldable pub rankOf : ℕ → ℕ
+  rankOf j = countBelow j (λ i. eqb (leafOf i) (leafOf j))
 
   -- the disequation that sub-leaf r of leaf b holds; their count where it holds nothing more
   unfoldable pub heldAt : ℕ → ℕ → ℕ
-  heldAt b r = firstBelow (P .count) (λ j. eqb (leafOf j) b && eqb (placeOf j) r)
+  heldAt b r = firstBelow (P .count) (λ j. eqb (leafOf j) b && eqb (rankOf j) r)
 
   -- each sub-leaf carries the least choice that meets the positive clauses and what it holds
   unfoldable pub carriedAt : ℕ → ℕ → X

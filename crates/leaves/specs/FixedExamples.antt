@@ -8,7 +8,7 @@ use Rattle.leaves.specs.Choices.{someChoice, Row, nil, cons, at, pickRow
 use Rattle.leaves.specs.RowNumbers.{table}
 use Rattle.leaves.specs.Problem.{Problem, plainAt, specialAt, solvable}
 use Rattle.leaves.specs.Second.{Second, meets, meetsWith}
-use Rattle.leaves.specs.Fixed.{leafOf, placeOf, heldAt, carriedAt, fixedAt, withUnmet, withMissed}
+use Rattle.leaves.specs.Fixed.{leafOf, rankOf, heldAt, carriedAt, fixedAt, withUnmet, withMissed}
 
 -- the four choices: neither variable is full, one is, both are
 abbrev neither : Row Bool 2
@@ -51,15 +51,15 @@ four a b c d r = cons a (cons b (cons c (cons d r)))
 
 -- leaf 0 holds disequations 0 and 2, then nothing more; leaf 1 holds disequation 1, which leaf 0 cannot meet, then nothing more
 first-shown : (solvable (least 2) 1 first ≡ true) × (shown first ≡ four v1 v0 neither neither (four both v1 v1 v1 nil))
-unfolding everyBelow someBelow firstBelow countBelow someChoice at pickRow table plainAt specialAt solvable leafOf placeOf heldAt carriedAt fixedAt
+unfolding everyBelow someBelow firstBelow countBelow someChoice at pickRow table plainAt specialAt solvable leafOf rankOf heldAt carriedAt fixedAt
 first-shown = (refl, refl)
 
 -- reason 2: leaf 0 has a choice that leaves the second's positive clauses unmet, v1, and carries it before its disequations
 unmet-shown : shown (withUnmet (least 1) second first) ≡ four v1 v1 v0 neither (four both v1 v1 v1 nil)
-unfolding firstBelow countBelow someChoice at pickRow table specialAt leafOf placeOf heldAt carriedAt fixedAt meets
+unfolding firstBelow countBelow someChoice at pickRow table specialAt leafOf rankOf heldAt carriedAt fixedAt meets
 unmet-shown = refl
 
 -- reason 3: where neither is full the second's disequation can be met, so that choice does not count, and the idle sub-leaves of leaf 0 carry v1
 missed-shown : shown (withMissed (least 1) second first 0) ≡ four v1 v0 v1 v1 (four both v1 v1 v1 nil)
-unfolding firstBelow countBelow someChoice at pickRow table specialAt leafOf placeOf heldAt carriedAt fixedAt meetsWith
+unfolding firstBelow countBelow someChoice at pickRow table specialAt leafOf rankOf heldAt carriedAt fixedAt meetsWith
 missed-shown = refl

@@ -17,9 +17,9 @@ use Rattle.leaves.specs.Choices.{Picker, someChoice, Row, nil, cons, at,
 use Rattle.leaves.specs.ChoiceLaws.{choice-intro, choice-found, both-intro, both-found, row-path}
 use Rattle.leaves.specs.Problem.{Problem, plainAt, specialAt, solvable}
 use Rattle.leaves.specs.Second.{Second, meets, meetsWith}
-use Rattle.leaves.specs.Fixed.{leafOf, placeOf, heldAt, carriedAt, fixedAt, withUnmet, withMissed}
+use Rattle.leaves.specs.Fixed.{leafOf, rankOf, heldAt, carriedAt, fixedAt, withUnmet, withMissed}
 use Rattle.leaves.specs.FixedWords.{Leftmost, Less, Least, Together, Words, Unmet, UnmetFirst, Counts}
-use Rattle.leaves.specs.ProblemLaws.{plain-passes, block-passes, places-in-order, at-block, rank-lt}
+use Rattle.leaves.specs.ProblemLaws.{plain-passes, block-passes, ranks-in-order, at-block, rank-lt}
 
 and-iff : (a b : Bool) → T (a && b) ↔ (T a × T b)
 and-iff a b = (λ t. (and-left a b t, and-right a b t), λ (s, t). and-intro a b s t)
@@ -110,24 +110,24 @@ module _ {n : ℕ} (h : ℕ) (P : Problem (Row Bool n)) where
   abbrev leafFor : ℕ → ℕ
   leafFor = leafOf (least n) h P
 
-  abbrev placeFor : ℕ → ℕ
-  placeFor = placeOf (least n) h P
+  abbrev rankFor : ℕ → ℕ
+  rankFor = rankOf (least n) h P
 
-  place-left : (j r : ℕ) → r < placeFor j → (i : ℕ) × (i < j) × (leafFor i ≡ leafFor j) × (placeFor i ≡ r)
-  unfolding placeOf
-  place-left j r l =
+  rank-left : (j r : ℕ) → r < rankFor j → (i : ℕ) × (i < j) × (leafFor i ≡ leafFor j) × (rankFor i ≡ r)
+  unfolding rankOf
+  rank-left j r l =
       let (i, m, v, e) = count-reaches j (λ i. eqb (leafFor i) (leafFor j)) r l in
       let s : leafFor i ≡ leafFor j = eqb→eq (leafFor i) (leafFor j) v in
       (i, m, s, ap (λ b. countBelow i (λ k. eqb (leafFor k) b)) s ∙ e)
 
   -- a sub-leaf that holds no disequation
-  holds-none : (b r : ℕ) → ((j : ℕ) → j < P .count → leafFor j ≡ b → ¬ (placeFor j ≡ r)) → T (not (ltb (heldAt (least n) h P b r) (P .count)))
+  holds-none : (b r : ℕ) → ((j : ℕ) → j < P .count → leafFor j ≡ b → ¬ (rankFor j ≡ r)) → T (not (ltb (heldAt (least n) h P b r) (P .count)))
   unfolding heldAt
   holds-none b r none = not-T (ltb (heldAt (least n) h P b r) (P .count)) (λ u.
       let j = heldAt (least n) h P b r in
       let l : j < P .count = ltb→lt j (P .count) u in
-      let v = first-below (P .count) (λ j. eqb (leafFor j) b && eqb (placeFor j) r) l in
-      none j l (eqb→eq (leafFor j) b (and-left (eqb (leafFor j) b) _ v)) (eqb→eq (placeFor j) r (and-right (eqb (leafFor j) b) _ v)))
+      let v = first-below (P .count) (λ j. eqb (leafFor j) b && eqb (rankFor j) r) l in
+      none j l (eqb→eq (leafFor j) b (and-left (eqb (leafFor j) b) _ v)) (eqb→eq (rankFor j) r (and-right (eqb (leafFor j) b) _ v)))
 
   fixed-at : (W b r : ℕ) → r < 2 ^ (W - h) → fixedAt (least n) h P W (b * 2 ^ (W - h) + r) ≡ carriedAt (least n) h P b r
   unfolding fixedAt
@@ -150,16 +150,16 @@ module _ {n : ℕ} (h : ℕ) (P : Problem (Row Bool n)) where
     unfolding carriedAt plainAt someChoice
     fixed-words W enough = record {
       leaf = leafFor;
-      place = placeFor;
+      rank = rankFor;
       leftmost = leaf-leftmost;
       room = λ j l. rank-lt (least n) h P (W - h) j enough l;
-      in-order = λ i j l _ e. places-in-order (least n) h P i j l e;
-      from-left = λ j r _ l. place-left j r l;
+      in-order = λ i j l _ e. ranks-in-order (least n) h P i j l e;
+      from-left = λ j r _ l. rank-left j r l;
       carries = λ j l.
           let b = leafFor j in
           let (x, (p, d)) = leaf-leftmost j l .found in
           rw (
-            fixed-at W b (placeFor j) (rank-lt (least n) h P (W - h) j enough l),
+            fixed-at W b (rankFor j) (rank-lt (least n) h P (W - h) j enough l),
             at-block (least n) h P j l,
             cond-passed (ltb j (P .count)) _ _ (lt→ltb j (P .count) l),
           )
@@ -174,19 +174,19 @@ module _ {n : ℕ} (h : ℕ) (P : Problem (Row Bool n)) where
 module _ {n : ℕ} (h : ℕ) (P : Problem (Row Bool n)) (W : ℕ) where
   -- sub-leaf r of leaf b holds some disequation, or none
   abbrev Held : {s : ℕ → Row Bool n} → Words h P W s → ℕ → ℕ → Type 0
-  Held A b r = (j : ℕ) × (j < P .count) × (A .leaf j ≡ b) × (A .place j ≡ r)
+  Held A b r = (j : ℕ) × (j < P .count) × (A .leaf j ≡ b) × (A .rank j ≡ r)
 
   abbrev Idle : {s : ℕ → Row Bool n} → Words h P W s → ℕ → ℕ → Type 0
-  Idle A b r = (j : ℕ) → j < P .count → A .leaf j ≡ b → ¬ (A .place j ≡ r)
+  Idle A b r = (j : ℕ) → j < P .count → A .leaf j ≡ b → ¬ (A .rank j ≡ r)
 
   holds-or : {s : ℕ → Row Bool n} (A : Words h P W s) (b r : ℕ) → Held A b r ⊎ Idle A b r
   holds-or A b r = go (some-or (P .count) p)
     where
       p : ℕ → Bool
-      p j = eqb (A .leaf j) b && eqb (A .place j) r
+      p j = eqb (A .leaf j) b && eqb (A .rank j) r
 
       go : Below (P .count) p ⊎ ((j : ℕ) → j < P .count → T (not (p j))) → Held A b r ⊎ Idle A b r
-      go (inl (j, l, v)) = inl (j, l, eqb→eq (A .leaf j) b (and-left (eqb (A .leaf j) b) _ v), eqb→eq (A .place j) r (and-right (eqb (A .leaf j) b) _ v))
+      go (inl (j, l, v)) = inl (j, l, eqb→eq (A .leaf j) b (and-left (eqb (A .leaf j) b) _ v), eqb→eq (A .rank j) r (and-right (eqb (A .leaf j) b) _ v))
       go (inr none) = inr (λ j l e f. T-not (p j) (none j l) (and-intro (eqb (A .leaf j) b) _ (rw e (eqb-refl b)) (rw f (eqb-refl r))))
 
   -- every sub-leaf meets the positive clauses
@@ -208,29 +208,29 @@ module _ {n : ℕ} (h : ℕ) (P : Problem (Row Bool n)) (W : ℕ) where
     leaf-one j l = leftmost-one (A .leftmost j l) (B .leftmost j l)
 
     -- a disequation does not stand further left, where those before it stand at the same places
-    place-least : (j : ℕ) → j < P .count → ((i : ℕ) → i < j → A .place i ≡ B .place i) → ¬ (A .place j < B .place j)
-    place-least j l ih m =
-        let (i, k, e, f) = B .from-left j (A .place j) l m in
+    rank-least : (j : ℕ) → j < P .count → ((i : ℕ) → i < j → A .rank i ≡ B .rank i) → ¬ (A .rank j < B .rank j)
+    rank-least j l ih m =
+        let (i, k, e, f) = B .from-left j (A .rank j) l m in
         omega (arith, A .in-order i j k l (leaf-one i (omega arith) ∙ e ∙ sym (leaf-one j l)), ih i k)
 
   module _ {s t : ℕ → Row Bool n} (A : Words h P W s) (B : Words h P W t) where
-    places-below : (k j : ℕ) → j < k → j < P .count → A .place j ≡ B .place j
-    places-below zero j m l = absurd (not-suc-le-zero m)
-    places-below (suc k) j m l =
-        let ih : (i : ℕ) → i < j → A .place i ≡ B .place i = λ i u. places-below k i (omega arith) (omega arith) in
-        omega (arith, place-least A B j l ih, place-least B A j l (λ i u. sym (ih i u)))
+    ranks-below : (k j : ℕ) → j < k → j < P .count → A .rank j ≡ B .rank j
+    ranks-below zero j m l = absurd (not-suc-le-zero m)
+    ranks-below (suc k) j m l =
+        let ih : (i : ℕ) → i < j → A .rank i ≡ B .rank i = λ i u. ranks-below k i (omega arith) (omega arith) in
+        omega (arith, rank-least A B j l ih, rank-least B A j l (λ i u. sym (ih i u)))
 
-    place-one : (j : ℕ) → j < P .count → A .place j ≡ B .place j
-    place-one j l = places-below (suc j) j (omega arith) l
+    rank-one : (j : ℕ) → j < P .count → A .rank j ≡ B .rank j
+    rank-one j l = ranks-below (suc j) j (omega arith) l
 
     choice-one : (b r : ℕ) → b < 2 ^ h → r < 2 ^ (W - h) → s (b * 2 ^ (W - h) + r) ≡ t (b * 2 ^ (W - h) + r)
     choice-one b r l m = go (holds-or A b r)
       where
         go : Held A b r ⊎ Idle A b r → s (b * 2 ^ (W - h) + r) ≡ t (b * 2 ^ (W - h) + r)
         go (inl (j, k, e, f)) =
-            least-one {M = Together P j b} (rw (e, f) at (A .carries j k)) (rw (← (leaf-one A B j k), ← (place-one j k), e, f) at (B .carries j k))
+            least-one {M = Together P j b} (rw (e, f) at (A .carries j k)) (rw (← (leaf-one A B j k), ← (rank-one j k), e, f) at (B .carries j k))
         go (inr none) =
-            least-one (A .idle b r l m none) (B .idle b r l m (λ j k e f. none j k (leaf-one A B j k ∙ e) (place-one j k ∙ f)))
+            least-one (A .idle b r l m none) (B .idle b r l m (λ j k e f. none j k (leaf-one A B j k ∙ e) (rank-one j k ∙ f)))
 
     pub words-one : h ≤ W → (i : ℕ) → i < 2 ^ W → s i ≡ t i
     words-one tall i l =
@@ -255,10 +255,10 @@ module _ {n : ℕ} {Y : Type 0} (D : Picker Y) (h : ℕ) (P : Problem (Row Bool 
       (λ (p, t). (p, N .0 t), λ (p, f). (p, N .1 f))
 
   -- it stands first in its leaf
-  pub unmet-before : (W : ℕ) (s : ℕ → Row Bool n) (A : Words h (withUnmet D Q P) W s) → A .place 0 ≡ 0
-  unmet-before W s A = go (A .place 0) (A .from-left 0 0 (suc-le-suc zero-le))
+  pub unmet-before : (W : ℕ) (s : ℕ → Row Bool n) (A : Words h (withUnmet D Q P) W s) → A .rank 0 ≡ 0
+  unmet-before W s A = go (A .rank 0) (A .from-left 0 0 (suc-le-suc zero-le))
     where
-      go : (r : ℕ) → (0 < r → (i : ℕ) × (i < 0) × (A .leaf i ≡ A .leaf 0) × (A .place i ≡ 0)) → r ≡ 0
+      go : (r : ℕ) → (0 < r → (i : ℕ) × (i < 0) × (A .leaf i ≡ A .leaf 0) × (A .rank i ≡ 0)) → r ≡ 0
       go zero f = refl
       go (suc r) f = absurd (not-suc-le-zero (f (suc-le-suc zero-le) .1))
 

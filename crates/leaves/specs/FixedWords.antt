@@ -34,19 +34,19 @@ Together P j b x = T (P .pos b x) × T (P .dis j b x)
 pub record Words {n : ℕ} (h : ℕ) (P : Problem (Row Bool n)) (W : ℕ) (s : ℕ → Row Bool n) : Type 0 where
   -- the leaf that each disequation goes to, and the sub-leaf there that holds it
   pub leaf : ℕ → ℕ
-  pub place : ℕ → ℕ
+  pub rank : ℕ → ℕ
   -- each disequation goes to the leftmost leaf where it and the positive clauses can be met together
   pub leftmost : (j : ℕ) → j < P .count → Leftmost h (Together P j) (leaf j)
   -- below a leaf stand 2 ^ (W - h) sub-leaves
-  pub room : (j : ℕ) → j < P .count → place j < 2 ^ (W - h)
+  pub room : (j : ℕ) → j < P .count → rank j < 2 ^ (W - h)
   -- they hold the leaf's disequations in question order
-  pub in-order : (i j : ℕ) → i < j → j < P .count → leaf i ≡ leaf j → place i < place j
+  pub in-order : (i j : ℕ) → i < j → j < P .count → leaf i ≡ leaf j → rank i < rank j
   -- from the left: each sub-leaf left of a disequation's holds an earlier one
-  pub from-left : (j r : ℕ) → j < P .count → r < place j → (i : ℕ) × (i < j) × (leaf i ≡ leaf j) × (place i ≡ r)
+  pub from-left : (j r : ℕ) → j < P .count → r < rank j → (i : ℕ) × (i < j) × (leaf i ≡ leaf j) × (rank i ≡ r)
   -- the sub-leaf of a disequation carries the least choice that meets it and the positive clauses
-  pub carries : (j : ℕ) → j < P .count → Least (Together P j (leaf j)) (s (leaf j * 2 ^ (W - h) + place j))
+  pub carries : (j : ℕ) → j < P .count → Least (Together P j (leaf j)) (s (leaf j * 2 ^ (W - h) + rank j))
   -- then nothing more: a sub-leaf that holds none carries the least choice that meets the positive clauses
-  pub idle : (b r : ℕ) → b < 2 ^ h → r < 2 ^ (W - h) → ((j : ℕ) → j < P .count → leaf j ≡ b → ¬ (place j ≡ r))
+  pub idle : (b r : ℕ) → b < 2 ^ h → r < 2 ^ (W - h) → ((j : ℕ) → j < P .count → leaf j ≡ b → ¬ (rank j ≡ r))
       → Least (λ x. T (P .pos b x)) (s (b * 2 ^ (W - h) + r))
 
 -- for reason 2: at leaf b the choice x meets the positive clauses and leaves the second system's unmet

@@ -5,7 +5,7 @@ use Rattle.shares.specs.Below.{firstBelow}
 use Rattle.leaves.specs.Choices.{Row, least}
 use Rattle.leaves.specs.RowNumbers.{value}
 use Rattle.leaves.specs.Problem.{Problem}
-use Rattle.leaves.specs.Fixed.{leafOf, placeOf}
+use Rattle.leaves.specs.Fixed.{leafOf, rankOf}
 
 -- the problem of rows of n values that tests of their numbers pose
 abbrev pub numbered : (n : ℕ) → Problem ℕ → Problem (Row Bool n)
@@ -16,8 +16,8 @@ module _ (n h : ℕ) (R : Problem ℕ) where
   abbrev pub leafFor : ℕ → ℕ
   leafFor j = leafOf (least n) h (numbered n R) j
 
-  abbrev pub rankOf : ℕ → ℕ
-  rankOf j = placeOf (least n) h (numbered n R) j
+  abbrev pub rankFor : ℕ → ℕ
+  rankFor j = rankOf (least n) h (numbered n R) j
 
   -- the least choice for the positive clauses at leaf b
   abbrev pub plainChoice : ℕ → ℕ

@@ -17,7 +17,7 @@ use Rattle.leaves.specs.Room.{Room}
 use Rattle.leaves.specs.Choices.{Picker}
 use Rattle.leaves.specs.ChoiceLaws.{choice-intro, choice-found, both-intro}
 use Rattle.leaves.specs.Problem.{Problem, plainAt, specialAt, solvable}
-use Rattle.leaves.specs.Fixed.{leafOf, placeOf, heldAt, carriedAt, fixedAt}
+use Rattle.leaves.specs.Fixed.{leafOf, rankOf, heldAt, carriedAt, fixedAt}
 use Rattle.leaves.specs.FixedExamples
 use Rattle.leaves.specs.LeafSolutions.{SolvesLeaves, LeafSolution, Leafwise}
 
@@ -63,7 +63,7 @@ module _ {X : Type 0} (C : Picker X) (h : ℕ) (P : Problem X) where
     unfolding carriedAt specialAt heldAt
     special-meets b r l =
         let j = heldAt C h P b r in
-        let v = first-below (P .count) (λ j. eqb (leafOf C h P j) b && eqb (placeOf C h P j) r) l in
+        let v = first-below (P .count) (λ j. eqb (leafOf C h P j) b && eqb (rankOf C h P j) r) l in
         let e : leafOf C h P j ≡ b = eqb→eq (leafOf C h P j) b (and-left (eqb (leafOf C h P j) b) _ v) in
         let u : T (specialAt C P j b) = rw e at (block-passes j l .1) in
         let p : X → Bool = λ x. P .pos b x && P .dis j b x in
@@ -85,12 +85,12 @@ module _ {X : Type 0} (C : Picker X) (h : ℕ) (P : Problem X) where
             (choice-found C (P .pos b) (plain-passes b l))
 
   -- the disequations of a leaf stand in question order
-  pub places-in-order : (i j : ℕ) → i < j → leafOf C h P i ≡ leafOf C h P j → placeOf C h P i < placeOf C h P j
-  unfolding placeOf
-  places-in-order i j l p = rw p (count-lt j (λ i. eqb (leafOf C h P i) (leafOf C h P j)) i l (rw p (eqb-refl (leafOf C h P j))))
+  pub ranks-in-order : (i j : ℕ) → i < j → leafOf C h P i ≡ leafOf C h P j → rankOf C h P i < rankOf C h P j
+  unfolding rankOf
+  ranks-in-order i j l p = rw p (count-lt j (λ i. eqb (leafOf C h P i) (leafOf C h P j)) i l (rw p (eqb-refl (leafOf C h P j))))
 
   -- the disequation that stands where j stands is j
-  pub at-block : (j : ℕ) → j < P .count → heldAt C h P (leafOf C h P j) (placeOf C h P j) ≡ j
+  pub at-block : (j : ℕ) → j < P .count → heldAt C h P (leafOf C h P j) (rankOf C h P j) ≡ j
   unfolding heldAt
   at-block j l = go (eq-or-lt-of-le (first-min (P .count) p j own))
     where
@@ -98,10 +98,10 @@ module _ {X : Type 0} (C : Picker X) (h : ℕ) (P : Problem X) where
       b = leafOf C h P j
 
       r : ℕ
-      r = placeOf C h P j
+      r = rankOf C h P j
 
       p : ℕ → Bool
-      p i = eqb (leafOf C h P i) b && eqb (placeOf C h P i) r
+      p i = eqb (leafOf C h P i) b && eqb (rankOf C h P i) r
 
       own : T (p j)
       own = and-intro (eqb b b) _ (eqb-refl b) (eqb-refl r)
@@ -111,11 +111,11 @@ module _ {X : Type 0} (C : Picker X) (h : ℕ) (P : Problem X) where
       go (inr m) =
           let i = heldAt C h P b r in
           let v : T (p i) = first-passes (P .count) p j l own .1 in
-          let e : placeOf C h P i ≡ r = eqb→eq (placeOf C h P i) r (and-right (eqb (leafOf C h P i) b) _ v) in
-          absurd (omega (arith, places-in-order i j m (eqb→eq (leafOf C h P i) b (and-left (eqb (leafOf C h P i) b) _ v))))
+          let e : rankOf C h P i ≡ r = eqb→eq (rankOf C h P i) r (and-right (eqb (leafOf C h P i) b) _ v) in
+          absurd (omega (arith, ranks-in-order i j m (eqb→eq (leafOf C h P i) b (and-left (eqb (leafOf C h P i) b) _ v))))
 
-  pub rank-lt : (k j : ℕ) → P .count ≤ 2 ^ k → j < P .count → placeOf C h P j < 2 ^ k
-  unfolding placeOf
+  pub rank-lt : (k j : ℕ) → P .count ≤ 2 ^ k → j < P .count → rankOf C h P j < 2 ^ k
+  unfolding rankOf
   rank-lt k j e l = le-trans (suc-le-suc (count-le j (λ i. eqb (leafOf C h P i) (leafOf C h P j)))) (le-trans l e)
 
   -- at height h + k each leaf has 2 ^ k sub-leaves
@@ -131,10 +131,10 @@ module _ {X : Type 0} (C : Picker X) (h : ℕ) (P : Problem X) where
     somewhere = λ j l.
         let f = rank-lt k j e l in
         let g = at-block j l in (
-          leafOf C h P j * 2 ^ k + placeOf C h P j,
+          leafOf C h P j * 2 ^ k + rankOf C h P j,
           leaf-lt h k (block-passes t j l .0) f,
-          rw (block-split, fixed-split k (leafOf C h P j * 2 ^ k + placeOf C h P j), high (leafOf C h P j) k f, low (leafOf C h P j) k f)
-              (rw g at (special-meets t (leafOf C h P j) (placeOf C h P j) (rw g l) .1)),
+          rw (block-split, fixed-split k (leafOf C h P j * 2 ^ k + rankOf C h P j), high (leafOf C h P j) k f, low (leafOf C h P j) k f)
+              (rw g at (special-meets t (leafOf C h P j) (rankOf C h P j) (rw g l) .1)),
         );
   }
 

@@ -10,7 +10,7 @@ use Rattle.shares.specs.BelowLaws.{every-ext, some-ext, first-ext, count-ext}
 use Rattle.leaves.specs.Choices.{Picker, someChoice}
 use Rattle.leaves.specs.Problem.{Problem, plainAt, specialAt, solvable}
 use Rattle.leaves.specs.ProblemLaws.{fixed-split}
-use Rattle.leaves.specs.Fixed.{leafOf, placeOf, heldAt, carriedAt, fixedAt}
+use Rattle.leaves.specs.Fixed.{leafOf, rankOf, heldAt, carriedAt, fixedAt}
 
 module _ {X : Type 0} (C : Picker X) (h : ℕ) (P Q : Problem X) (count : P .count ≡ Q .count)
     (pos : (b : ℕ) → b < 2 ^ h → (x : X) → P .pos b x ≡ Q .pos b x)
@@ -34,15 +34,15 @@ module _ {X : Type 0} (C : Picker X) (h : ℕ) (P Q : Problem X) (count : P .cou
   unfolding leafOf
   block-same j m = first-ext (2 ^ h) _ _ (special-same j m)
 
-  rank-same : (j : ℕ) → j < P .count → placeOf C h P j ≡ placeOf C h Q j
-  unfolding placeOf
+  rank-same : (j : ℕ) → j < P .count → rankOf C h P j ≡ rankOf C h Q j
+  unfolding rankOf
   rank-same j m = count-ext j _ _ (λ i l. ap₂ eqb (block-same i (le-trans l (le-of-lt m))) (block-same j m))
 
   at-same-rank : (b r : ℕ) → heldAt C h P b r ≡ heldAt C h Q b r
   unfolding heldAt
   at-same-rank b r =
       first-ext (P .count) _ _ (λ j m. ap₂ (λ x y. eqb x b && eqb y r) (block-same j m) (rank-same j m))
-      ∙ ap (λ k. firstBelow k (λ j. eqb (leafOf C h Q j) b && eqb (placeOf C h Q j) r)) count
+      ∙ ap (λ k. firstBelow k (λ j. eqb (leafOf C h Q j) b && eqb (rankOf C h Q j) r)) count
 
   choice-same : (b r : ℕ) → b < 2 ^ h → carriedAt C h P b r ≡ carriedAt C h Q b r
   unfolding carriedAt

@@ -3,14 +3,14 @@ use mathlib.Core.Bool.{Bool, _&&_}
 use Prim.Native.Nat.{ℕ}
 use Rattle.leaves.specs.Choices.{Picker, someChoice}
 
--- what the second system asks of an own choice y, beside the free choice x, at block b
+-- what the second system asks of an own choice y, beside the free choice x, at leaf b
 pub record Second (X Y : Type 0) : Type 0 where
   pub pos : ℕ → X → Y → Bool
   pub count : ℕ
   pub dis : ℕ → ℕ → X → Y → Bool
 
 module _ {X Y : Type 0} (D : Picker Y) (Q : Second X Y) where
-  -- at block b some own choice meets the second system's positive clauses beside x
+  -- at leaf b some own choice meets the second system's positive clauses beside x
   unfoldable pub meets : ℕ → X → Bool
   meets b x = someChoice D (Q .pos b x)
 

@@ -7,8 +7,8 @@ use Rattle.shares.specs.Below.{someBelow, countBelow}
 use Rattle.leaves.specs.Choices.{least}
 use Rattle.leaves.specs.ChoiceLaws.{some-number}
 use Rattle.leaves.specs.Problem.{Problem, plainAt, specialAt}
-use Rattle.leaves.specs.Fixed.{placeOf}
-use Rattle.leaves.specs.Numbers.{numbered, leafFor, rankOf}
+use Rattle.leaves.specs.Fixed.{rankOf}
+use Rattle.leaves.specs.Numbers.{numbered, leafFor, rankFor}
 
 module _ (n h : ℕ) (R : Problem ℕ) where
   -- the tests at a leaf as searches of numbers
@@ -21,6 +21,6 @@ module _ (n h : ℕ) (R : Problem ℕ) where
   special-is j b = some-number n (λ x. R .pos b x && R .dis j b x)
 
   -- the rank of one that stands at leaf b: how many before it do
-  pub rank-here : (j b : ℕ) → leafFor n h R j ≡ b → rankOf n h R j ≡ countBelow j (λ i. eqb (leafFor n h R i) b)
-  unfolding placeOf
+  pub rank-here : (j b : ℕ) → leafFor n h R j ≡ b → rankFor n h R j ≡ countBelow j (λ i. eqb (leafFor n h R i) b)
+  unfolding rankOf
   rank-here j b e = ap (λ c. countBelow j (λ i. eqb (leafFor n h R i) c)) e

@@ -14,7 +14,7 @@ use borrow.Author.Tests.{lt-ltb, le-ltb, eq-eqb, ne-eqb}
 use Rattle.shares.specs.Below.{one, countBelow}
 use Rattle.shares.specs.BelowLaws.{count-ext, count-le}
 use Rattle.leaves.specs.Problem.{Problem}
-use Rattle.leaves.specs.Numbers.{leafFor, rankOf, specialChoice}
+use Rattle.leaves.specs.Numbers.{leafFor, rankFor, specialChoice}
 use Rattle.plans.specs.NumberLaws.{rank-here}
 use Rattle.words.specs.Choices.{wordCount}
 use Rattle.words.specs.Kept.{numberAt}
@@ -142,7 +142,7 @@ module _ (o : Outline) (pairs : List ℕ) (R : Problem ℕ) (P : PairsOf (o .fre
       → numberAt pairs (slotOf (o .extra) j) % leafWidth (o .free) ≡ specialChoice (o .free) (o .height) R j (leafFor (o .free) (o .height) R j)
   choice-is j l = ap (λ x. x % leafWidth (o .free)) (P .entries j l) ∙ digits-mod (leafFor (o .free) (o .height) R j) (le-trans (P .within j l) (width-enough (o .free)))
 
-  rank-is : (j : ℕ) → j < R .count → leafCount o pairs j (pairLeaf o pairs j) ≡ rankOf (o .free) (o .height) R j
+  rank-is : (j : ℕ) → j < R .count → leafCount o pairs j (pairLeaf o pairs j) ≡ rankFor (o .free) (o .height) R j
   rank-is j l =
       count-ext j (λ i. eqb (pairLeaf o pairs i) (pairLeaf o pairs j)) (λ i. eqb (leafFor (o .free) (o .height) R i) (leafFor (o .free) (o .height) R j))
       (λ i m. ap₂ eqb (leaf-is i (omega arith)) (leaf-is j l)) ∙ sym (rank-here (o .free) (o .height) R j (leafFor (o .free) (o .height) R j) refl)

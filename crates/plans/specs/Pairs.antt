@@ -7,7 +7,7 @@ use lib.Dec.{ltb, eqb}
 use lib.ListN.{getD}
 use Rattle.shares.specs.Below.{countBelow}
 use Rattle.leaves.specs.Problem.{Problem}
-use Rattle.leaves.specs.Numbers.{leafFor, rankOf, plainChoice, specialChoice}
+use Rattle.leaves.specs.Numbers.{leafFor, rankFor, plainChoice, specialChoice}
 use Rattle.words.specs.Choices.{wordCount}
 use Rattle.words.specs.Kept.{numberAt}
 use Rattle.plans.specs.declared.Plan.{Plan}
@@ -54,5 +54,5 @@ pub record Made (n h : ℕ) (R : Problem ℕ) (k : ℕ) (plan : Plan) : Type 0 w
   pub high : plan .high ≡ h + k
   pub count : plan .count ≡ R .count
   pub plains : (b : ℕ) → b < 2 ^ h → getD (plan .plain) b 0 ≡ plainChoice n h R b
-  pub sub-leaves : (j : ℕ) → j < R .count → getD (plan .subleaf) j 0 ≡ leafFor n h R j * 2 ^ k + rankOf n h R j
+  pub sub-leaves : (j : ℕ) → j < R .count → getD (plan .subleaf) j 0 ≡ leafFor n h R j * 2 ^ k + rankFor n h R j
   pub choices : (j : ℕ) → j < R .count → getD (plan .choice) j 0 ≡ specialChoice n h R j (leafFor n h R j)

@@ -20,7 +20,7 @@ use Rattle.leaves.specs.Fixed.{heldAt, carriedAt, fixedAt}
 use Rattle.leaves.specs.ProblemLaws.{at-block, rank-lt, plain-passes, block-passes, fixed-split}
 use Rattle.plans.specs.declared.Plan.{Plan}
 use Rattle.plans.specs.Shown.{planChoiceAfter, planChoice}
-use Rattle.leaves.specs.Numbers.{numbered, leafFor, rankOf, plainChoice, specialChoice}
+use Rattle.leaves.specs.Numbers.{numbered, leafFor, rankFor, plainChoice, specialChoice}
 use Rattle.leaves.specs.ChoiceLaws.{pick-number}
 use Rattle.plans.specs.NumberLaws.{plain-is, special-is}
 use Rattle.plans.specs.Pairs.{Made}
@@ -36,21 +36,21 @@ module _ (n h : ℕ) (R : Problem ℕ) (k : ℕ) (plan : Plan) (M : Made n h R k
   g = heldAt (least n) h (numbered n R) b r
 
   -- the disequation at a sub-leaf stands there
-  at-there : g < R .count → (leafFor n h R g ≡ b) × (rankOf n h R g ≡ r)
+  at-there : g < R .count → (leafFor n h R g ≡ b) × (rankFor n h R g ≡ r)
   unfolding heldAt g
   at-there l =
-      let t = first-below (R .count) (λ j. eqb (leafFor n h R j) b && eqb (rankOf n h R j) r) l in (
+      let t = first-below (R .count) (λ j. eqb (leafFor n h R j) b && eqb (rankFor n h R j) r) l in (
         eqb→eq (leafFor n h R g) b (and-left (eqb (leafFor n h R g) b) _ t),
-        eqb→eq (rankOf n h R g) r (and-right (eqb (leafFor n h R g) b) _ t),
+        eqb→eq (rankFor n h R g) r (and-right (eqb (leafFor n h R g) b) _ t),
       )
 
   -- and the one that stands there is the disequation at it
-  there-at : (j : ℕ) → j < R .count → s ≡ leafFor n h R j * 2 ^ k + rankOf n h R j → (j ≡ g) × (leafFor n h R j ≡ b)
+  there-at : (j : ℕ) → j < R .count → s ≡ leafFor n h R j * 2 ^ k + rankFor n h R j → (j ≡ g) × (leafFor n h R j ≡ b)
   unfolding b r g
   there-at j l e =
       let m = rank-lt (least n) h (numbered n R) k j room l in
       let e₁ : b ≡ leafFor n h R j = ap (λ x. x / 2 ^ k) e ∙ high (leafFor n h R j) k m in
-      let e₂ : r ≡ rankOf n h R j = ap (λ x. x % 2 ^ k) e ∙ low (leafFor n h R j) k m in
+      let e₂ : r ≡ rankFor n h R j = ap (λ x. x % 2 ^ k) e ∙ low (leafFor n h R j) k m in
       (sym (ap₂ (heldAt (least n) h (numbered n R)) e₁ e₂ ∙ at-block (least n) h (numbered n R) j l), sym e₁)
 
   -- the plan once its first m entries stand
@@ -74,7 +74,7 @@ module _ (n h : ℕ) (R : Problem ℕ) (k : ℕ) (plan : Plan) (M : Made n h R k
           not-m : g ≡ m → ⊥
           not-m q =
               let (at, rank) = at-there (omega arith) in
-              e (sym (split s k) ∙ ap₂ (λ x y. x * 2 ^ k + y) (sym at) (sym rank) ∙ ap (λ j. leafFor n h R j * 2 ^ k + rankOf n h R j) q ∙ sym (M .sub-leaves m l))
+              e (sym (split s k) ∙ ap₂ (λ x y. x * 2 ^ k + y) (sym at) (sym rank) ∙ ap (λ j. leafFor n h R j * 2 ^ k + rankFor n h R j) q ∙ sym (M .sub-leaves m l))
 
           other : Dec (g < m) → cond (eqb s (getD (plan .subleaf) m 0)) (getD (plan .choice) m 0) (planChoiceAfter plan m s)
               ≡ cond (ltb g (suc m)) (specialChoice n h R g b) (plainChoice n h R b)
