@@ -719,8 +719,8 @@ struct Workspace {
     std::array<std::uint8_t, ZIMORGAL_WORK_BYTES> work{};
 };
 
-// A shown solution, to be read from the workspace that the question was asked with, until the next asking with it.
-// Empty if none is shown.
+// A shown solution, to be read from the workspace that the question was asked with, until the next asking with it: of
+// several the fixed one, so that the same question always shows the same. Empty if none is shown.
 class Solution {
   public:
     Solution() noexcept = default;

@@ -63,7 +63,11 @@ def test_format():
     seen = []
     for row in tables(markdown):
         name = f"FORMAT.md, {' | '.join(row.values())}"
-        if "prints" in row:
+        if "SPEC" in row:
+            due = [line.strip("`") for line in row["prints"].split("<br>")]
+            check(name, program(example_bytes(row["bytes"])), due)
+            seen += [row["SPEC"]]
+        elif "prints" in row:
             due = [line.strip("`") for line in row["prints"].split("<br>")]
             check(name, program(example_bytes(row["bytes"])), due)
             if row["number"].startswith("`0x"):
@@ -87,6 +91,7 @@ def test_format():
             check(name, program(constant_question(int(row["a"].strip("`"), 16)))[1], f"height {row['zimorgal_height(a)']}")
             seen += ["height"]
     due = {"answer no", "v00 (o*)", "reason 0", "reason 1", "reason 2", "reason 3 1", "tree", "join", "height"}
+    due |= {f"4.5.{sentence}" for sentence in range(1, 6)}
     check("FORMAT.md has an example of everything", due | {f"refused {number}" for number in range(1, 11)}, set(seen))
 
 

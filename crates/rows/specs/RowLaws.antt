@@ -16,7 +16,8 @@ use Rattle.shares.specs.Tree.{Tree, leaf, Folded, height, leafAt}
 use Rattle.shares.specs.TreeLaws.{treeOf-ext, treeOf-leaf, treeOf-leafAt, leafAt-treeOf}
 use Rattle.shares.specs.Constant.{bit, numberOf}
 use Rattle.shares.specs.BitLaws.{bit-zero, bits-same, number-lt, bit-number}
-use Rattle.rows.specs.Rows.{rowCount, bytesAt, rowLeaf, rowTree, listOf, rowOf, emptyRange, rowRange, rowPart, zeros, variableRow, rowsOf, filledWith, emptied}
+use Rattle.rows.specs.Rows.{rowCount, bytesAt, rowLeaf, rowTree, listOf, rowOf, emptyRange, rowRange, rowPart, zeros, variableRow, rowsOf, filledWith}
+use Rattle.rows.specs.Emptied.{emptied}
 
 -- ---- below one more
 

@@ -79,7 +79,3 @@ rowsOf f (suc n) = rowsOf f n ++ f n
 -- a buffer that is filled with the rows of those trees, up to what is past them
 unfoldable pub filledWith : ℕ → ℕ → (ℕ → Tree) → List ℕ → List ℕ
 filledWith k n f answer = rowsOf (variableRow k n f) rowCount ++ drop (rowCount * bytesAt k) answer
-
--- a buffer whose rows are all zero, up to what is past them
-unfoldable pub emptied : ℕ → List ℕ → List ℕ
-emptied k answer = zeros (rowCount * bytesAt k) ++ drop (rowCount * bytesAt k) answer

@@ -10,7 +10,8 @@ ghost use Prim.Native.Nat.{ℕ, _-_, _/_, _^_, _<_, _≤_};
 ghost use lib.ListN.{length, getD};
 ghost use Rattle.shares.specs.Constant.{bit};
 ghost use Rattle.plans.specs.Shown.{Showable, planTree};
-ghost use Rattle.rows.specs.Rows.{rowLevels, rowBytes, rowCount, answerBytes, rowLeaf, rowOf, zeros, emptied};
+ghost use Rattle.rows.specs.Rows.{rowLevels, rowBytes, rowCount, answerBytes, rowLeaf, rowOf, zeros};
+ghost use Rattle.rows.specs.Emptied.{emptied};
 ghost use Rattle.show.specs.Plans.{Shows, shownAnswer};
 
 // Digit p of a choice.

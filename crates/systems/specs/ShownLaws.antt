@@ -8,7 +8,6 @@ use native.Mathlib.Omega.{arith}
 use lib.Dec.{T, ltb, ltb→lt}
 use Rattle.shares.specs.Test.{cond-law}
 use Rattle.shares.specs.BelowLaws.{first-below}
-use Rattle.shares.specs.Blocks.{blockOf}
 use Rattle.shares.specs.Tree.{leaf, height}
 use Rattle.shares.specs.TreeLaws.{share-path, treeOf-ext, treeOf-leaf, treeOf-height, leafAt-treeOf, equal-iff}
 use Rattle.leaves.specs.Heights.{c}
@@ -17,7 +16,7 @@ use Rattle.leaves.specs.Choices.{Row, at, least}
 use Rattle.leaves.specs.ChoiceLaws.{at-past}
 use Rattle.leaves.specs.Problem.{solvable}
 use Rattle.leaves.specs.Fixed.{fixedAt}
-use Rattle.leaves.specs.FixedWords.{UnmetFirst, Counts}
+use Rattle.leaves.specs.FixedWords.{Words}
 use Rattle.leaves.specs.FixedLaws.{fixed-words, words-positive, words-one, unmet-words, missed-means}
 use Rattle.leaves.specs.Entailment.{canBeMissed, firstMissed}
 use Rattle.leaves.specs.SecondLaws.{unmet-solvable}
@@ -26,7 +25,7 @@ use Rattle.systems.specs.Questions.{Kind, satisfiability, entailment, Qu
 use Rattle.systems.specs.Answers.{Answer, satisfied, unsatisfied, vacuous, entailed, unmet, missed, shows, heightGiven}
 use Rattle.systems.specs.AtLeaves.{firstAt, secondAt}
 use Rattle.systems.specs.Decide.{canSolve, someUnmet, lowestMissed, decideKind, decideAt, sharesOf, askedFor, shownWith, shownAt}
-use Rattle.systems.specs.ShownWords.{ShownFixed}
+use Rattle.systems.specs.ShownWords.{ReasonWords, ShownFixed}
 
 shares-past : {n : ℕ} (k : ℕ) (s : ℕ → Row Bool n) (v : ℕ) → n ≤ v → sharesOf k s v .tree ≡ leaf false
 unfolding sharesOf
@@ -95,27 +94,30 @@ module _ (h : ℕ) (q : Question) where
 
   -- ---- it is the solution that the words fix
 
+  -- with a no, what they say of its reason
+  reason-words : (a : Answer) → T (shows a) → (s : ℕ → Row Bool (q .free)) → Words h (askedFor h q a) (heightGiven h q a) s
+      → ReasonWords h q a (heightGiven h q a) s
+  reason-words satisfied t s A = tt
+  reason-words unsatisfied t s A = tt
+  reason-words vacuous t s A = tt
+  reason-words entailed t s A = tt
+  reason-words unmet t s A = unmet-words (least (q .own)) h (firstAt h q) (secondAt h q) (heightGiven h q unmet) s A
+  reason-words (missed j) t s A = λ i l.
+      missed-means (least (q .own)) h (firstAt h q) (secondAt h q) j _ (s i) .0
+      (words-positive h (askedFor h q (missed j)) (heightGiven h q (missed j)) A (given-tall (missed j) tt) i l)
+
   pub shown-fixed : T (shows (decideAt h q)) → ShownFixed h q (decideAt h q) (shownAt h q)
   unfolding sharesOf
   shown-fixed t =
       let a = decideAt h q in
+      let A = fixed-words h (askedFor h q a) (asked-solvable t) (heightGiven h q a) (given-room a t) in
       record {
         values = fixedAt (least (q .free)) h (askedFor h q a) (heightGiven h q a);
-        words = fixed-words h (askedFor h q a) (asked-solvable t) (heightGiven h q a) (given-room a t);
+        words = A;
+        reason = reason-words a t _ A;
         leaves = λ v _ i l. leafAt-treeOf (heightGiven h q a) _ i l;
         low = λ v _. shown-low h q v a t;
       }
-
-  -- with reason 2 the leftmost leaf that can be unmet carries the least such choice in its first sub-leaf
-  pub fixed-unmet : (σ : Assignment) (S : ShownFixed h q unmet σ) → UnmetFirst h (firstAt h q) (secondAt h q) (heightGiven h q unmet) (S .values)
-  fixed-unmet σ S = unmet-words (least (q .own)) h (firstAt h q) (secondAt h q) (heightGiven h q unmet) (S .values) (S .words)
-
-  -- with reason 3 every sub-leaf carries a choice that counts
-  pub fixed-missed : (j : ℕ) (σ : Assignment) (S : ShownFixed h q (missed j) σ) (i : ℕ) → i < 2 ^ heightGiven h q (missed j)
-      → Counts (firstAt h q) (secondAt h q) j (blockOf h (heightGiven h q (missed j)) i) (S .values i)
-  fixed-missed j σ S i l =
-      missed-means (least (q .own)) h (firstAt h q) (secondAt h q) j _ (S .values i) .0
-      (words-positive h (askedFor h q (missed j)) (heightGiven h q (missed j)) (S .words) (given-tall (missed j) tt) i l)
 
   -- there is no other
   pub one-shown : (a : Answer) → T (shows a) → (σ τ : Assignment) → ShownFixed h q a σ → ShownFixed h q a τ → (v : ℕ) → v < q .free → σ v ≡ τ v

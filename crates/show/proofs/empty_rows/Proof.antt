@@ -4,7 +4,8 @@ use mathlib.Core.List.{_++_}
 use Prim.Native.Nat.{ℕ}
 use lib.ListN.{drop, replicate}
 use lib.Seq.{length-take-le}
-use Rattle.rows.specs.Rows.{answerBytes, zeros, emptied}
+use Rattle.rows.specs.Rows.{answerBytes, zeros}
+use Rattle.rows.specs.Emptied.{emptied}
 use borrow.Author.Needs.{needs}
 use Rattle.show.proofs.empty_rows.Statement.{statement}
 use Rattle.show.proofs.empty_rows.Tie as tie
