@@ -12,7 +12,7 @@ ghost use Rattle.words.specs.Clause.{clauseTest, Clauses};
 ghost use Rattle.entries.specs.Entry.{Kept, KeptAll, common, Marked, MarkedAll};
 
 // Keeps word number `turn` as that of search e, with the choices y in it that pass, if there are any and the search has found none yet.
-pub fn keep_least(e: usize, turn: usize, y: u64, met: u64, pairs: &mut [u64]) -> u64
+pub fn keep_word(e: usize, turn: usize, y: u64, met: u64, pairs: &mut [u64]) -> u64
     requires { ⌜ (e < 64) × (turn < 2048) × (length (now pairs) ≡ 128) ⌝ }
     ensures { λ r. ⌜ Kept e turn (bit y) met (now (pairs .entry)) r (now (pairs .exit)) ⌝ }
 {
@@ -45,7 +45,7 @@ fn keep_one(
         return met;
     }
     let y = words::failing_word(terms, clauses, FIRST_DISEQUATIONS + 4 * i, x);
-    keep_least(i, turn, y, met, pairs)
+    keep_word(i, turn, y, met, pairs)
 }
 
 // Keeps for each disequation of the first system the choices of x in which it holds, if there are any and it has found none yet.

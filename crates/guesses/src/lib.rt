@@ -27,8 +27,8 @@ fn passes_below(passing: Passing, end: usize) -> bool
     choices & ((1 << (end - start)) - 1) != 0
 }
 
-// The values of the least choice that passes. The variables are guessed in order: `left` are left to guess, and the choices with the values guessed so
-// far are the 2^left from `low` on.
+// The values of the least choice that passes. The variables are guessed in order, each empty first: the values are copied, the guess is kept if a choice
+// that passes has it, and otherwise replaced by full. `left` are left to guess, and the choices with the values so far are the 2^left from `low` on.
 fn least_values(passing: Passing, free: usize) -> [u8; 12]
     requires { ⌜ (free ≤ 12) × (leastNumber passing < 2 ^ free) ⌝ }
     ensures { λ r. ⌜ Values r × (choiceNumber free r ≡ leastNumber passing) ⌝ }

@@ -21,6 +21,7 @@ use Rattle.beside.specs.GatherLaws.{words-le}
 use Rattle.entries.specs.Entry.{Entry, WordOf, Kept, KeptAll}
 use Rattle.entries.specs.EntryLaws.{some-word, entry-none, entry-same}
 use Rattle.plans.specs.Pairs.{leafWidth}
+use Rattle.plans.specs.PairLaws.{number-leaf, number-choice}
 use Rattle.steps.specs.Tests.{leafValues, firstMeets, firstDiffers, secondMeets, secondDiffers, allowedIn}
 use Rattle.steps.specs.Steps.{storedBy, onPairs, meetsHere, unmetHere, Second, Amid, OthersKept}
 use Rattle.steps.specs.TestLaws.{differs-bits}
@@ -34,12 +35,8 @@ use Rattle.steps.specs.declared.Seen.{Seen}
 pub pair-parts : (n b w k : ℕ) → w < wordCount n → k < 64
     → ((64 * (b * wordCount n + w) + k) / leafWidth n ≡ b) × ((64 * (b * wordCount n + w) + k) % leafWidth n ≡ 64 * w + k)
 pair-parts n b w k l m =
-    let e : 64 * (b * wordCount n + w) + k ≡ b * (64 * wordCount n) + (64 * w + k) = regroup b (wordCount n) w k in
-    let small : 64 * w + k < 64 * wordCount n = omega arith in
-    (ap (λ u. u / leafWidth n) e ∙ digits-div b small, ap (λ u. u % leafWidth n) e ∙ digits-mod b small)
-  where
-    regroup : (b c w k : ℕ) → 64 * (b * c + w) + k ≡ b * (64 * c) + (64 * w + k)
-    regroup b c w k = omega (arith, native.Mathlib.Nat.mul-left-comm b 64 c)
+    let t = b * wordCount n + w in
+    (sym (number-leaf t k n m) ∙ digits-div b l, sym (number-choice t k n m) ∙ ap (λ v. 64 * v + k) (digits-mod b l))
 
 pub on-pairs : (S : Stored) (h b w k : ℕ) (f : ℕ → ℕ → Bool) → w < wordCount (S .free) → k < 64
     → onPairs S h f (64 * (b * wordCount (S .free) + w) + k) ≡ f (leafValues S h b) (64 * w + k)

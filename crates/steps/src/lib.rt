@@ -126,7 +126,7 @@ fn second_word(
         seen.possible,
         rows,
     );
-    let met = entries::keep_least(31, at.turn, none, seen.met, pairs);
+    let met = entries::keep_word(31, at.turn, none, seen.met, pairs);
     if seen.possible == 0 {
         return Seen {
             met,
@@ -171,7 +171,7 @@ pub fn pass_word(
         return seen;
     }
     let turn = spot.leaf * words::word_count(sizes.free) + spot.word;
-    let least = entries::keep_least(32 + spot.leaf, spot.word, x, seen.met, pairs);
+    let least = entries::keep_word(32 + spot.leaf, spot.word, x, seen.met, pairs);
     let met = entries::keep_all(terms, clauses, sizes.counts[1], turn, x, least, pairs);
     let kept = Seen {
         met,

@@ -20,14 +20,14 @@ add-failing-word c = search needs
 failing-word-requires : tie.Need-failing-word-requires
 failing-word-requires c κs = search needs
 
-keep-least-requires : tie.Need-keep-least-requires
-keep-least-requires c κs = search needs
+keep-word-requires : tie.Need-keep-word-requires
+keep-word-requires c κs = search needs
 
 same-length : tie.Need-same-length
 same-length c = search needs
 
 returns-2 : tie.Need-returns-2
-returns-2 c = kept-as _ _ _ _ _ _ _ _ (λ k l. c .before .before .before .before .failing-word .ensures k l) (c .before .before .keep-least .ensures)
+returns-2 c = kept-as _ _ _ _ _ _ _ _ (λ k l. c .before .before .before .before .failing-word .ensures k l) (c .before .before .keep-word .ensures)
 
 pub keep-one-spec : {M : Type 1} → statement M
 keep-one-spec =
@@ -38,6 +38,6 @@ keep-one-spec =
     mul-failing-word
     add-failing-word
     failing-word-requires
-    keep-least-requires
+    keep-word-requires
     same-length
     returns-2)

@@ -27,7 +27,7 @@ add-if1 : tie.Need-add-if1 Inv-loop μ-loop
 add-if1 c = omega arith
 
 slot-of-requires : tie.Need-slot-of-requires Inv-loop μ-loop
-slot-of-requires c κs = c .before .before .before .before .before .pre .0 .extra
+slot-of-requires c κs = omega (arith, c .before .before .before .before .before .pre .0 .extra)
 
 word-at-requires : tie.Need-word-at-requires Inv-loop μ-loop
 word-at-requires c κs =

@@ -47,11 +47,11 @@ mul-turn c = rw (c .before .word-count .ensures) (omega (arith, few-turns (c .be
 add-turn : tie.Need-add-turn
 add-turn c = rw (c .before .before .word-count .ensures) (omega (arith, few-turns (c .before .before .before .before .before .before .before)))
 
-add-keep-least : tie.Need-add-keep-least
-add-keep-least c = search needs
+add-keep-word : tie.Need-add-keep-word
+add-keep-word c = search needs
 
-keep-least-requires : tie.Need-keep-least-requires
-keep-least-requires c κs = let s = c .before .before .before .before .before .before .before .before .before in (omega (arith, s .pre .1 .1), omega (arith, s .pre .1 .2, words-le (s .args .t3 .free) (omega (arith, s .pre .0 .variables))), omega arith)
+keep-word-requires : tie.Need-keep-word-requires
+keep-word-requires c κs = let s = c .before .before .before .before .before .before .before .before .before in (omega (arith, s .pre .1 .1), omega (arith, s .pre .1 .2, words-le (s .args .t3 .free) (omega (arith, s .pre .0 .variables))), omega arith)
 
 element-copy-out-keep-all : tie.Need-element-copy-out-keep-all
 element-copy-out-keep-all c = search needs
@@ -76,7 +76,7 @@ returns-2 c =
     let s = c .before .before .before .before .before .before .before .before .before .before .before .before .before .before .before .before in
     let a = s .args in
     let W = c .before .before .before .before .before .before .before .before .before .before .before .before .before .allowed-word .ensures in
-    let K = c .before .before .before .before .before .before .keep-least .ensures in
+    let K = c .before .before .before .before .before .before .keep-word .ensures in
     let L = rw (c .before .before .before .before .before .before .before .before .before .before .before .word-count .ensures) at (c .before .before .keep-all .ensures) in (
       λ values t. W .0 values t .0,
       (
@@ -95,7 +95,7 @@ returns-3 c =
     let s = c .before .before .before .before .before .before .before .before .before .before .before .before .before .before .before .before .before .before .before .before in
     let a = s .args in
     let W = c .before .before .before .before .before .before .before .before .before .before .before .before .before .before .before .before .before .allowed-word .ensures in
-    let K = c .before .before .before .before .before .before .before .before .before .before .keep-least .ensures in
+    let K = c .before .before .before .before .before .before .before .before .before .before .keep-word .ensures in
     let L = rw (c .before .before .before .before .before .before .before .before .before .before .before .before .before .before .before .word-count .ensures) at (c .before .before .before .before .before .before .keep-all .ensures) in
     let e = c .before .before .before .before .enum-told2 .given .1 in
     let Q = c .second-word .ensures in (
@@ -121,7 +121,7 @@ returns-4 c =
     let s = c .before .before .before .before .before .before .before .before .before .before .before .before .before .before .before .before in
     let a = s .args in
     let W = c .before .before .before .before .before .before .before .before .before .before .before .before .before .allowed-word .ensures in
-    let K = c .before .before .before .before .before .before .keep-least .ensures in
+    let K = c .before .before .before .before .before .before .keep-word .ensures in
     let L = rw (c .before .before .before .before .before .before .before .before .before .before .before .word-count .ensures) at (c .before .before .keep-all .ensures) in (
       λ values t. W .0 values t .0,
       (
@@ -144,8 +144,8 @@ pass-word-spec =
     word-count-requires
     mul-turn
     add-turn
-    add-keep-least
-    keep-least-requires
+    add-keep-word
+    keep-word-requires
     element-copy-out-keep-all
     keep-all-requires
     enum-told

@@ -17,15 +17,15 @@ returns c =
 missing-requires : tie.Need-missing-requires
 missing-requires c κs = let s = c .before .before .before .before in (s .pre .0, (s .pre .1 .0, omega arith, s .pre .1 .2))
 
-keep-least-requires : tie.Need-keep-least-requires
-keep-least-requires c κs = search needs
+keep-word-requires : tie.Need-keep-word-requires
+keep-word-requires c κs = search needs
 
 returns-2 : tie.Need-returns-2
 returns-2 c =
     let s = c .before .before .before .before .before .before .before .before .before in
     let a = s .args in
     let M = c .before .before .before .before .missing .ensures in
-    let K = c .before .before .keep-least .ensures in (
+    let K = c .before .before .keep-word .ensures in (
       λ values t. (
         M .0 values t .0,
         λ first. second-alone (a .t3) (a .clauses .now) (s .pre .0) values (a .at) (a .seen) _ _ first _ _ (M .0 values t .1) (M .1) (sym (c .before .before .before .before .before .before .before .before .digit .ensures) ∙ c .before .before .before .before .before .before .before .if1 .left) _ _ K (c .if2 .taken),
@@ -53,7 +53,7 @@ returns-3 c =
     let s = c .before .before .before .before .before .before .before .before .before .before .before .before .before .before .before .before .before in
     let a = s .args in
     let M = c .before .before .before .before .before .before .before .before .before .before .before .before .missing .ensures in
-    let K = c .before .before .before .before .before .before .before .before .before .before .keep-least .ensures in
+    let K = c .before .before .before .before .before .before .before .before .before .before .keep-word .ensures in
     let F = c .before .before .before .before .fill-failing .ensures in (
       λ values t. (
         M .0 values t .0,
@@ -71,7 +71,7 @@ second-word-spec =
     digit-requires
     returns
     missing-requires
-    keep-least-requires
+    keep-word-requires
     returns-2
     element-copy-out-fill-failing
     fill-failing-requires

@@ -1,4 +1,4 @@
--- `entries::keep_least` meets its contract. Assumes nothing.
+-- `entries::keep_word` meets its contract. Assumes nothing.
 use mathlib.Core.Path.{sym, ap, _∙_}
 use native.Mathlib.Omega.{arith}
 use borrow.Author.Needs.{needs}
@@ -7,8 +7,8 @@ use Rattle.entries.specs.EntryLaws.{kept-before, kept-none, kept-found}
 use Rattle.shares.specs.BitLaws.{bit-zero}
 use Rattle.shares.specs.Constant.{bit}
 use Rattle.words.specs.Shifts.{power-shift}
-use Rattle.entries.proofs.keep_least.Statement.{statement}
-use Rattle.entries.proofs.keep_least.Tie as tie
+use Rattle.entries.proofs.keep_word.Statement.{statement}
+use Rattle.entries.proofs.keep_word.Tie as tie
 
 digit-requires : tie.Need-digit-requires
 digit-requires c κs = search needs
@@ -52,8 +52,8 @@ returns-3 c =
     rw (power-shift (a .e) (omega arith))
     (kept-found (a .e) (a .turn) (a .y) (a .met) (a .pairs .now) (omega arith) (search needs) (c .if2 .left) (sym (c .before .before .digit .ensures) ∙ c .before .if1 .left))
 
-pub keep-least-spec : {M : Type 1} → statement M
-keep-least-spec =
+pub keep-word-spec : {M : Type 1} → statement M
+keep-word-spec =
     tie.close
     (tie.spec
     digit-requires
