@@ -129,8 +129,9 @@ enum zimorgal_reason {
 
    A solution is shown for a satisfiability that is yes, and for an entailment that is no: one of the first system that
    does not extend. Of several solutions one is fixed (docs/FORMAT.md, "Which solution is shown"), so that the same
-   question always shows the same. It fills the first 1,536 bytes of the answer buffer: 12 rows of 128, row v for free variable v,
-   unfolded to height 10, bits as in a constant; the other rows are zero. Otherwise the answer buffer is unchanged.
+   question always shows the same. It fills the first 1,536 bytes of the answer buffer: 12 rows of 128, row v for free
+   variable v, unfolded to height 10, bits as in a constant; the other rows are zero. Otherwise the answer buffer is
+   unchanged.
    After a yes or a no the first 4,096 bytes of the work area are zero. Bytes past those are never touched. */
 ZIMORGAL_READS(1, 2)
 ZIMORGAL_WRITES(3, 4)

@@ -2,6 +2,7 @@
 
 use crate::asking::{median_round, Buffers};
 use crate::families::Family;
+use brute::fixed::rows;
 use brute::question::read;
 use brute::single::decide;
 use std::hint::black_box;
@@ -29,7 +30,8 @@ fn route_b_says(bytes: &[u8]) -> Option<Said> {
 
 fn ask_route_b(bytes: &[u8]) {
     if let Ok(question) = read(black_box(bytes)) {
-        black_box(decide(&question));
+        let outcome = decide(&question);
+        black_box(rows(&question, &outcome));
     }
 }
 

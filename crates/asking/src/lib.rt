@@ -80,13 +80,13 @@ fn found(sizes: Sizes, finding: Finding) -> Outcome
 }
 
 // Shows the solution of what was found, where there is one to show.
-fn show_solution(answer: &mut [u8], sizes: Sizes, finding: Finding, pairs: &[u64; 128])
+fn show_solution(answer: &mut [u8], sizes: Sizes, finding: Finding, firsts: &[u64; 128])
     requires { ⌜ answerBytes ≤ length (now answer) ⌝ }
-    requires { ⌜ ((q : model.Question) × DecidedFor sizes finding (now pairs) q) ⌝ }
-    ensures { λ _. ⌜ ((q : model.Question) → DecidedFor sizes finding (now (pairs .entry)) q → now (answer .exit) ≡ answerAfter (answered q) (now (answer .entry))) ⌝ }
+    requires { ⌜ ((q : model.Question) × DecidedFor sizes finding (now firsts) q) ⌝ }
+    ensures { λ _. ⌜ ((q : model.Question) → DecidedFor sizes finding (now (firsts .entry)) q → now (answer .exit) ≡ answerAfter (answered q) (now (answer .entry))) ⌝ }
 {
     if decide::is_shown(finding) {
-        let plan = decide::plan(sizes, finding, pairs);
+        let plan = decide::plan(sizes, finding, firsts);
         show::write_rows(answer, sizes.free, plan);
     }
 }
@@ -118,9 +118,9 @@ pub fn ask(question: &[u8], answer: &mut [u8], work: &mut [u8]) -> Outcome
         return refused(12, 0);
     }
     let sizes = decide::sizes_of(reading.question);
-    let mut pairs = [0u64; 128];
-    let finding = decide::decide(reading.question, sizes, &clauses, &mut pairs);
-    show_solution(answer, sizes, finding, &pairs);
+    let mut firsts = [0u64; 128];
+    let finding = decide::decide(reading.question, sizes, &clauses, &mut firsts);
+    show_solution(answer, sizes, finding, &firsts);
     clear_work(work);
     found(sizes, finding)
 }

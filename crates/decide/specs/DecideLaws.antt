@@ -73,35 +73,35 @@ module _ {k : ℕ} (x : Stored) (q : Question) (St : Stands k x q) where
 
   -- ---- a finding with which a solution is shown, and one with which none is
 
-  with-pairs : (f : Finding) (pairs : List ℕ) → decide q ≡ answerOf f → SolvedAs x H (searchOf f) true pairs → Decided x q f pairs
-  with-pairs f pairs d D = record { answer = sym d; solved = λ _. D }
+  with-pairs : (f : Finding) (firsts : List ℕ) → decide q ≡ answerOf f → SolvedAs x H (searchOf f) true firsts → Decided x q f firsts
+  with-pairs f firsts d D = record { answer = sym d; solved = λ _. D }
 
-  without-pairs : (f : Finding) (pairs : List ℕ) → shows (answerOf f) ≡ false → decide q ≡ answerOf f → Decided x q f pairs
-  without-pairs f pairs s d = record { answer = sym d; solved = λ t. absurd (rw (d, s) at t) }
+  without-pairs : (f : Finding) (firsts : List ℕ) → shows (answerOf f) ≡ false → decide q ≡ answerOf f → Decided x q f firsts
+  without-pairs f firsts s d = record { answer = sym d; solved = λ t. absurd (rw (d, s) at t) }
 
   -- ---- of satisfiability
 
-  module _ (found : Bool) (pairs : List ℕ) (D : SolvedAs x H First found pairs) (kind : q .kind ≡ satisfiability) where
-    pub decided-satisfied : found ≡ true → Decided x q Satisfied pairs
+  module _ (found : Bool) (firsts : List ℕ) (D : SolvedAs x H First found firsts) (kind : q .kind ≡ satisfiability) where
+    pub decided-satisfied : found ≡ true → Decided x q Satisfied firsts
     unfolding decideKind
     decided-satisfied e =
         let d : decide q ≡ satisfied = rw (kind, sym (D .found-is ∙ first-is) ∙ e) in
-        with-pairs Satisfied pairs d (rw e at D)
+        with-pairs Satisfied firsts d (rw e at D)
 
-    pub decided-unsatisfied : found ≡ false → Decided x q Unsatisfied pairs
+    pub decided-unsatisfied : found ≡ false → Decided x q Unsatisfied firsts
     unfolding decideKind
     decided-unsatisfied e =
         let d : decide q ≡ unsatisfied = rw (kind, sym (D .found-is ∙ first-is) ∙ e) in
-        without-pairs Unsatisfied pairs refl d
+        without-pairs Unsatisfied firsts refl d
 
   -- ---- of an entailment
 
-  module _ (r : Survey) (pairs : List ℕ) (E : SurveyedAs x H r pairs) (kind : q .kind ≡ entailment) where
-    pub decided-vacuous : r .solvable ≡ false → Decided x q Vacuous pairs
+  module _ (r : Survey) (firsts : List ℕ) (E : SurveyedAs x H r firsts) (kind : q .kind ≡ entailment) where
+    pub decided-vacuous : r .solvable ≡ false → Decided x q Vacuous firsts
     unfolding decideKind
     decided-vacuous e =
         let d : decide q ≡ vacuous = rw (kind, sym (E .solvable-is ∙ first-is) ∙ e) in
-        without-pairs Vacuous pairs refl d
+        without-pairs Vacuous firsts refl d
 
     module _ (e : r .solvable ≡ true) where
       can : canSolve H q ≡ true
@@ -110,12 +110,12 @@ module _ {k : ℕ} (x : Stored) (q : Question) (St : Stands k x q) where
       unmet-found : r .unmet ≡ solvable (least (q .free)) H (withUnmet (least (q .own)) (secondAt H q) (firstAt H q))
       unmet-found = E .unmet-is (of-true e) ∙ unmet-is
 
-      pub decided-unmet : r .unmet ≡ true → Decided x q Unmet pairs
+      pub decided-unmet : r .unmet ≡ true → Decided x q Unmet firsts
       unfolding decideKind
       decided-unmet f =
           let breaks : someUnmet H q ≡ true = is-true _ (unmet-somewhere H q (of-true (sym unmet-found ∙ f))) in
           let d : decide q ≡ unmet = rw (kind, can, breaks) in
-          with-pairs Unmet pairs d
+          with-pairs Unmet firsts d
           (record { found-is = sym f ∙ E .unmet-is (of-true e); pairs-are = λ _. E .pairs-are (of-true e) (of-true f) })
 
       module _ (f : r .unmet ≡ false) where
@@ -131,11 +131,11 @@ module _ {k : ℕ} (x : Stored) (q : Question) (St : Stands k x q) where
         lowest : r .missed ≡ lowestMissed H q
         lowest = missed-is ∙ lowest-is
 
-        pub decided-entailed : getD (x .counts) 3 0 ≤ r .missed → Decided x q Entailed pairs
+        pub decided-entailed : getD (x .counts) 3 0 ≤ r .missed → Decided x q Entailed firsts
         unfolding decideKind
         decided-entailed l =
             let d : decide q ≡ entailed = rw (kind, can, holds-on, ← lowest, ← count, le-ltb (r .missed) (getD (x .counts) 3 0) l) in
-            without-pairs Entailed pairs refl d
+            without-pairs Entailed firsts refl d
 
         pub decided-missed : r .missed < getD (x .counts) 3 0 → (found : Bool) (third : List ℕ) → SolvedAs x H (Missed (r .missed)) found third
             → Decided x q (Missed (r .missed)) third

@@ -1,4 +1,4 @@
--- What deciding hands over: the model's answer, and the pairs of the question's fixed solution, with its plan. Assumes nothing.
+-- What deciding hands over: the model's answer, and the first words of the question's fixed solution, with its plan. Assumes nothing.
 use mathlib.Core.Path.{_≡_}
 use mathlib.Core.Bool.{true}
 use mathlib.Core.List.{List}
@@ -62,17 +62,17 @@ searchOf (Missed j) = Missed j
 
 -- ---- the decision of a question
 
--- what is stored as x stands for q: the answer is q's, and where a solution is shown its search is solved, by these pairs
-pub record Decided (x : Stored) (q : Asked) (r : Finding) (pairs : List ℕ) : Type 0 where
+-- what is stored as x stands for q: the answer is q's, and where a solution is shown its search is solved, by these first words
+pub record Decided (x : Stored) (q : Asked) (r : Finding) (firsts : List ℕ) : Type 0 where
   pub answer : answerOf r ≡ decide q
-  pub solved : T (shows (decide q)) → SolvedAs x (questionHeight q) (searchOf r) true pairs
+  pub solved : T (shows (decide q)) → SolvedAs x (questionHeight q) (searchOf r) true firsts
 
 -- the same of every question of a kind that numbers, clauses' bytes and constants stand for, where those kept of the constants pose the same tests
 abbrev pub DecidedAs : Kind → Sizes → List ℕ → List ℕ → Finding → List ℕ → Type 0
-DecidedAs kind sizes clauses kept r pairs =
+DecidedAs kind sizes clauses kept r firsts =
     (constants : List ℕ) → SameSearches (storedBy sizes clauses kept) (storedBy sizes clauses constants)
     → (k : ℕ) (q : Asked) → Stands k (storedBy sizes clauses constants) q → q .kind ≡ kind → sizes .height ≡ questionHeight q
-    → Decided (storedBy sizes clauses constants) q r pairs
+    → Decided (storedBy sizes clauses constants) q r firsts
 
 -- a question that was read stands for q, with some clauses
 pub record StandsFor (x : Question) (q : Asked) : Type 0 where
@@ -85,10 +85,10 @@ pub record SizedFor (sizes : Sizes) (q : Asked) : Type 0 where
   pub standing : StandsFor question q
   pub sized : sizes ≡ sizesOf question
 
--- and this was found, with these pairs
-pub record DecidedFor (sizes : Sizes) (r : Finding) (pairs : List ℕ) (q : Asked) : Type 0 where
+-- and this was found, with these first words
+pub record DecidedFor (sizes : Sizes) (r : Finding) (firsts : List ℕ) (q : Asked) : Type 0 where
   pub sizing : SizedFor sizes q
-  pub decided : Decided (storedOf (sizing .question) (sizing .standing .clauses)) q r pairs
+  pub decided : Decided (storedOf (sizing .question) (sizing .standing .clauses)) q r firsts
 
 -- ---- its plan
 

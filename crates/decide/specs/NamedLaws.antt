@@ -8,7 +8,7 @@ use Rattle.shares.specs.BelowLaws.{first-ext}
 use Rattle.leaves.specs.Choices.{least}
 use Rattle.leaves.specs.Problem.{Problem, solvable}
 use Rattle.leaves.specs.Numbers.{numbered, leafFor, specialChoice}
-use Rattle.leaves.specs.SameLaws.{solvable-same, block-same}
+use Rattle.leaves.specs.SameLaws.{solvable-same, leaf-same}
 use Rattle.format.specs.Stored.{Stored, stored}
 use Rattle.plans.specs.Pairs.{leafWidth, PairsOf}
 use Rattle.steps.specs.Tests.{Named}
@@ -25,7 +25,7 @@ module _ (n h : ℕ) (P R : Problem ℕ) (S : SameTests P R) where
   same-solvable = solvable-same (least n) h (numbered n P) (numbered n R) (S .count) (λ b l v. S .pos b _) (λ j m b l v. S .dis j m b _)
 
   same-leaf : (e : ℕ) → e < P .count → leafFor n h P e ≡ leafFor n h R e
-  same-leaf = block-same (least n) h (numbered n P) (numbered n R) (S .count) (λ b l v. S .pos b _) (λ j m b l v. S .dis j m b _)
+  same-leaf = leaf-same (least n) h (numbered n P) (numbered n R) (S .count) (λ b l v. S .pos b _) (λ j m b l v. S .dis j m b _)
 
   same-choice : (e : ℕ) → e < P .count → specialChoice n h P e (leafFor n h P e) ≡ specialChoice n h R e (leafFor n h R e)
   same-choice e l =
@@ -33,7 +33,7 @@ module _ (n h : ℕ) (P R : Problem ℕ) (S : SameTests P R) where
       ∙ ap (specialChoice n h R e) (same-leaf e l)
 
   -- the same pairs
-  same-pairs : {extra : ℕ} {pairs : List ℕ} → PairsOf n h P extra pairs → PairsOf n h R extra pairs
+  same-pairs : {extra : ℕ} {firsts : List ℕ} → PairsOf n h P extra firsts → PairsOf n h R extra firsts
   same-pairs D = record {
     plains = λ b l. D .plains b l ∙ first-ext (2 ^ n) _ _ (λ z m. S .pos b z);
     entries = λ e l.
@@ -55,13 +55,13 @@ module _ (clauses counts kept constants : List ℕ) (defined n m : ℕ)
   solvable-in : (search : Search) → Named counts search → solvableIn S′ h search ≡ solvableIn S h search
   solvable-in search N = same-solvable n h _ _ (same h search N)
 
-  pub solved-same : (search : Search) → Named counts search → {found : Bool} {pairs : List ℕ} → SolvedAs S′ h search found pairs → SolvedAs S h search found pairs
+  pub solved-same : (search : Search) → Named counts search → {found : Bool} {firsts : List ℕ} → SolvedAs S′ h search found firsts → SolvedAs S h search found firsts
   solved-same search N D = record {
     found-is = D .found-is ∙ solvable-in search N;
     pairs-are = λ t. same-pairs n h _ _ (same h search N) (D .pairs-are t);
   }
 
-  pub surveyed-same : {r : Survey} {pairs : List ℕ} → SurveyedAs S′ h r pairs → SurveyedAs S h r pairs
+  pub surveyed-same : {r : Survey} {firsts : List ℕ} → SurveyedAs S′ h r firsts → SurveyedAs S h r firsts
   surveyed-same D = record {
     solvable-is = D .solvable-is ∙ solvable-in First tt;
     unmet-is = λ t. D .unmet-is t ∙ solvable-in Unmet tt;

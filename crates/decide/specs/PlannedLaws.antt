@@ -1,4 +1,4 @@
--- The pairs of a decision can be planned, and the plan of them is that of the question's fixed solution. Assumes nothing.
+-- The first words of a finding can be planned, and the plan of them is that of the question's fixed solution. Assumes nothing.
 use mathlib.Core.Path.{_≡_, refl, sym, ap, _∙_}
 use mathlib.Core.Bool.{Bool, true, false, cond}
 use mathlib.Core.List.{List}
@@ -22,7 +22,7 @@ use Rattle.leaves.specs.Choices.{Row, least}
 use Rattle.leaves.specs.RowNumbers.{value}
 use Rattle.leaves.specs.Problem.{Problem}
 use Rattle.leaves.specs.Fixed.{fixedAt}
-use Rattle.leaves.specs.ProblemLaws.{plain-passes, block-passes, rank-lt}
+use Rattle.leaves.specs.ProblemLaws.{plain-passes, leaf-passes, rank-lt}
 use Rattle.leaves.specs.Numbers.{numbered, leafFor, plainChoice, specialChoice}
 use Rattle.plans.specs.NumberLaws.{plain-is}
 use Rattle.systems.specs.Clauses.{Assignment}
@@ -84,7 +84,7 @@ module _ {kind : ℕ} (x : Stored) (q : Question) (St : Stands kind x q) where
   abbrev Q : Stored
   Q = withVariables x (q .free) (q .own)
 
-  solved-at : {search : Search} {found : Bool} {pairs : List ℕ} → SolvedAs x H search found pairs → SolvedAs Q H search found pairs
+  solved-at : {search : Search} {found : Bool} {firsts : List ℕ} → SolvedAs x H search found firsts → SolvedAs Q H search found firsts
   solved-at D = rw (← (St .free), ← (St .own)) D
 
   module _ (search : Search) where
@@ -102,7 +102,7 @@ module _ {kind : ℕ} (x : Stored) (q : Question) (St : Stands kind x q) where
 
     module _ (can : T (solvableIn Q H search)) where
       -- pairs of it can be planned
-      fitting : {pairs : List ℕ} → PairsOf (q .free) H R (extraOf search) pairs → Fitting (outlineOf q search) pairs
+      fitting : {firsts : List ℕ} → PairsOf (q .free) H R (extraOf search) firsts → Fitting (outlineOf q search) firsts
       fitting P = record {
         variables = omega (arith, St .variables, St .free);
         low = question-low x q St;
@@ -110,7 +110,7 @@ module _ {kind : ℕ} (x : Stored) (q : Question) (St : Stands kind x q) where
         extra = extra-most search;
         few = count-few x q St;
         plains = λ b l. rw (P .plains b l) (least-lt b l);
-        entries = λ e l. let m : e < R .count = rw tests-count l in rw (P .entries e m) (digits-lt (block-passes (least (q .free)) H (numbered (q .free) R) can e m .0) (wide e m));
+        entries = λ e l. let m : e < R .count = rw tests-count l in rw (P .entries e m) (digits-lt (leaf-passes (least (q .free)) H (numbered (q .free) R) can e m .0) (wide e m));
         choices = λ e l. let m : e < R .count = rw tests-count l in rw (P .entries e m, digits-mod (leafFor (q .free) H R e) (wide e m)) (P .within e m);
       }
         where
@@ -134,7 +134,7 @@ module _ {kind : ℕ} (x : Stored) (q : Question) (St : Stands kind x q) where
           sub-leaves = λ j l.
               let m : j < R .count = rw (M .count) at l in
               rw (M .high, M .sub-leaves j m)
-              (leaf-lt H k (block-passes (least (q .free)) H (numbered (q .free) R) can j m .0) (rank-lt (least (q .free)) H (numbered (q .free) R) k j room m));
+              (leaf-lt H k (leaf-passes (least (q .free)) H (numbered (q .free) R) can j m .0) (rank-lt (least (q .free)) H (numbered (q .free) R) k j room m));
         }
 
         -- its trees are those of the question's problem
@@ -170,18 +170,18 @@ module _ {kind : ℕ} (x : Stored) (q : Question) (St : Stands kind x q) where
 
   -- ---- of a decision
 
-  module _ (f : Finding) (pairs : List ℕ) (D : Decided x q f pairs) (t : T (shows (answerOf f))) where
-    solved : SolvedAs Q H (searchOf f) true pairs
+  module _ (f : Finding) (firsts : List ℕ) (D : Decided x q f firsts) (t : T (shows (answerOf f))) where
+    solved : SolvedAs Q H (searchOf f) true firsts
     solved = solved-at (D .solved (rw (D .answer) at t))
 
     can : T (solvableIn Q H (searchOf f))
     can = of-true (sym (solved .found-is))
 
-    pub decided-fits : Fitting (outlineOf q (searchOf f)) pairs
+    pub decided-fits : Fitting (outlineOf q (searchOf f)) firsts
     decided-fits = fitting (searchOf f) can (solved .pairs-are tt)
 
     pub decided-planned : (plan : Plan)
-        → ((R : Problem ℕ) → R .count ≡ extraOf (searchOf f) + firstCount q → PairsOf (q .free) H R (extraOf (searchOf f)) pairs
+        → ((R : Problem ℕ) → R .count ≡ extraOf (searchOf f) + firstCount q → PairsOf (q .free) H R (extraOf (searchOf f)) firsts
         → Made (q .free) H R (c (roomOf (searchOf f) (firstCount q))) plan)
         → Planned q plan
     decided-planned plan made =

@@ -84,29 +84,29 @@ fn decide_satisfiability(
     clauses: &[u8; CLAUSE_BYTES],
     sizes: Sizes,
     constants: &[u64; 32],
-    pairs: &mut [u64; 128],
+    firsts: &mut [u64; 128],
 ) -> Finding
     requires { ⌜ Readable (now clauses) (sizes .counts) (sizes .free) (sizes .own) × (sizes .defined ≤ 32) × (sizes .height ≤ 5) ⌝ }
-    ensures { λ r. ⌜ DecidedAs satisfiability sizes (now (clauses .entry)) (now (constants .entry)) r (now (pairs .exit)) ⌝ }
+    ensures { λ r. ⌜ DecidedAs satisfiability sizes (now (clauses .entry)) (now (constants .entry)) r (now (firsts .exit)) ⌝ }
 {
-    if search::solve(clauses, sizes, constants, Search::First, pairs) {
+    if search::solve(clauses, sizes, constants, Search::First, firsts) {
         return Finding::Satisfied;
     }
     Finding::Unsatisfied
 }
 
-// Decides an entailment, by those of the constants that are kept: one pass says everything but which pairs a solution has that misses a
+// Decides an entailment, by those of the constants that are kept: one pass says everything but the first words of a solution that misses a
 // disequation.
 fn decide_entailment(
     clauses: &[u8; CLAUSE_BYTES],
     sizes: Sizes,
     constants: &[u64; 32],
-    pairs: &mut [u64; 128],
+    firsts: &mut [u64; 128],
 ) -> Finding
     requires { ⌜ Readable (now clauses) (sizes .counts) (sizes .free) (sizes .own) × (sizes .defined ≤ 32) × (sizes .height ≤ 5) ⌝ }
-    ensures { λ r. ⌜ DecidedAs entailment sizes (now (clauses .entry)) (now (constants .entry)) r (now (pairs .exit)) ⌝ }
+    ensures { λ r. ⌜ DecidedAs entailment sizes (now (clauses .entry)) (now (constants .entry)) r (now (firsts .exit)) ⌝ }
 {
-    let survey = search::survey_leaves(clauses, sizes, constants, pairs);
+    let survey = search::survey_leaves(clauses, sizes, constants, firsts);
     if !survey.solvable {
         return Finding::Vacuous;
     }
@@ -115,29 +115,29 @@ fn decide_entailment(
     }
     let j = survey.missed;
     if j < sizes.counts[3] {
-        search::solve(clauses, sizes, constants, Search::Missed(j), pairs);
+        search::solve(clauses, sizes, constants, Search::Missed(j), firsts);
         return Finding::Missed(j);
     }
     Finding::Entailed
 }
 
-// Decides a question that was read, whose numbers and clauses are lent with a table for the pairs of the solution to show. Its height is that of all its
+// Decides a question that was read, whose numbers and clauses are lent with a table for the first words of the solution to show. Its height is that of all its
 // constants; the tests at the leaves read those that some clause names.
 pub fn decide(
     question: Question,
     sizes: Sizes,
     clauses: &[u8; CLAUSE_BYTES],
-    pairs: &mut [u64; 128],
+    firsts: &mut [u64; 128],
 ) -> Finding
     requires { ⌜ Standing question (now clauses) × (sizes ≡ sizesOf question) ⌝ }
-    ensures { λ r. ⌜ ((q : Asked) → Stands (question .kind) (storedOf question (now (clauses .entry))) q → WellFormed q → Decided (storedOf question (now (clauses .entry))) q r (now (pairs .exit))) ⌝ }
+    ensures { λ r. ⌜ ((q : Asked) → Stands (question .kind) (storedOf question (now (clauses .entry))) q → WellFormed q → Decided (storedOf question (now (clauses .entry))) q r (now (firsts .exit))) ⌝ }
 {
     let mut constants = question.constants;
     named::keep_named(clauses, sizes, &mut constants);
     if question.kind == 0 {
-        return decide_satisfiability(clauses, sizes, &constants, pairs);
+        return decide_satisfiability(clauses, sizes, &constants, firsts);
     }
-    decide_entailment(clauses, sizes, &constants, pairs)
+    decide_entailment(clauses, sizes, &constants, firsts)
 }
 
 // ---- the solution that is shown
@@ -220,10 +220,10 @@ pub fn height_given(sizes: Sizes, finding: Finding) -> usize
 }
 
 // The plan of the solution that is shown with a finding.
-pub fn plan(sizes: Sizes, finding: Finding, pairs: &[u64; 128]) -> Plan
-    requires { ⌜ ((q : Asked) × DecidedFor sizes finding (now pairs) q) ⌝ }
+pub fn plan(sizes: Sizes, finding: Finding, firsts: &[u64; 128]) -> Plan
+    requires { ⌜ ((q : Asked) × DecidedFor sizes finding (now firsts) q) ⌝ }
     requires { ⌜ T (shows (answerOf finding)) ⌝ }
-    ensures { λ r. ⌜ ((q : Asked) → DecidedFor sizes finding (now (pairs .entry)) q → Planned q r) ⌝ }
+    ensures { λ r. ⌜ ((q : Asked) → DecidedFor sizes finding (now (firsts .entry)) q → Planned q r) ⌝ }
 {
-    plans::plan_of(pairs, outline(sizes, search_of(finding)))
+    plans::plan_of(firsts, outline(sizes, search_of(finding)))
 }

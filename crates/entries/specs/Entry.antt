@@ -12,25 +12,25 @@ use Rattle.words.specs.Kept.{numberAt}
 -- ---- the first number that passes
 
 -- entry e after t words: its bit says whether some number passes p, and then its number is the first
-pub record Entry (p : ℕ → Bool) (t met : ℕ) (pairs : List ℕ) (e : ℕ) : Type 0 where
+pub record Entry (p : ℕ → Bool) (t met : ℕ) (firsts : List ℕ) (e : ℕ) : Type 0 where
   pub found : bit met e ≡ someBelow (64 * t) p
-  pub stored : T (bit met e) → numberAt pairs e ≡ firstBelow (64 * t) p
+  pub stored : T (bit met e) → numberAt firsts e ≡ firstBelow (64 * t) p
 
 -- the numbers of word t that pass p are the bits of a word
 abbrev pub WordOf : (ℕ → Bool) → (ℕ → Bool) → ℕ → Type 0
 WordOf word p t = (i : ℕ) → i < 64 → word i ≡ p (64 * t + i)
 
 -- entry e after word t, of which `word` has the bits. Nothing else changes
-pub record Kept (e t : ℕ) (word : ℕ → Bool) (met : ℕ) (pairs : List ℕ) (met′ : ℕ) (pairs′ : List ℕ) : Type 0 where
-  pub entry : (p : ℕ → Bool) → WordOf word p t → Entry p t met pairs e → Entry p (t + 1) met′ pairs′ e
+pub record Kept (e t : ℕ) (word : ℕ → Bool) (met : ℕ) (firsts : List ℕ) (met′ : ℕ) (firsts′ : List ℕ) : Type 0 where
+  pub entry : (p : ℕ → Bool) → WordOf word p t → Entry p t met firsts e → Entry p (t + 1) met′ firsts′ e
   pub met-kept : (k : ℕ) → (k ≡ e → ⊥) → bit met′ k ≡ bit met k
-  pub pairs-kept : (k : ℕ) → (k ≡ e → ⊥) → numberAt pairs′ k ≡ numberAt pairs k
+  pub firsts-kept : (k : ℕ) → (k ≡ e → ⊥) → numberAt firsts′ k ≡ numberAt firsts k
 
 -- the same of the first `count` entries
-pub record KeptAll (count t : ℕ) (word : ℕ → ℕ → Bool) (met : ℕ) (pairs : List ℕ) (met′ : ℕ) (pairs′ : List ℕ) : Type 0 where
-  pub entry : (e : ℕ) → e < count → (p : ℕ → Bool) → WordOf (word e) p t → Entry p t met pairs e → Entry p (t + 1) met′ pairs′ e
+pub record KeptAll (count t : ℕ) (word : ℕ → ℕ → Bool) (met : ℕ) (firsts : List ℕ) (met′ : ℕ) (firsts′ : List ℕ) : Type 0 where
+  pub entry : (e : ℕ) → e < count → (p : ℕ → Bool) → WordOf (word e) p t → Entry p t met firsts e → Entry p (t + 1) met′ firsts′ e
   pub met-kept : (k : ℕ) → count ≤ k → bit met′ k ≡ bit met k
-  pub pairs-kept : (k : ℕ) → count ≤ k → numberAt pairs′ k ≡ numberAt pairs k
+  pub firsts-kept : (k : ℕ) → count ≤ k → numberAt firsts′ k ≡ numberAt firsts k
 
 -- ---- marks
 

@@ -31,8 +31,8 @@ module _ (p : ℕ → Bool) (t : ℕ) where
       let (i, m, u) = Rattle.shares.specs.BelowLaws.some-found (64 * t) p s in
       is-true (someBelow (64 * t′) p) (some-intro (64 * t′) p i (omega arith) u)
 
-  pub entry-stays : (t′ met : ℕ) (pairs : List ℕ) (e : ℕ) → t ≤ t′ → bit met e ≡ true → Entry p t met pairs e → Entry p t′ met pairs e
-  entry-stays t′ met pairs e l b E =
+  pub entry-stays : (t′ met : ℕ) (firsts : List ℕ) (e : ℕ) → t ≤ t′ → bit met e ≡ true → Entry p t met firsts e → Entry p t′ met firsts e
+  entry-stays t′ met firsts e l b E =
       let s : T (someBelow (64 * t) p) = of-true (sym (E .found) ∙ b) in
       record {
         found = b ∙ sym (some-stays t′ l s);
@@ -40,22 +40,22 @@ module _ (p : ℕ → Bool) (t : ℕ) where
       }
 
   -- nothing passes in this word
-  pub entry-none : (met : ℕ) (pairs : List ℕ) (e : ℕ) → ((i : ℕ) → i < 64 → p (64 * t + i) ≡ false) → Entry p t met pairs e → Entry p (t + 1) met pairs e
-  entry-none met pairs e none E = go (bit met e) refl
+  pub entry-none : (met : ℕ) (firsts : List ℕ) (e : ℕ) → ((i : ℕ) → i < 64 → p (64 * t + i) ≡ false) → Entry p t met firsts e → Entry p (t + 1) met firsts e
+  entry-none met firsts e none E = go (bit met e) refl
     where
       same : someBelow (64 * (t + 1)) p ≡ someBelow (64 * t) p
       same = some-word t p ∙ ap (_||_ (someBelow (64 * t) p)) (some-none 64 (λ i. p (64 * t + i)) none) ∙ or-false (someBelow (64 * t) p)
 
-      go : (b : Bool) → bit met e ≡ b → Entry p (t + 1) met pairs e
-      go true q = entry-stays (t + 1) met pairs e (omega arith) q E
+      go : (b : Bool) → bit met e ≡ b → Entry p (t + 1) met firsts e
+      go true q = entry-stays (t + 1) met firsts e (omega arith) q E
       go false q = record { found = E .found ∙ sym same; stored = λ u. absurd (T-not (bit met e) (of-false q) u) }
 
   -- nothing has passed yet, and the word y is not 0
-  pub entry-found : (met y : ℕ) (pairs : List ℕ) (e : ℕ) → 2 * e + 1 < length pairs → y < 2 ^ 64 → (y ≡ 0 → ⊥) → bit met e ≡ false → WordOf (bit y) p t
-      → Entry p t met pairs e → Entry p (t + 1) (bitOr met (2 ^ e)) (keptIn pairs e t y) e
-  entry-found met y pairs e room small n q w E = record {
+  pub entry-found : (met y : ℕ) (firsts : List ℕ) (e : ℕ) → 2 * e + 1 < length firsts → y < 2 ^ 64 → (y ≡ 0 → ⊥) → bit met e ≡ false → WordOf (bit y) p t
+      → Entry p t met firsts e → Entry p (t + 1) (bitOr met (2 ^ e)) (keptIn firsts e t y) e
+  entry-found met y firsts e room small n q w E = record {
     found = bit-added met e true refl e ∙ rw (eq-eqb e e refl) (or-true (bit met e)) ∙ sym (is-true (someBelow (64 * (t + 1)) p) there);
-    stored = λ u. kept-there pairs e t y room ∙ ap (_+_ (64 * t)) (lowest-in y small n) ∙ first;
+    stored = λ u. kept-there firsts e t y room ∙ ap (_+_ (64 * t)) (lowest-in y small n) ∙ first;
   }
     where
       before : (z : ℕ) → z < 64 * t → p z ≡ false
@@ -72,65 +72,65 @@ module _ (p : ℕ → Bool) (t : ℕ) where
           Rattle.shares.specs.BelowLaws.first-some (64 * (t + 1)) p
           (rw (← first) (omega (arith, lowest-lt y small n)))
 
-module _ (e t : ℕ) (word : ℕ → Bool) (met : ℕ) (pairs : List ℕ) where
+module _ (e t : ℕ) (word : ℕ → Bool) (met : ℕ) (firsts : List ℕ) where
   -- it has found one already
-  pub kept-before : bit met e ≡ true → Kept e t word met pairs met pairs
-  kept-before q = record { entry = λ p w E. entry-stays p t (t + 1) met pairs e (omega arith) q E; met-kept = λ k n. refl; pairs-kept = λ k n. refl }
+  pub kept-before : bit met e ≡ true → Kept e t word met firsts met firsts
+  kept-before q = record { entry = λ p w E. entry-stays p t (t + 1) met firsts e (omega arith) q E; met-kept = λ k n. refl; firsts-kept = λ k n. refl }
 
   -- it finds none
-  pub kept-none : ((i : ℕ) → i < 64 → word i ≡ false) → Kept e t word met pairs met pairs
+  pub kept-none : ((i : ℕ) → i < 64 → word i ≡ false) → Kept e t word met firsts met firsts
   kept-none z = record {
-    entry = λ p w E. entry-none p t met pairs e (λ i l. sym (w i l) ∙ z i l) E;
+    entry = λ p w E. entry-none p t met firsts e (λ i l. sym (w i l) ∙ z i l) E;
     met-kept = λ k n. refl;
-    pairs-kept = λ k n. refl;
+    firsts-kept = λ k n. refl;
   }
 
 -- it finds one
-pub kept-found : (e t y met : ℕ) (pairs : List ℕ) → 2 * e + 1 < length pairs → y < 2 ^ 64 → (y ≡ 0 → ⊥) → bit met e ≡ false
-    → Kept e t (bit y) met pairs (bitOr met (2 ^ e)) (keptIn pairs e t y)
-kept-found e t y met pairs room small n q = record {
-  entry = λ p w E. entry-found p t met y pairs e room small n q w E;
+pub kept-found : (e t y met : ℕ) (firsts : List ℕ) → 2 * e + 1 < length firsts → y < 2 ^ 64 → (y ≡ 0 → ⊥) → bit met e ≡ false
+    → Kept e t (bit y) met firsts (bitOr met (2 ^ e)) (keptIn firsts e t y)
+kept-found e t y met firsts room small n q = record {
+  entry = λ p w E. entry-found p t met y firsts e room small n q w E;
   met-kept = λ k a. bit-added met e true refl k ∙ rw (ne-eqb k e a) (or-false (bit met k));
-  pairs-kept = λ k a. kept-others pairs e t y k a;
+  firsts-kept = λ k a. kept-others firsts e t y k a;
 }
 
 -- the bits of a word may be said otherwise
-pub kept-as : (e t : ℕ) (word word′ : ℕ → Bool) (met : ℕ) (pairs : List ℕ) (met′ : ℕ) (pairs′ : List ℕ) → ((i : ℕ) → i < 64 → word i ≡ word′ i)
-    → Kept e t word met pairs met′ pairs′ → Kept e t word′ met pairs met′ pairs′
-kept-as e t word word′ met pairs met′ pairs′ same K = record {
+pub kept-as : (e t : ℕ) (word word′ : ℕ → Bool) (met : ℕ) (firsts : List ℕ) (met′ : ℕ) (firsts′ : List ℕ) → ((i : ℕ) → i < 64 → word i ≡ word′ i)
+    → Kept e t word met firsts met′ firsts′ → Kept e t word′ met firsts met′ firsts′
+kept-as e t word word′ met firsts met′ firsts′ same K = record {
   entry = λ p w E. K .entry p (λ i l. same i l ∙ w i l) E;
   met-kept = K .met-kept;
-  pairs-kept = K .pairs-kept;
+  firsts-kept = K .firsts-kept;
 }
 
 -- ---- all of them
 
-module _ (t : ℕ) (word : ℕ → ℕ → Bool) (met : ℕ) (pairs : List ℕ) where
-  pub all-none : KeptAll 0 t word met pairs met pairs
-  all-none = record { entry = λ e l. absurd (omega arith); met-kept = λ k l. refl; pairs-kept = λ k l. refl }
+module _ (t : ℕ) (word : ℕ → ℕ → Bool) (met : ℕ) (firsts : List ℕ) where
+  pub all-none : KeptAll 0 t word met firsts met firsts
+  all-none = record { entry = λ e l. absurd (omega arith); met-kept = λ k l. refl; firsts-kept = λ k l. refl }
 
-  pub all-more : (e met′ : ℕ) (pairs′ : List ℕ) (met″ : ℕ) (pairs″ : List ℕ) → KeptAll e t word met pairs met′ pairs′
-      → Kept e t (word e) met′ pairs′ met″ pairs″ → KeptAll (e + 1) t word met pairs met″ pairs″
-  all-more e met′ pairs′ met″ pairs″ A K = record {
+  pub all-more : (e met′ : ℕ) (firsts′ : List ℕ) (met″ : ℕ) (firsts″ : List ℕ) → KeptAll e t word met firsts met′ firsts′
+      → Kept e t (word e) met′ firsts′ met″ firsts″ → KeptAll (e + 1) t word met firsts met″ firsts″
+  all-more e met′ firsts′ met″ firsts″ A K = record {
     entry = λ i l. entry i l (ℕ-discrete i e);
     met-kept = λ k l. K .met-kept k (λ q. omega arith) ∙ A .met-kept k (omega arith);
-    pairs-kept = λ k l. K .pairs-kept k (λ q. omega arith) ∙ A .pairs-kept k (omega arith);
+    firsts-kept = λ k l. K .firsts-kept k (λ q. omega arith) ∙ A .firsts-kept k (omega arith);
   }
     where
-      entry : (i : ℕ) → i < e + 1 → Dec (i ≡ e) → (p : ℕ → Bool) → WordOf (word i) p t → Entry p t met pairs i → Entry p (t + 1) met″ pairs″ i
+      entry : (i : ℕ) → i < e + 1 → Dec (i ≡ e) → (p : ℕ → Bool) → WordOf (word i) p t → Entry p t met firsts i → Entry p (t + 1) met″ firsts″ i
       entry i l (yes q) p w E =
           rw q (K .entry p (rw q at w) (record {
             found = A .met-kept e (omega arith) ∙ rw q at (E .found);
-            stored = λ u. A .pairs-kept e (omega arith) ∙ (rw q at (E .stored)) (rw (A .met-kept e (omega arith)) at u);
+            stored = λ u. A .firsts-kept e (omega arith) ∙ (rw q at (E .stored)) (rw (A .met-kept e (omega arith)) at u);
           }))
       entry i l (no n) p w E =
           let F = A .entry i (omega arith) p w E in
           record {
             found = K .met-kept i n ∙ F .found;
-            stored = λ u. K .pairs-kept i n ∙ F .stored (rw (K .met-kept i n) at u);
+            stored = λ u. K .firsts-kept i n ∙ F .stored (rw (K .met-kept i n) at u);
           }
 
 -- an entry that is as it was
-pub entry-same : (p : ℕ → Bool) (t met : ℕ) (pairs : List ℕ) (met′ : ℕ) (pairs′ : List ℕ) (e : ℕ) → bit met′ e ≡ bit met e → numberAt pairs′ e ≡ numberAt pairs e
-    → Entry p t met pairs e → Entry p t met′ pairs′ e
-entry-same p t met pairs met′ pairs′ e b v E = record { found = b ∙ E .found; stored = λ u. v ∙ E .stored (rw b at u) }
+pub entry-same : (p : ℕ → Bool) (t met : ℕ) (firsts : List ℕ) (met′ : ℕ) (firsts′ : List ℕ) (e : ℕ) → bit met′ e ≡ bit met e → numberAt firsts′ e ≡ numberAt firsts e
+    → Entry p t met firsts e → Entry p t met′ firsts′ e
+entry-same p t met firsts met′ firsts′ e b v E = record { found = b ∙ E .found; stored = λ u. v ∙ E .stored (rw b at u) }

@@ -12,9 +12,9 @@ ghost use Rattle.words.specs.Clause.{clauseTest, Clauses};
 ghost use Rattle.entries.specs.Entry.{Kept, KeptAll, common, Marked, MarkedAll};
 
 // Keeps word number `turn` as that of search e, with the choices y in it that pass, if there are any and the search has found none yet.
-pub fn keep_word(e: usize, turn: usize, y: u64, met: u64, pairs: &mut [u64]) -> u64
-    requires { ⌜ (e < 64) × (turn < 2048) × (length (now pairs) ≡ 128) ⌝ }
-    ensures { λ r. ⌜ Kept e turn (bit y) met (now (pairs .entry)) r (now (pairs .exit)) ⌝ }
+pub fn keep_word(e: usize, turn: usize, y: u64, met: u64, firsts: &mut [u64]) -> u64
+    requires { ⌜ (e < 64) × (length (now firsts) ≡ 128) ⌝ }
+    ensures { λ r. ⌜ Kept e turn (bit y) met (now (firsts .entry)) r (now (firsts .exit)) ⌝ }
 {
     if basics::digit(met, e) {
         return met;
@@ -22,8 +22,8 @@ pub fn keep_word(e: usize, turn: usize, y: u64, met: u64, pairs: &mut [u64]) -> 
     if y == 0 {
         return met;
     }
-    pairs[2 * e] = turn as u64;
-    pairs[2 * e + 1] = y;
+    firsts[2 * e] = turn as u64;
+    firsts[2 * e + 1] = y;
     met | (1 << e)
 }
 
@@ -35,17 +35,17 @@ fn keep_one(
     turn: usize,
     x: u64,
     met: u64,
-    pairs: &mut [u64],
+    firsts: &mut [u64],
 ) -> u64
-    requires { ⌜ (i < 64) × (turn < 2048) × (length (now pairs) ≡ 128) ⌝ }
+    requires { ⌜ (i < 64) × (length (now firsts) ≡ 128) ⌝ }
     requires { ⌜ Clauses (now clauses) (256 + 4 * i) 1 ⌝ }
-    ensures { λ r. ⌜ Kept i turn (λ k. bit x k && not (clauseTest (now (clauses .entry)) (λ t. bit (getD (now (terms .entry)) t 0) k) (256 + 4 * i))) met (now (pairs .entry)) r (now (pairs .exit)) ⌝ }
+    ensures { λ r. ⌜ Kept i turn (λ k. bit x k && not (clauseTest (now (clauses .entry)) (λ t. bit (getD (now (terms .entry)) t 0) k) (256 + 4 * i))) met (now (firsts .entry)) r (now (firsts .exit)) ⌝ }
 {
     if basics::digit(met, i) {
         return met;
     }
     let y = words::failing_word(terms, clauses, FIRST_DISEQUATIONS + 4 * i, x);
-    keep_word(i, turn, y, met, pairs)
+    keep_word(i, turn, y, met, firsts)
 }
 
 // Keeps for each disequation of the first system the choices of x in which it holds, if there are any and it has found none yet.
@@ -56,16 +56,16 @@ pub fn keep_all(
     turn: usize,
     x: u64,
     met: u64,
-    pairs: &mut [u64],
+    firsts: &mut [u64],
 ) -> u64
-    requires { ⌜ (count ≤ 31) × (turn < 2048) × (length (now pairs) ≡ 128) ⌝ }
+    requires { ⌜ (count ≤ 31) × (length (now firsts) ≡ 128) ⌝ }
     requires { ⌜ Clauses (now clauses) 256 count ⌝ }
-    ensures { λ r. ⌜ KeptAll count turn (λ i k. bit x k && not (clauseTest (now (clauses .entry)) (λ t. bit (getD (now (terms .entry)) t 0) k) (256 + 4 * i))) met (now (pairs .entry)) r (now (pairs .exit)) ⌝ }
+    ensures { λ r. ⌜ KeptAll count turn (λ i k. bit x k && not (clauseTest (now (clauses .entry)) (λ t. bit (getD (now (terms .entry)) t 0) k) (256 + 4 * i))) met (now (firsts .entry)) r (now (firsts .exit)) ⌝ }
 {
     let mut r = met;
     let mut i: usize = 0;
     while i < count {
-        r = keep_one(terms, clauses, i, turn, x, r, pairs);
+        r = keep_one(terms, clauses, i, turn, x, r, firsts);
         i += 1;
     }
     r

@@ -18,6 +18,7 @@ use Rattle.shares.specs.BelowLaws.{first-below, first-least}
 use Rattle.shares.specs.Constant.{bit}
 use Rattle.shares.specs.BitLaws.{bit-zero, bits-zero}
 use Rattle.shares.specs.BitParts.{bit-mod}
+use Rattle.shares.specs.NumberLaws.{zero-at, halved}
 use Rattle.words.specs.Kept.{lowestIn}
 use Rattle.words.specs.KeptLaws.{lowest-in-lt}
 use Rattle.words.specs.Shifts.{power-shift}
@@ -87,7 +88,7 @@ pub number-more : (v : ℕ) (values : List ℕ) → 2 * choiceNumber v values + 
 unfolding choiceNumber
 number-more v values = rw (add-one v)
 
--- a choice of at most 12 variables has a number below 4096
+-- at most 12 variables have at most 2 ^ 12 choices
 pub few : {k : ℕ} → k ≤ 12 → 2 ^ k ≤ 2 ^ 12
 few h = pow-mono h
 
@@ -95,26 +96,18 @@ few h = pow-mono h
 
 -- the values of all variables but the last `left` are guessed, and those are empty: the least choice is one of the 2 ^ left choices from `low` on, which
 -- are those with the guessed values
-pub record Guessed (least free left : ℕ) (values : List ℕ) (low half : ℕ) : Type 0 where
+pub record Guessed (least free left : ℕ) (values : List ℕ) (low span : ℕ) : Type 0 where
   pub within : left ≤ free
-  pub range : half ≡ 2 ^ left
-  pub start : low ≡ choiceNumber (free - left) values * half
+  pub range : span ≡ 2 ^ left
+  pub start : low ≡ choiceNumber (free - left) values * span
   pub size : length values ≡ 12
   pub digits : Values values
   pub later : (v : ℕ) → free - left ≤ v → getD values v 0 ≡ 0
   pub lower : low ≤ least
-  pub upper : least < low + half
+  pub upper : least < low + span
 
 digit-more : (n d h : ℕ) → (2 * n + d) * h ≡ n * (2 * h) + d * h
 digit-more n d h = add-mul (2 * n) d h ∙ ap (λ x. x + d * h) (ap (λ x. x * h) (mul-comm 2 n) ∙ mul-assoc n 2 h)
-
-halved : (left : ℕ) → 0 < left → 2 ^ left ≡ 2 * 2 ^ (left - 1)
-halved left h = let e : left ≡ suc (left - 1) = omega arith in ap (λ k. 2 ^ k) e ∙ omega (arith, two-pow-succ (left - 1))
-
-zeros : (n v : ℕ) → _≡_ {A = ℕ} (getD (replicate n 0) v 0) 0
-zeros zero v = refl
-zeros (suc n) zero = refl
-zeros (suc n) (suc v) = zeros n v
 
 -- nothing is guessed at first
 pub guess-none : (least free : ℕ) → least < 2 ^ free → Guessed least free free (replicate 12 0) 0 (2 ^ free)
@@ -127,33 +120,33 @@ guess-none least free h =
       range = refl;
       start = sym (ap (λ k. choiceNumber k values * 2 ^ free) e ∙ zero-mul (2 ^ free));
       size = refl;
-      digits = λ v. omega (arith, zeros 12 v);
-      later = λ v l. zeros 12 v;
+      digits = λ v. omega (arith, zero-at 12 v);
+      later = λ v l. zero-at 12 v;
       lower = omega arith;
       upper = omega arith;
     }
 
-module _ (least free left : ℕ) (values : List ℕ) (low half : ℕ) (g : Guessed least free left values low half) (h : 0 < left) where
-  half-range : half / 2 ≡ 2 ^ (left - 1)
+module _ (least free left : ℕ) (values : List ℕ) (low span : ℕ) (g : Guessed least free left values low span) (h : 0 < left) where
+  half-range : span / 2 ≡ 2 ^ (left - 1)
   half-range = omega (arith, g .range, halved left h)
 
-  two-halves : 2 * (half / 2) ≡ half
+  two-halves : 2 * (span / 2) ≡ span
   two-halves = omega (arith, g .range, halved left h)
 
   next-start : (new : List ℕ) (d : ℕ) → choiceNumber (free - left) new ≡ choiceNumber (free - left) values → getD new (free - left) 0 ≡ d
-      → low + d * (half / 2) ≡ choiceNumber (free - (left - 1)) new * (half / 2)
+      → low + d * (span / 2) ≡ choiceNumber (free - (left - 1)) new * (span / 2)
   next-start new d before here =
       let next : free - (left - 1) ≡ free - left + 1 = omega (arith, g .within) in
       sym
-      (ap (λ k. choiceNumber k new * (half / 2)) next
-      ∙ ap (λ n. n * (half / 2)) (sym (number-more (free - left) new) ∙ ap₂ (λ a b. 2 * a + b) before here)
-      ∙ digit-more (choiceNumber (free - left) values) d (half / 2)
-      ∙ ap (λ n. n + d * (half / 2)) (ap (λ n. choiceNumber (free - left) values * n) two-halves ∙ sym (g .start)))
+      (ap (λ k. choiceNumber k new * (span / 2)) next
+      ∙ ap (λ n. n * (span / 2)) (sym (number-more (free - left) new) ∙ ap₂ (λ a b. 2 * a + b) before here)
+      ∙ digit-more (choiceNumber (free - left) values) d (span / 2)
+      ∙ ap (λ n. n + d * (span / 2)) (ap (λ n. choiceNumber (free - left) values * n) two-halves ∙ sym (g .start)))
 
-  -- the least choice is in the lower half of the range: the next variable is empty
-  pub guess-empty : least < low + half / 2 → Guessed least free (left - 1) values low (half / 2)
+  -- the least choice is in the lower span of the range: the next variable is empty
+  pub guess-empty : least < low + span / 2 → Guessed least free (left - 1) values low (span / 2)
   guess-empty l =
-      let e : low + 0 * (half / 2) ≡ low = omega arith in
+      let e : low + 0 * (span / 2) ≡ low = omega arith in
       record {
         within = omega (arith, g .within);
         range = half-range;
@@ -165,11 +158,11 @@ module _ (least free left : ℕ) (values : List ℕ) (low half : ℕ) (g : Guess
         upper = l;
       }
 
-  -- it is in the upper half: the next variable is full
-  pub guess-full : free ≤ 12 → low + half / 2 ≤ least → Guessed least free (left - 1) (set values (free - left) 1) (low + half / 2) (half / 2)
+  -- it is in the upper span: the next variable is full
+  pub guess-full : free ≤ 12 → low + span / 2 ≤ least → Guessed least free (left - 1) (set values (free - left) 1) (low + span / 2) (span / 2)
   guess-full f l =
       let inside : free - left < length values = omega (arith, g .size, g .within) in
-      let e : low + 1 * (half / 2) ≡ low + half / 2 = omega arith in
+      let e : low + 1 * (span / 2) ≡ low + span / 2 = omega arith in
       record {
         within = omega (arith, g .within);
         range = half-range;
@@ -185,10 +178,10 @@ module _ (least free left : ℕ) (values : List ℕ) (low half : ℕ) (g : Guess
       }
 
 -- no variable is left
-pub guess-all : (least free left : ℕ) (values : List ℕ) (low half : ℕ) → Guessed least free left values low half → left ≡ 0
+pub guess-all : (least free left : ℕ) (values : List ℕ) (low span : ℕ) → Guessed least free left values low span → left ≡ 0
     → choiceNumber free values ≡ least
-guess-all least free left values low half g e =
-    let one : half ≡ 1 = g .range ∙ ap (λ k. 2 ^ k) e in
+guess-all least free left values low span g e =
+    let one : span ≡ 1 = g .range ∙ ap (λ k. 2 ^ k) e in
     let all : free - left ≡ free = omega arith in
     let start : low ≡ choiceNumber free values * 1 = g .start ∙ ap₂ (λ k n. choiceNumber k values * n) all one in
     omega (arith, g .lower, g .upper)

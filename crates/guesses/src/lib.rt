@@ -11,7 +11,7 @@ pub struct Passing {
     pub choices: u64,
 }
 
-// Whether some choice with a number below `end` passes: a test of bits in the words up to there.
+// Whether the least choice that passes lies below number `end`: a test of bits in the words up to there.
 fn passes_below(passing: Passing, end: usize) -> bool
     requires { ⌜ passing .word < 64 ⌝ }
     ensures { λ r. ⌜ r ≡ ltb (leastNumber passing) end ⌝ }
@@ -35,18 +35,18 @@ fn least_values(passing: Passing, free: usize) -> [u8; 12]
 {
     let mut values = [0u8; 12];
     let mut low: usize = 0;
-    let mut half = basics::power(free);
+    let mut span = basics::power(free);
     let mut left = free;
     while 0 < left {
-        half = half / 2;
+        span = span / 2;
         let empty = values;
-        if passes_below(passing, low + half) {
+        if passes_below(passing, low + span) {
             values = empty;
         } else {
             let mut full = empty;
             full[free - left] = 1;
             values = full;
-            low += half;
+            low += span;
         }
         left -= 1;
     }

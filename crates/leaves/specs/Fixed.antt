@@ -7,7 +7,8 @@ use Rattle.leaves.specs.Choices.{Picker}
 use Rattle.leaves.specs.Problem.{Problem, specialAt}
 use Rattle.leaves.specs.Second.{Second, meets, meetsWith}
 
--- The question is unfolded to height h: P says what is asked of the choice at each of its 2 ^ h leaves, and C picks the least choice of those that pass a test.
+-- The question is unfolded to height h: P says what is asked of the choice at each of its 2 ^ h leaves, and C picks one of those that pass a test, the least where
+-- it is `least n`.
 module _ {X : Type 0} (C : Picker X) (h : ℕ) (P : Problem X) where
   -- each disequation goes to the leftmost leaf where it and the positive clauses can be met together
   unfoldable pub leafOf : ℕ → ℕ

@@ -10,7 +10,7 @@ use lib.Dec.{T, T-not, not-T, eqb, eqb→eq, eqb-refl, ltb, ltb→lt, lt→ltb}
 use lib.Pow.{pow-pos, high, low, split}
 use Rattle.shares.specs.Test.{beq-iff, holds, and-intro, and-left, and-right, cond-passed, cond-failed}
 use Rattle.shares.specs.Below.{countBelow, one}
-use Rattle.shares.specs.BelowLaws.{Below, some-or, first-least, first-below}
+use Rattle.shares.specs.BelowLaws.{Below, some-or, first-least}
 use Rattle.shares.specs.Blocks.{blockOf}
 use Rattle.shares.specs.BlockLaws.{block-lt}
 use Rattle.leaves.specs.Choices.{Picker, someChoice, Row, nil, cons, at, pickRow, least}
@@ -19,7 +19,7 @@ use Rattle.leaves.specs.Problem.{Problem, plainAt, specialAt, solvable}
 use Rattle.leaves.specs.Second.{Second, meets, meetsWith}
 use Rattle.leaves.specs.Fixed.{leafOf, rankOf, heldAt, carriedAt, fixedAt, withUnmet, withMissed}
 use Rattle.leaves.specs.FixedWords.{Leftmost, Less, Least, Together, Words, Unmet, UnmetFirst, Counts}
-use Rattle.leaves.specs.ProblemLaws.{plain-passes, block-passes, ranks-in-order, at-block, rank-lt}
+use Rattle.leaves.specs.ProblemLaws.{plain-passes, leaf-passes, held-there, ranks-in-order, at-rank, rank-lt}
 
 and-iff : (a b : Bool) → T (a && b) ↔ (T a × T b)
 and-iff a b = (λ t. (and-left a b t, and-right a b t), λ (s, t). and-intro a b s t)
@@ -107,38 +107,36 @@ count-reaches (suc n) p r l = go (decLt r (countBelow n p)) (count-reaches n p r
     go (no m) ih = let (t, e) = last (p n) m l in (n, omega arith, t, e)
 
 module _ {n : ℕ} (h : ℕ) (P : Problem (Row Bool n)) where
-  abbrev leafFor : ℕ → ℕ
-  leafFor = leafOf (least n) h P
+  abbrev itsLeaf : ℕ → ℕ
+  itsLeaf = leafOf (least n) h P
 
-  abbrev rankFor : ℕ → ℕ
-  rankFor = rankOf (least n) h P
+  abbrev itsRank : ℕ → ℕ
+  itsRank = rankOf (least n) h P
 
-  rank-left : (j r : ℕ) → r < rankFor j → (i : ℕ) × (i < j) × (leafFor i ≡ leafFor j) × (rankFor i ≡ r)
+  rank-left : (j r : ℕ) → r < itsRank j → (i : ℕ) × (i < j) × (itsLeaf i ≡ itsLeaf j) × (itsRank i ≡ r)
   unfolding rankOf
   rank-left j r l =
-      let (i, m, v, e) = count-reaches j (λ i. eqb (leafFor i) (leafFor j)) r l in
-      let s : leafFor i ≡ leafFor j = eqb→eq (leafFor i) (leafFor j) v in
-      (i, m, s, ap (λ b. countBelow i (λ k. eqb (leafFor k) b)) s ∙ e)
+      let (i, m, v, e) = count-reaches j (λ i. eqb (itsLeaf i) (itsLeaf j)) r l in
+      let s : itsLeaf i ≡ itsLeaf j = eqb→eq (itsLeaf i) (itsLeaf j) v in
+      (i, m, s, ap (λ b. countBelow i (λ k. eqb (itsLeaf k) b)) s ∙ e)
 
   -- a sub-leaf that holds no disequation
-  holds-none : (b r : ℕ) → ((j : ℕ) → j < P .count → leafFor j ≡ b → ¬ (rankFor j ≡ r)) → T (not (ltb (heldAt (least n) h P b r) (P .count)))
-  unfolding heldAt
+  holds-none : (b r : ℕ) → ((j : ℕ) → j < P .count → itsLeaf j ≡ b → ¬ (itsRank j ≡ r)) → T (not (ltb (heldAt (least n) h P b r) (P .count)))
   holds-none b r none = not-T (ltb (heldAt (least n) h P b r) (P .count)) (λ u.
-      let j = heldAt (least n) h P b r in
-      let l : j < P .count = ltb→lt j (P .count) u in
-      let v = first-below (P .count) (λ j. eqb (leafFor j) b && eqb (rankFor j) r) l in
-      none j l (eqb→eq (leafFor j) b (and-left (eqb (leafFor j) b) _ v)) (eqb→eq (rankFor j) r (and-right (eqb (leafFor j) b) _ v)))
+      let l = ltb→lt (heldAt (least n) h P b r) (P .count) u in
+      let (e, f) = held-there (least n) h P b r l in
+      none (heldAt (least n) h P b r) l e f)
 
   fixed-at : (W b r : ℕ) → r < 2 ^ (W - h) → fixedAt (least n) h P W (b * 2 ^ (W - h) + r) ≡ carriedAt (least n) h P b r
   unfolding fixedAt
   fixed-at W b r l = rw (high b (W - h) l, low b (W - h) l)
 
   module _ (t : T (solvable (least n) h P)) where
-    leaf-leftmost : (j : ℕ) → j < P .count → Leftmost h (Together P j) (leafFor j)
+    leaf-leftmost : (j : ℕ) → j < P .count → Leftmost h (Together P j) (itsLeaf j)
     unfolding leafOf specialAt
     leaf-leftmost j l =
-        let (within, u) = block-passes (least n) h P t j l in
-        let (x, p, d) = both-found (least n) (P .pos (leafFor j)) (P .dis j (leafFor j)) u in
+        let (within, u) = leaf-passes (least n) h P t j l in
+        let (x, p, d) = both-found (least n) (P .pos (itsLeaf j)) (P .dis j (itsLeaf j)) u in
         record {
           within = within;
           found = (x, (p, d));
@@ -149,18 +147,18 @@ module _ {n : ℕ} (h : ℕ) (P : Problem (Row Bool n)) where
     pub fixed-words : (W : ℕ) → P .count ≤ 2 ^ (W - h) → Words h P W (fixedAt (least n) h P W)
     unfolding carriedAt plainAt someChoice
     fixed-words W enough = record {
-      leaf = leafFor;
-      rank = rankFor;
+      leaf = itsLeaf;
+      rank = itsRank;
       leftmost = leaf-leftmost;
       room = λ j l. rank-lt (least n) h P (W - h) j enough l;
       in-order = λ i j l _ e. ranks-in-order (least n) h P i j l e;
       from-left = λ j r _ l. rank-left j r l;
       carries = λ j l.
-          let b = leafFor j in
+          let b = itsLeaf j in
           let (x, (p, d)) = leaf-leftmost j l .found in
           rw (
-            fixed-at W b (rankFor j) (rank-lt (least n) h P (W - h) j enough l),
-            at-block (least n) h P j l,
+            fixed-at W b (itsRank j) (rank-lt (least n) h P (W - h) j enough l),
+            at-rank (least n) h P j l,
             cond-passed (ltb j (P .count)) _ _ (lt→ltb j (P .count) l),
           )
           (least-same (λ y. and-iff (P .pos b y) (P .dis j b y)) (least-picked n _ x (and-intro (P .pos b x) _ p d)));

@@ -1,4 +1,4 @@
--- A solution of a problem at the leaves is cut into what each block has, and one is glued together from that: there is a solution exactly if
+-- A solution of a problem at the leaves is cut into what each leaf has, and one is glued together from that: there is a solution exactly if
 -- the test passes, and then the fixed one solves the problem. The examples are named so that they are checked first. Assumes nothing.
 use mathlib.Core.Path.{_≡_, ap}
 use mathlib.Core.Logic.{_⊎_, inl, inr}
@@ -21,7 +21,7 @@ use Rattle.leaves.specs.Fixed.{leafOf, rankOf, heldAt, carriedAt, fixedA
 use Rattle.leaves.specs.FixedExamples
 use Rattle.leaves.specs.LeafSolutions.{SolvesLeaves, LeafSolution, Leafwise}
 
--- ---- cut: a solution of any height has what each block needs
+-- ---- cut: a solution of any height has what each leaf needs
 
 pub cut : {X : Type 0} (h : ℕ) (P : Problem X) (w : ℕ) (s : ℕ → X) → SolvesLeaves h P w s → Leafwise h P
 cut h P w s S = record {
@@ -44,28 +44,34 @@ module _ {X : Type 0} (C : Picker X) (h : ℕ) (P : Problem X) where
   pub cut-solvable : (w : ℕ) (s : ℕ → X) → SolvesLeaves h P w s → T (solvable C h P)
   cut-solvable w s S = solvable-intro (cut h P w s S)
 
-  -- ---- glue: one choice for each block, and one sub-leaf for each disequation
+  -- the disequation that a sub-leaf holds goes to its leaf, and has its rank there
+  pub held-there : (b r : ℕ) → heldAt C h P b r < P .count → (leafOf C h P (heldAt C h P b r) ≡ b) × (rankOf C h P (heldAt C h P b r) ≡ r)
+  unfolding heldAt
+  held-there b r l =
+      let j = heldAt C h P b r in
+      let v = first-below (P .count) (λ j. eqb (leafOf C h P j) b && eqb (rankOf C h P j) r) l in
+      (eqb→eq (leafOf C h P j) b (and-left (eqb (leafOf C h P j) b) _ v), eqb→eq (rankOf C h P j) r (and-right (eqb (leafOf C h P j) b) _ v))
+
+  -- ---- glue: one choice for each leaf, and one sub-leaf for each disequation
 
   module _ (t : T (solvable C h P)) where
     pub plain-passes : (b : ℕ) → b < 2 ^ h → T (plainAt C P b)
     unfolding solvable
     plain-passes b l = every-at (2 ^ h) (plainAt C P) (and-left (everyBelow (2 ^ h) (plainAt C P)) _ t) b l
 
-    pub block-passes : (j : ℕ) → j < P .count → (leafOf C h P j < 2 ^ h) × T (specialAt C P j (leafOf C h P j))
+    pub leaf-passes : (j : ℕ) → j < P .count → (leafOf C h P j < 2 ^ h) × T (specialAt C P j (leafOf C h P j))
     unfolding solvable leafOf
-    block-passes j l =
+    leaf-passes j l =
         let (b, u, v) = some-found (2 ^ h) (specialAt C P j)
         (every-at (P .count) (λ j. someBelow (2 ^ h) (specialAt C P j)) (and-right (everyBelow (2 ^ h) (plainAt C P)) _ t) j l) in
         first-passes (2 ^ h) (specialAt C P j) b u v
 
-    -- a sub-leaf where a disequation stands meets it, beside the positive clauses
+    -- a sub-leaf that holds a disequation meets it, beside the positive clauses
     special-meets : (b r : ℕ) → heldAt C h P b r < P .count → T (P .pos b (carriedAt C h P b r)) × T (P .dis (heldAt C h P b r) b (carriedAt C h P b r))
-    unfolding carriedAt specialAt heldAt
+    unfolding carriedAt specialAt
     special-meets b r l =
         let j = heldAt C h P b r in
-        let v = first-below (P .count) (λ j. eqb (leafOf C h P j) b && eqb (rankOf C h P j) r) l in
-        let e : leafOf C h P j ≡ b = eqb→eq (leafOf C h P j) b (and-left (eqb (leafOf C h P j) b) _ v) in
-        let u : T (specialAt C P j b) = rw e at (block-passes j l .1) in
+        let u : T (specialAt C P j b) = rw (held-there b r l .0) at (leaf-passes j l .1) in
         let p : X → Bool = λ x. P .pos b x && P .dis j b x in
         let w : T (p (C .pick p)) = choice-found C p u in
         rw (cond-passed (ltb j (P .count)) (C .pick p) (C .pick (P .pos b)) (lt→ltb j (P .count) l))
@@ -90,9 +96,9 @@ module _ {X : Type 0} (C : Picker X) (h : ℕ) (P : Problem X) where
   ranks-in-order i j l p = rw p (count-lt j (λ i. eqb (leafOf C h P i) (leafOf C h P j)) i l (rw p (eqb-refl (leafOf C h P j))))
 
   -- the disequation that stands where j stands is j
-  pub at-block : (j : ℕ) → j < P .count → heldAt C h P (leafOf C h P j) (rankOf C h P j) ≡ j
+  pub at-rank : (j : ℕ) → j < P .count → heldAt C h P (leafOf C h P j) (rankOf C h P j) ≡ j
   unfolding heldAt
-  at-block j l = go (eq-or-lt-of-le (first-min (P .count) p j own))
+  at-rank j l = go (eq-or-lt-of-le (first-min (P .count) p j own))
     where
       b : ℕ
       b = leafOf C h P j
@@ -130,9 +136,9 @@ module _ {X : Type 0} (C : Picker X) (h : ℕ) (P : Problem X) where
     everywhere = λ i l. rw (block-split, fixed-split k i) (choice-pos t (i / 2 ^ k) (i % 2 ^ k) (shr-lt h k l));
     somewhere = λ j l.
         let f = rank-lt k j e l in
-        let g = at-block j l in (
+        let g = at-rank j l in (
           leafOf C h P j * 2 ^ k + rankOf C h P j,
-          leaf-lt h k (block-passes t j l .0) f,
+          leaf-lt h k (leaf-passes t j l .0) f,
           rw (block-split, fixed-split k (leafOf C h P j * 2 ^ k + rankOf C h P j), high (leafOf C h P j) k f, low (leafOf C h P j) k f)
               (rw g at (special-meets t (leafOf C h P j) (rankOf C h P j) (rw g l) .1)),
         );

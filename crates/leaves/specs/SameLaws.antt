@@ -30,18 +30,18 @@ module _ {X : Type 0} (C : Picker X) (h : ℕ) (P Q : Problem X) (count : P .cou
       (every-ext (2 ^ h) _ _ plain-same)
       (every-ext (P .count) _ _ (λ j m. some-ext (2 ^ h) _ _ (special-same j m)) ∙ ap (λ k. everyBelow k (λ j. someBelow (2 ^ h) (specialAt C Q j))) count)
 
-  pub block-same : (j : ℕ) → j < P .count → leafOf C h P j ≡ leafOf C h Q j
+  pub leaf-same : (j : ℕ) → j < P .count → leafOf C h P j ≡ leafOf C h Q j
   unfolding leafOf
-  block-same j m = first-ext (2 ^ h) _ _ (special-same j m)
+  leaf-same j m = first-ext (2 ^ h) _ _ (special-same j m)
 
   rank-same : (j : ℕ) → j < P .count → rankOf C h P j ≡ rankOf C h Q j
   unfolding rankOf
-  rank-same j m = count-ext j _ _ (λ i l. ap₂ eqb (block-same i (le-trans l (le-of-lt m))) (block-same j m))
+  rank-same j m = count-ext j _ _ (λ i l. ap₂ eqb (leaf-same i (le-trans l (le-of-lt m))) (leaf-same j m))
 
   at-same-rank : (b r : ℕ) → heldAt C h P b r ≡ heldAt C h Q b r
   unfolding heldAt
   at-same-rank b r =
-      first-ext (P .count) _ _ (λ j m. ap₂ (λ x y. eqb x b && eqb y r) (block-same j m) (rank-same j m))
+      first-ext (P .count) _ _ (λ j m. ap₂ (λ x y. eqb x b && eqb y r) (leaf-same j m) (rank-same j m))
       ∙ ap (λ k. firstBelow k (λ j. eqb (leafOf C h Q j) b && eqb (rankOf C h Q j) r)) count
 
   choice-same : (b r : ℕ) → b < 2 ^ h → carriedAt C h P b r ≡ carriedAt C h Q b r

@@ -23,7 +23,7 @@ use Rattle.leaves.specs.Fixed.{withUnmet, withMissed}
 use Rattle.leaves.specs.Entailment.{canBeUnmet, canBeMissed, firstMissed}
 use Rattle.leaves.specs.LeafExtensions.{ExtendsLeaves, LeafExtension, positivesOnly, only, beside, EntailsLeaves, LeafCounterexample}
 
--- ---- an example, computed: two blocks and one variable, full at block 0 and empty at block 1; the second system: it is not empty
+-- ---- an example, computed: two leaves and one variable, full at leaf 0 and empty at leaf 1; the second system: it is not empty
 
 abbrev left : Problem (Row Bool 1)
 left = record { pos = λ b x. Bool·beq (at false x 0) (eqb b 0); count = 0; dis = λ j b x. false }
@@ -31,7 +31,7 @@ left = record { pos = λ b x. Bool·beq (at false x 0) (eqb b 0); count = 0; dis
 abbrev notEmpty : Second (Row Bool 1) (Row Bool 0)
 notEmpty = record { pos = λ b x y. true; count = 1; dis = λ j b x y. at false x 0 }
 
--- the disequation holds at block 0, which is enough
+-- the disequation holds at leaf 0, which is enough
 left-kept : (canBeUnmet (least 1) (least 0) 1 left notEmpty ≡ false) × (canBeMissed (least 1) (least 0) 1 left notEmpty 0 ≡ false)
     × (firstMissed (least 1) (least 0) 1 left notEmpty ≡ 1)
 unfolding everyBelow someBelow firstBelow someChoice at pickRow plainAt specialAt solvable meets meetsWith canBeUnmet canBeMissed firstMissed
@@ -143,7 +143,7 @@ module _ {X Y : Type 0} (D : Picker Y) (h : ℕ) (P : Problem X) (Q : Second X Y
 -- ---- what the tests say of the solutions whose height is among A
 
 module _ {X Y : Type 0} (C : Picker X) (D : Picker Y) (h : ℕ) (P : Problem X) (Q : Second X Y) where
-  -- where the first system is solvable and some block can be unmet, the two together are a solvable problem
+  -- where the first system is solvable and some leaf can be unmet, the two together are a solvable problem
   pub unmet-solvable : T (solvable C h P) → T (canBeUnmet C D h P Q) → T (solvable C h (withUnmet D Q P))
   unfolding canBeUnmet
   unmet-solvable t u = solvable-intro C h (withUnmet D Q P) (record { plain = L .plain; special = go })
@@ -163,7 +163,7 @@ module _ {X Y : Type 0} (C : Picker X) (D : Picker Y) (h : ℕ) (P : Problem X) 
     weaker : (R : Problem X) → ((w : ℕ) (s : ℕ → X) → SolvesLeaves h R w s → SolvesLeaves h P w s) → LeafSolution A h R → LeafSolution A h P
     weaker R f S = record { height = S .height; allowed = S .allowed; leaves = S .leaves; solves = f (S .height) (S .leaves) (S .solves) }
 
-    -- some block can be unmet: a solution cannot meet the positive clauses, if there is room for one sub-leaf more than disequations
+    -- some leaf can be unmet: a solution cannot meet the positive clauses, if there is room for one sub-leaf more than disequations
     pub can-be-unmet : Room A h (suc (P .count)) → T (solvable C h P) → T (canBeUnmet C D h P Q) → LeafCounterexample A h P (positivesOnly Q)
     unfolding weaker
     can-be-unmet r t u =
@@ -177,7 +177,7 @@ module _ {X Y : Type 0} (C : Picker X) (D : Picker Y) (h : ℕ) (P : Problem X) 
         let S = solution-glued C h (withMissed D Q P j) A r t in
         (weaker (withMissed D Q P j) (λ w s. missed-first D h P Q w s j) S, missed-counter D h P Q (S .height) (S .leaves) j (S .solves))
 
-    -- no block can be unmet: every solution can meet the positive clauses
+    -- no leaf can be unmet: every solution can meet the positive clauses
     pub always-met : T (not (canBeUnmet C D h P Q)) → EntailsLeaves A h P (positivesOnly Q)
     unfolding canBeUnmet
     always-met t S = go (every-or (2 ^ (S .height)) (λ i. meets D Q (blockOf h (S .height) i) (S .leaves i)))

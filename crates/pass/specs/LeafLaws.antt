@@ -42,13 +42,13 @@ module _ (S : Stored) (h : ℕ) (search : Search) (b : ℕ) where
 
   -- ---- before the first word
 
-  pub amid-start : (seen : Seen) (pairs rows : List ℕ) → b < 32 → After S h search b seen pairs rows
-      → Amid S h search b 0 (record { met = seen .met; possible = seen .possible; here = 0 }) pairs rows
+  pub amid-start : (seen : Seen) (firsts rows : List ℕ) → b < 32 → After S h search b seen firsts rows
+      → Amid S h search b 0 (record { met = seen .met; possible = seen .possible; here = 0 }) firsts rows
   unfolding someBelow
-  amid-start seen pairs rows small A = record {
+  amid-start seen firsts rows small A = record {
     plain = record { found = A .fresh b (omega arith) small; stored = λ t. absurd (T-not (bit (seen .met) (32 + b)) (of-false (A .fresh b (omega arith) small)) t) };
-    entries = λ i l. subst (λ t. Entry (onPairs S h (meetsHere S search i)) t (seen .met) pairs i) (sym (add-zero (b * wordCount n))) (A .entries i l);
-    unmet = λ e. subst (λ t. Entry (onPairs S h (unmetHere S)) t (seen .met) pairs 31) (sym (add-zero (b * wordCount n))) (A .unmet e);
+    entries = λ i l. subst (λ t. Entry (onPairs S h (meetsHere S search i)) t (seen .met) firsts i) (sym (add-zero (b * wordCount n))) (A .entries i l);
+    unmet = λ e. subst (λ t. Entry (onPairs S h (unmetHere S)) t (seen .met) firsts 31) (sym (add-zero (b * wordCount n))) (A .unmet e);
     here = λ e t j l u. bit-zero j;
     marks = λ e t j l u i m.
         A .marks e t j l u i m ∙ ap (λ t. someBelow (64 * t) (onPairs S h (meetsHere S (Missed j) i))) (sym (add-zero (b * wordCount n)));
@@ -56,8 +56,8 @@ module _ (S : Stored) (h : ℕ) (search : Search) (b : ℕ) where
 
   -- ---- after the last word
 
-  module _ (seen : Seen) (pairs rows : List ℕ) (A : After S h search b seen pairs rows) (seen₁ : Seen) (pairs₁ rows₁ : List ℕ)
-      (M : Amid S h search b (wordCount n) seen₁ pairs₁ rows₁) (O : OthersKept b seen pairs seen₁ pairs₁) where
+  module _ (seen : Seen) (firsts rows : List ℕ) (A : After S h search b seen firsts rows) (seen₁ : Seen) (firsts₁ rows₁ : List ℕ)
+      (M : Amid S h search b (wordCount n) seen₁ firsts₁ rows₁) (O : OthersKept b seen firsts seen₁ firsts₁) where
     -- an unmet choice stays found
     before : search ≡ Unmet → T (not (bit (seen₁ .met) 31)) → T (not (bit (seen .met) 31))
     before e t =
@@ -80,14 +80,14 @@ module _ (S : Stored) (h : ℕ) (search : Search) (b : ℕ) where
             (M .here e t j l (of-true (ap (λ x. bit x j) (O .possible-kept) ∙ q)))
         go false q = ap (λ c. c && bit (seen₁ .here) j) q ∙ sym (ap (λ c. c && some) (sym (A .possible e (before e t) j l) ∙ q))
 
-    pub leaf-done : Visited S h search b (record { met = seen₁ .met; possible = bitAnd (seen₁ .possible) (seen₁ .here); here = 0 }) pairs₁ rows₁
+    pub leaf-done : Visited S h search b (record { met = seen₁ .met; possible = bitAnd (seen₁ .possible) (seen₁ .here); here = 0 }) firsts₁ rows₁
     leaf-done = record {
       done = λ t. record {
         plains = λ a l. plains t a l (ℕ-discrete a b);
         found = λ a l. found t a l (ℕ-discrete a b);
         fresh = λ a l m. O .met-kept (32 + a) (omega arith) (λ q. omega arith) ∙ A .fresh a (omega arith) m;
-        entries = λ i l. subst (λ t. Entry (onPairs S h (meetsHere S search i)) t (seen₁ .met) pairs₁ i) (leaf-more b (wordCount n)) (M .entries i l);
-        unmet = λ e. subst (λ t. Entry (onPairs S h (unmetHere S)) t (seen₁ .met) pairs₁ 31) (leaf-more b (wordCount n)) (M .unmet e);
+        entries = λ i l. subst (λ t. Entry (onPairs S h (meetsHere S search i)) t (seen₁ .met) firsts₁ i) (leaf-more b (wordCount n)) (M .entries i l);
+        unmet = λ e. subst (λ t. Entry (onPairs S h (unmetHere S)) t (seen₁ .met) firsts₁ 31) (leaf-more b (wordCount n)) (M .unmet e);
         possible = possible-after;
         marks = λ e u j l v i m.
             M .marks e u j l (and-left (bit (seen₁ .possible) j) (bit (seen₁ .here) j) (subst T (bit-and (seen₁ .possible) (seen₁ .here) j) v)) i m
@@ -98,11 +98,11 @@ module _ (S : Stored) (h : ℕ) (search : Search) (b : ℕ) where
       where
         plains : T (bit (seen₁ .met) (32 + b)) → (a : ℕ) → a < b + 1 → Dec (a ≡ b)
             → T (someBelow (leafWidth n) (allowedIn S search (leafValues S h a)))
-            × (numberAt pairs₁ (32 + a) ≡ firstBelow (leafWidth n) (allowedIn S search (leafValues S h a)))
+            × (numberAt firsts₁ (32 + a) ≡ firstBelow (leafWidth n) (allowedIn S search (leafValues S h a)))
         plains t a l (yes q) = rw q (subst T (M .plain .found) t, M .plain .stored t)
         plains t a l (no m) =
             let (s, e) = A .plains a (omega arith) in
-            (s, O .pairs-kept (32 + a) (omega arith) (λ q. omega arith) ∙ e)
+            (s, O .firsts-kept (32 + a) (omega arith) (λ q. omega arith) ∙ e)
 
         found : T (bit (seen₁ .met) (32 + b)) → (a : ℕ) → a < b + 1 → Dec (a ≡ b) → T (bit (seen₁ .met) (32 + a))
         found t a l (yes q) = rw q t
@@ -135,23 +135,23 @@ module _ (S : Stored) (h : ℕ) (search : Search) (b : ℕ) where
             some-intro (64 * (b * wordCount n)) (onPairs S h f) (like * leafWidth n + z) below
             (subst T (ap (onPairs S h f) e ∙ at b z small ∙ ap (λ values. f values z) (sym same) ∙ sym (at like z small)) v)
 
-    skip : (f : ℕ → ℕ → Bool) (met : ℕ) (pairs : List ℕ) (e : ℕ) → Entry (onPairs S h f) (b * wordCount n) met pairs e → Entry (onPairs S h f) ((b + 1) * wordCount n) met pairs e
-    skip f met pairs e E = record {
+    skip : (f : ℕ → ℕ → Bool) (met : ℕ) (firsts : List ℕ) (e : ℕ) → Entry (onPairs S h f) (b * wordCount n) met firsts e → Entry (onPairs S h f) ((b + 1) * wordCount n) met firsts e
+    skip f met firsts e E = record {
       found = E .found ∙ sym (repeated f);
       stored = λ u.
           E .stored u
           ∙ sym (first-longer (64 * (b * wordCount n)) (64 * ((b + 1) * wordCount n)) (onPairs S h f) (omega (arith, sym (leaf-more b (wordCount n)))) (subst T (E .found) u));
     }
 
-    pub leaf-copied : (seen : Seen) (pairs rows : List ℕ) (seen₁ : Seen) (pairs₁ : List ℕ) → b < 32 → getD (S .counts) 1 0 ≤ 31 → Copied b like seen pairs seen₁ pairs₁
-        → After S h search b seen pairs rows → Visited S h search b seen₁ pairs₁ rows
-    leaf-copied seen pairs rows seen₁ pairs₁ small few C A = record {
+    pub leaf-copied : (seen : Seen) (firsts rows : List ℕ) (seen₁ : Seen) (firsts₁ : List ℕ) → b < 32 → getD (S .counts) 1 0 ≤ 31 → Copied b like seen firsts seen₁ firsts₁
+        → After S h search b seen firsts rows → Visited S h search b seen₁ firsts₁ rows
+    leaf-copied seen firsts rows seen₁ firsts₁ small few C A = record {
       done = λ _. record {
         plains = λ a l. plains a l (ℕ-discrete a b);
         found = λ a l. found a l (ℕ-discrete a b);
         fresh = λ a l m. C .met-kept (32 + a) (λ q. omega arith) ∙ A .fresh a (omega arith) m;
-        entries = λ i l. entry-same _ _ _ _ _ _ i (C .met-kept i (λ q. omega arith)) (C .pairs-kept i (λ q. omega arith)) (skip (meetsHere S search i) (seen .met) pairs i (A .entries i l));
-        unmet = λ e. entry-same _ _ _ _ _ _ 31 apart (C .pairs-kept 31 (λ q. omega arith)) (skip (unmetHere S) (seen .met) pairs 31 (A .unmet e));
+        entries = λ i l. entry-same _ _ _ _ _ _ i (C .met-kept i (λ q. omega arith)) (C .firsts-kept i (λ q. omega arith)) (skip (meetsHere S search i) (seen .met) firsts i (A .entries i l));
+        unmet = λ e. entry-same _ _ _ _ _ _ 31 apart (C .firsts-kept 31 (λ q. omega arith)) (skip (unmetHere S) (seen .met) firsts 31 (A .unmet e));
         possible = λ e t j l.
             ap (λ x. bit x j) (C .possible-kept) ∙ A .possible e (subst (λ c. T (not c)) apart t) j l ∙ sym (missed-again j);
         marks = λ e t j l u i m.
@@ -165,13 +165,13 @@ module _ (S : Stored) (h : ℕ) (search : Search) (b : ℕ) where
 
         plains : (a : ℕ) → a < b + 1 → Dec (a ≡ b)
             → T (someBelow (leafWidth n) (allowedIn S search (leafValues S h a)))
-            × (numberAt pairs₁ (32 + a) ≡ firstBelow (leafWidth n) (allowedIn S search (leafValues S h a)))
+            × (numberAt firsts₁ (32 + a) ≡ firstBelow (leafWidth n) (allowedIn S search (leafValues S h a)))
         plains a l (yes q) =
             let (s, e) = A .plains like earlier in
             rw (q, ← same) (s, C .stored ∙ e)
         plains a l (no m) =
             let (s, e) = A .plains a (omega arith) in
-            (s, C .pairs-kept (32 + a) (λ q. omega arith) ∙ e)
+            (s, C .firsts-kept (32 + a) (λ q. omega arith) ∙ e)
 
         found : (a : ℕ) → a < b + 1 → Dec (a ≡ b) → T (bit (seen₁ .met) (32 + a))
         found a l (yes q) = rw q (of-true (C .found))
@@ -189,25 +189,25 @@ module _ (S : Stored) (h : ℕ) (search : Search) (b : ℕ) where
 
 -- ---- what is kept of the other leaves
 
-pub others-none : (b : ℕ) (seen : Seen) (pairs : List ℕ) → OthersKept b seen pairs seen pairs
-others-none b seen pairs = record { possible-kept = refl; met-kept = λ k m n. refl; pairs-kept = λ k m n. refl }
+pub others-none : (b : ℕ) (seen : Seen) (firsts : List ℕ) → OthersKept b seen firsts seen firsts
+others-none b seen firsts = record { possible-kept = refl; met-kept = λ k m n. refl; firsts-kept = λ k m n. refl }
 
-pub others-more : (b : ℕ) (seen : Seen) (pairs : List ℕ) (seen₁ : Seen) (pairs₁ : List ℕ) (seen₂ : Seen) (pairs₂ : List ℕ) → OthersKept b seen pairs seen₁ pairs₁
-    → OthersKept b seen₁ pairs₁ seen₂ pairs₂ → OthersKept b seen pairs seen₂ pairs₂
-others-more b seen pairs seen₁ pairs₁ seen₂ pairs₂ O P = record {
+pub others-more : (b : ℕ) (seen : Seen) (firsts : List ℕ) (seen₁ : Seen) (firsts₁ : List ℕ) (seen₂ : Seen) (firsts₂ : List ℕ) → OthersKept b seen firsts seen₁ firsts₁
+    → OthersKept b seen₁ firsts₁ seen₂ firsts₂ → OthersKept b seen firsts seen₂ firsts₂
+others-more b seen firsts seen₁ firsts₁ seen₂ firsts₂ O P = record {
   possible-kept = P .possible-kept ∙ O .possible-kept;
   met-kept = λ k m n. P .met-kept k m n ∙ O .met-kept k m n;
-  pairs-kept = λ k m n. P .pairs-kept k m n ∙ O .pairs-kept k m n;
+  firsts-kept = λ k m n. P .firsts-kept k m n ∙ O .firsts-kept k m n;
 }
 
--- the least choice of leaf a is stored as that of leaf b
-pub copied : (b a : ℕ) (seen : Seen) (pairs : List ℕ) → 2 * (32 + b) + 1 < length pairs
-    → Copied b a seen pairs (record { met = bitOr (seen .met) (2 ^ (32 + b)); possible = seen .possible; here = 0 }) (keptIn pairs (32 + b) (getD pairs (2 * (32 + a)) 0) (getD pairs (2 * (32 + a) + 1) 0))
+-- the first word of leaf a is stored as that of leaf b
+pub copied : (b a : ℕ) (seen : Seen) (firsts : List ℕ) → 2 * (32 + b) + 1 < length firsts
+    → Copied b a seen firsts (record { met = bitOr (seen .met) (2 ^ (32 + b)); possible = seen .possible; here = 0 }) (keptIn firsts (32 + b) (getD firsts (2 * (32 + a)) 0) (getD firsts (2 * (32 + a) + 1) 0))
 unfolding numberAt
-copied b a seen pairs room = record {
+copied b a seen firsts room = record {
   possible-kept = refl;
   found = bit-added (seen .met) (32 + b) true refl (32 + b) ∙ rw (eq-eqb (32 + b) (32 + b) refl) (or-true (bit (seen .met) (32 + b)));
   met-kept = λ k n. bit-added (seen .met) (32 + b) true refl k ∙ rw (ne-eqb k (32 + b) n) (or-false (bit (seen .met) k));
-  stored = kept-there pairs (32 + b) (getD pairs (2 * (32 + a)) 0) (getD pairs (2 * (32 + a) + 1) 0) room;
-  pairs-kept = λ k n. kept-others pairs (32 + b) (getD pairs (2 * (32 + a)) 0) (getD pairs (2 * (32 + a) + 1) 0) k n;
+  stored = kept-there firsts (32 + b) (getD firsts (2 * (32 + a)) 0) (getD firsts (2 * (32 + a) + 1) 0) room;
+  firsts-kept = λ k n. kept-others firsts (32 + b) (getD firsts (2 * (32 + a)) 0) (getD firsts (2 * (32 + a) + 1) 0) k n;
 }

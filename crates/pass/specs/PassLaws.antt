@@ -52,33 +52,33 @@ module _ (S : Stored) (h : ℕ) (search : Search) where
   unfolding someBelow
   none f = ap (λ k. someBelow (64 * k) (onPairs S h f)) (zero-mul (wordCount (S .free)))
 
-  entry-start : (f : ℕ → ℕ → Bool) (pairs : List ℕ) (e : ℕ) → Entry (onPairs S h f) (0 * wordCount (S .free)) 0 pairs e
-  entry-start f pairs e = record { found = bit-zero e ∙ sym (none f); stored = λ t. absurd (T-not (bit 0 e) (of-false (bit-zero e)) t) }
+  entry-start : (f : ℕ → ℕ → Bool) (firsts : List ℕ) (e : ℕ) → Entry (onPairs S h f) (0 * wordCount (S .free)) 0 firsts e
+  entry-start f firsts e = record { found = bit-zero e ∙ sym (none f); stored = λ t. absurd (T-not (bit 0 e) (of-false (bit-zero e)) t) }
 
-  pub after-none : (pairs rows : List ℕ) → ((k : ℕ) → getD rows k 0 ≡ 0)
-      → After S h search 0 (record { met = 0; possible = 2 ^ getD (S .counts) 3 0 - 1; here = 0 }) pairs rows
+  pub after-none : (firsts rows : List ℕ) → ((k : ℕ) → getD rows k 0 ≡ 0)
+      → After S h search 0 (record { met = 0; possible = 2 ^ getD (S .counts) 3 0 - 1; here = 0 }) firsts rows
   unfolding everyBelow
-  after-none pairs rows zero = record {
+  after-none firsts rows zero = record {
     plains = λ a l. absurd (omega arith);
     found = λ a l. absurd (omega arith);
     fresh = λ a l m. bit-zero (32 + a);
-    entries = λ i l. entry-start (meetsHere S search i) pairs i;
-    unmet = λ e. entry-start (unmetHere S) pairs 31;
+    entries = λ i l. entry-start (meetsHere S search i) firsts i;
+    unmet = λ e. entry-start (unmetHere S) firsts 31;
     possible = λ e t j l. bit-ones (getD (S .counts) 3 0) j l;
     marks = λ e t j l u i m. ap (λ x. bit x i) (zero (64 + j)) ∙ bit-zero i ∙ sym (none (meetsHere S (Missed j) i));
   }
 
   -- after the last
-  pub passed-all : (seen : Seen) (pairs rows : List ℕ) → After S h search (2 ^ h) seen pairs rows → Passed S h search seen pairs rows
-  passed-all seen pairs rows A = record {
+  pub passed-all : (seen : Seen) (firsts rows : List ℕ) → After S h search (2 ^ h) seen firsts rows → Passed S h search seen firsts rows
+  passed-all seen firsts rows A = record {
     all = is-true _ (every-intro (2 ^ h) _ (A .found)) ∙ sym (is-true _ (every-intro (2 ^ h) _ (λ b l. A .plains b l .0)));
     after = λ _. A;
   }
 
   -- a leaf has no choice
-  pub passed-none : (b : ℕ) (seen : Seen) (pairs rows : List ℕ) → b < 2 ^ h → bit (seen .met) (32 + b) ≡ false → Visited S h search b seen pairs rows
-      → Passed S h search seen pairs rows
-  passed-none b seen pairs rows l e W = record {
+  pub passed-none : (b : ℕ) (seen : Seen) (firsts rows : List ℕ) → b < 2 ^ h → bit (seen .met) (32 + b) ≡ false → Visited S h search b seen firsts rows
+      → Passed S h search seen firsts rows
+  passed-none b seen firsts rows l e W = record {
     all = every-fails (λ b. bit (seen .met) (32 + b)) (of-false e)
         ∙ sym (every-fails (λ b. someBelow (leafWidth (S .free)) (allowedIn S search (leafValues S h b))) (W .none (of-false e)));
     after = λ t. absurd (T-not (bit (seen .met) (32 + b)) (of-false e) (every-at (2 ^ h) (λ b. bit (seen .met) (32 + b)) t b l));

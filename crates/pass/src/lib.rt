@@ -29,13 +29,13 @@ fn pass_leaf(
     sizes: Sizes,
     leaf: Leaf,
     seen: Seen,
-    pairs: &mut [u64; 128],
+    firsts: &mut [u64; 128],
     rows: &mut [u64; 96],
 ) -> Seen
     requires { ⌜ Readable (now clauses) (sizes .counts) (sizes .free) (sizes .own) ⌝ }
     requires { ⌜ Named (sizes .counts) (leaf .search) × (leaf .number < 32) × Placed (sizes .free) (sizes .own) (now terms) ⌝ }
     ensures { λ r. ⌜ ((values v : ℕ) → Terms (sizes .free) (sizes .own) values v (now (terms .entry)) → (u : ℕ) × Terms (sizes .free) (sizes .own) values u (now (terms .exit))) ⌝ }
-    ensures { λ r. ⌜ ((h : ℕ) (constants : List ℕ) (v : ℕ) → Terms (sizes .free) (sizes .own) (leafValues (storedBy sizes (now (clauses .entry)) constants) h (leaf .number)) v (now (terms .entry)) → After (storedBy sizes (now (clauses .entry)) constants) h (leaf .search) (leaf .number) seen (now (pairs .entry)) (now (rows .entry)) → Visited (storedBy sizes (now (clauses .entry)) constants) h (leaf .search) (leaf .number) r (now (pairs .exit)) (now (rows .exit))) ⌝ }
+    ensures { λ r. ⌜ ((h : ℕ) (constants : List ℕ) (v : ℕ) → Terms (sizes .free) (sizes .own) (leafValues (storedBy sizes (now (clauses .entry)) constants) h (leaf .number)) v (now (terms .entry)) → After (storedBy sizes (now (clauses .entry)) constants) h (leaf .search) (leaf .number) seen (now (firsts .entry)) (now (rows .entry)) → Visited (storedBy sizes (now (clauses .entry)) constants) h (leaf .search) (leaf .number) r (now (firsts .exit)) (now (rows .exit))) ⌝ }
 {
     let search = leaf.search;
     let number = leaf.number;
@@ -53,7 +53,7 @@ fn pass_leaf(
             leaf: number,
             word: w,
         };
-        r = steps::pass_word(terms, clauses, sizes, spot, r, pairs, rows);
+        r = steps::pass_word(terms, clauses, sizes, spot, r, firsts, rows);
         w += 1;
     }
     Seen {
@@ -64,16 +64,16 @@ fn pass_leaf(
 }
 
 // A leaf that looks like an earlier one has its least choice, and no other search finds anything there.
-fn copy_leaf(number: usize, like: usize, seen: Seen, pairs: &mut [u64]) -> Seen
-    requires { ⌜ (like < number) × (number < 32) × (length (now pairs) ≡ 128) ⌝ }
-    ensures { λ r. ⌜ Copied number like seen (now (pairs .entry)) r (now (pairs .exit)) ⌝ }
+fn copy_leaf(number: usize, like: usize, seen: Seen, firsts: &mut [u64]) -> Seen
+    requires { ⌜ (like < number) × (number < 32) × (length (now firsts) ≡ 128) ⌝ }
+    ensures { λ r. ⌜ Copied number like seen (now (firsts .entry)) r (now (firsts .exit)) ⌝ }
 {
     let from = 2 * (32 + like);
     let to = 2 * (32 + number);
-    let word = pairs[from];
-    let choices = pairs[from + 1];
-    pairs[to] = word;
-    pairs[to + 1] = choices;
+    let word = firsts[from];
+    let choices = firsts[from + 1];
+    firsts[to] = word;
+    firsts[to + 1] = choices;
     Seen {
         met: seen.met | (1 << (32 + number)),
         possible: seen.possible,
@@ -88,21 +88,21 @@ fn visit(
     sizes: Sizes,
     leaf: Leaf,
     seen: Seen,
-    pairs: &mut [u64; 128],
+    firsts: &mut [u64; 128],
     rows: &mut [u64; 96],
 ) -> Seen
     requires { ⌜ Readable (now clauses) (sizes .counts) (sizes .free) (sizes .own) ⌝ }
     requires { ⌜ Named (sizes .counts) (leaf .search) × (leaf .number < 32) × (sizes .defined ≤ 32) × Within (sizes .defined) (leaf .values) × PlacedWithin (sizes .free) (sizes .own) (sizes .defined) (now terms) ⌝ }
     ensures { λ r. ⌜ PlacedWithin (sizes .free) (sizes .own) (sizes .defined) (now (terms .exit)) ⌝ }
-    ensures { λ r. ⌜ ((h : ℕ) (constants : List ℕ) → leaf .values ≡ leafValues (storedBy sizes (now (clauses .entry)) constants) h (leaf .number) → (leaf .like < leaf .number → leafValues (storedBy sizes (now (clauses .entry)) constants) h (leaf .like) ≡ leaf .values) → After (storedBy sizes (now (clauses .entry)) constants) h (leaf .search) (leaf .number) seen (now (pairs .entry)) (now (rows .entry)) → Visited (storedBy sizes (now (clauses .entry)) constants) h (leaf .search) (leaf .number) r (now (pairs .exit)) (now (rows .exit))) ⌝ }
+    ensures { λ r. ⌜ ((h : ℕ) (constants : List ℕ) → leaf .values ≡ leafValues (storedBy sizes (now (clauses .entry)) constants) h (leaf .number) → (leaf .like < leaf .number → leafValues (storedBy sizes (now (clauses .entry)) constants) h (leaf .like) ≡ leaf .values) → After (storedBy sizes (now (clauses .entry)) constants) h (leaf .search) (leaf .number) seen (now (firsts .entry)) (now (rows .entry)) → Visited (storedBy sizes (now (clauses .entry)) constants) h (leaf .search) (leaf .number) r (now (firsts .exit)) (now (rows .exit))) ⌝ }
 {
     let number = leaf.number;
     let like = leaf.like;
     if like < number {
-        return copy_leaf(number, like, seen, pairs);
+        return copy_leaf(number, like, seen, firsts);
     }
     words::set_constants(leaf.values, sizes.defined, terms);
-    pass_leaf(terms, clauses, sizes, leaf, seen, pairs, rows)
+    pass_leaf(terms, clauses, sizes, leaf, seen, firsts, rows)
 }
 
 // The first of the first b leaves whose values are these, or b.
@@ -126,12 +126,12 @@ pub fn pass_leaves(
     sizes: Sizes,
     constants: &[u64; 32],
     search: Search,
-    pairs: &mut [u64; 128],
+    firsts: &mut [u64; 128],
     rows: &mut [u64; 96],
 ) -> Seen
     requires { ⌜ Readable (now clauses) (sizes .counts) (sizes .free) (sizes .own) ⌝ }
     requires { ⌜ Named (sizes .counts) search × (sizes .defined ≤ 32) × (sizes .height ≤ 5) × ((k : ℕ) → getD (now rows) k 0 ≡ 0) ⌝ }
-    ensures { λ r. ⌜ Passed (storedBy sizes (now (clauses .entry)) (now (constants .entry))) (sizes .height) search r (now (pairs .exit)) (now (rows .exit)) ⌝ }
+    ensures { λ r. ⌜ Passed (storedBy sizes (now (clauses .entry)) (now (constants .entry))) (sizes .height) search r (now (firsts .exit)) (now (rows .exit)) ⌝ }
 {
     let mut terms = [0u64; 64];
     words::start_terms(sizes.free, sizes.own, &mut terms);
@@ -153,7 +153,7 @@ pub fn pass_leaves(
             like,
             values,
         };
-        seen = visit(&mut terms, clauses, sizes, leaf, seen, pairs, rows);
+        seen = visit(&mut terms, clauses, sizes, leaf, seen, firsts, rows);
         if !basics::digit(seen.met, 32 + b) {
             return seen;
         }

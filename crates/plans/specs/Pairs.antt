@@ -1,4 +1,4 @@
--- Pairs of a leaf and a choice as one number, the pairs that a search finds, and the plan of them. Assumes nothing.
+-- A pair of a leaf and a choice as one number, the pairs that a table of first words stands for, and the plan of them. Assumes nothing.
 use mathlib.Core.Path.{_≡_}
 use mathlib.Core.Bool.{cond}
 use mathlib.Core.List.{List}
@@ -17,36 +17,36 @@ use Rattle.plans.specs.declared.Outline.{Outline}
 abbrev pub leafWidth : ℕ → ℕ
 leafWidth n = 64 * wordCount n
 
--- the entry of a table of pairs that disequation e has: an extra one has entry 31, the others come from entry 0 on
+-- the entry of a table of first words that disequation e has: an extra one has entry 31, the others come from entry 0 on
 abbrev pub slotOf : ℕ → ℕ → ℕ
 slotOf extra e = cond (ltb e extra) 31 (e - extra)
 
--- a table of pairs that can be planned: its numbers are of leaves and choices that there are
-pub record Fitting (o : Outline) (pairs : List ℕ) : Type 0 where
+-- a table that can be planned: its numbers are of leaves and choices that there are
+pub record Fitting (o : Outline) (firsts : List ℕ) : Type 0 where
   pub variables : o .free ≤ 12
   pub low : o .height ≤ 5
   pub splits : o .splits ≤ 5
   pub extra : o .extra ≤ 1
   pub few : o .count ≤ 31
-  pub plains : (b : ℕ) → b < 2 ^ o .height → numberAt pairs (32 + b) < 2 ^ o .free
-  pub entries : (e : ℕ) → e < o .extra + o .count → numberAt pairs (slotOf (o .extra) e) < 2 ^ o .height * leafWidth (o .free)
-  pub choices : (e : ℕ) → e < o .extra + o .count → numberAt pairs (slotOf (o .extra) e) % leafWidth (o .free) < 2 ^ o .free
+  pub plains : (b : ℕ) → b < 2 ^ o .height → numberAt firsts (32 + b) < 2 ^ o .free
+  pub entries : (e : ℕ) → e < o .extra + o .count → numberAt firsts (slotOf (o .extra) e) < 2 ^ o .height * leafWidth (o .free)
+  pub choices : (e : ℕ) → e < o .extra + o .count → numberAt firsts (slotOf (o .extra) e) % leafWidth (o .free) < 2 ^ o .free
 
--- a table holds the pairs of a solvable problem: the least choice of each leaf, and the leaf and the choice of each disequation
-pub record PairsOf (n h : ℕ) (R : Problem ℕ) (extra : ℕ) (pairs : List ℕ) : Type 0 where
-  pub plains : (b : ℕ) → b < 2 ^ h → numberAt pairs (32 + b) ≡ plainChoice n h R b
-  pub entries : (e : ℕ) → e < R .count → numberAt pairs (slotOf extra e) ≡ leafFor n h R e * leafWidth n + specialChoice n h R e (leafFor n h R e)
+-- a table stands for the pairs of a solvable problem: the least choice of each leaf, and the leaf and the choice of each disequation
+pub record PairsOf (n h : ℕ) (R : Problem ℕ) (extra : ℕ) (firsts : List ℕ) : Type 0 where
+  pub plains : (b : ℕ) → b < 2 ^ h → numberAt firsts (32 + b) ≡ plainChoice n h R b
+  pub entries : (e : ℕ) → e < R .count → numberAt firsts (slotOf extra e) ≡ leafFor n h R e * leafWidth n + specialChoice n h R e (leafFor n h R e)
   pub within : (e : ℕ) → e < R .count → specialChoice n h R e (leafFor n h R e) < 2 ^ n
 
 -- the leaf of disequation e by its pair
 abbrev pub pairLeaf : Outline → List ℕ → ℕ → ℕ
-pairLeaf o pairs e = numberAt pairs (slotOf (o .extra) e) / leafWidth (o .free)
+pairLeaf o firsts e = numberAt firsts (slotOf (o .extra) e) / leafWidth (o .free)
 
 -- the first e disequations have their sub-leaves and choices
-pub record Filled (o : Outline) (pairs : List ℕ) (e : ℕ) (subleaf choice : List ℕ) : Type 0 where
+pub record Filled (o : Outline) (firsts : List ℕ) (e : ℕ) (subleaf choice : List ℕ) : Type 0 where
   pub sub-leaves : (i : ℕ) → i < e
-      → getD subleaf i 0 ≡ pairLeaf o pairs i * 2 ^ o .splits + countBelow i (λ j. eqb (pairLeaf o pairs j) (pairLeaf o pairs i))
-  pub choices : (i : ℕ) → i < e → getD choice i 0 ≡ numberAt pairs (slotOf (o .extra) i) % leafWidth (o .free)
+      → getD subleaf i 0 ≡ pairLeaf o firsts i * 2 ^ o .splits + countBelow i (λ j. eqb (pairLeaf o firsts j) (pairLeaf o firsts i))
+  pub choices : (i : ℕ) → i < e → getD choice i 0 ≡ numberAt firsts (slotOf (o .extra) i) % leafWidth (o .free)
 
 -- the plan's entries are those of the problem, with each leaf split k times
 pub record Made (n h : ℕ) (R : Problem ℕ) (k : ℕ) (plan : Plan) : Type 0 where

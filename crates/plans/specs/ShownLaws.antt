@@ -4,20 +4,18 @@ use mathlib.Core.Bool.{cond, _&&_}
 use Prim.Native.Nat.{ℕ, zero, suc, _+_, _*_, _/_, _%_, _^_, _≤_, _<_}
 use native.Mathlib.Decide.{decLt, ℕ-discrete}
 use native.Mathlib.Omega.{arith}
-use lib.Dec.{T, ltb, eqb, eqb→eq}
+use lib.Dec.{T, ltb, eqb}
 use lib.ListN.{getD}
 use lib.Pow.{high, low, split, shr-lt}
 use borrow.Author.Tests.{lt-ltb, le-ltb, eq-eqb, ne-eqb}
-use Rattle.shares.specs.Test.{and-left, and-right}
 use Rattle.shares.specs.Below.{someBelow}
-use Rattle.shares.specs.BelowLaws.{first-below}
 use Rattle.shares.specs.Blocks.{blockOf}
 use Rattle.shares.specs.BlockLaws.{block-split}
 use Rattle.leaves.specs.Choices.{least}
 use Rattle.leaves.specs.RowNumbers.{value}
 use Rattle.leaves.specs.Problem.{Problem, solvable}
 use Rattle.leaves.specs.Fixed.{heldAt, carriedAt, fixedAt}
-use Rattle.leaves.specs.ProblemLaws.{at-block, rank-lt, plain-passes, block-passes, fixed-split}
+use Rattle.leaves.specs.ProblemLaws.{held-there, at-rank, rank-lt, plain-passes, leaf-passes, fixed-split}
 use Rattle.plans.specs.declared.Plan.{Plan}
 use Rattle.plans.specs.Shown.{planChoiceAfter, planChoice}
 use Rattle.leaves.specs.Numbers.{numbered, leafFor, rankFor, plainChoice, specialChoice}
@@ -37,12 +35,8 @@ module _ (n h : ℕ) (R : Problem ℕ) (k : ℕ) (plan : Plan) (M : Made n h R k
 
   -- the disequation at a sub-leaf stands there
   at-there : g < R .count → (leafFor n h R g ≡ b) × (rankFor n h R g ≡ r)
-  unfolding heldAt g
-  at-there l =
-      let t = first-below (R .count) (λ j. eqb (leafFor n h R j) b && eqb (rankFor n h R j) r) l in (
-        eqb→eq (leafFor n h R g) b (and-left (eqb (leafFor n h R g) b) _ t),
-        eqb→eq (rankFor n h R g) r (and-right (eqb (leafFor n h R g) b) _ t),
-      )
+  unfolding g
+  at-there l = held-there (least n) h (numbered n R) b r l
 
   -- and the one that stands there is the disequation at it
   there-at : (j : ℕ) → j < R .count → s ≡ leafFor n h R j * 2 ^ k + rankFor n h R j → (j ≡ g) × (leafFor n h R j ≡ b)
@@ -51,7 +45,7 @@ module _ (n h : ℕ) (R : Problem ℕ) (k : ℕ) (plan : Plan) (M : Made n h R k
       let m = rank-lt (least n) h (numbered n R) k j room l in
       let e₁ : b ≡ leafFor n h R j = ap (λ x. x / 2 ^ k) e ∙ high (leafFor n h R j) k m in
       let e₂ : r ≡ rankFor n h R j = ap (λ x. x % 2 ^ k) e ∙ low (leafFor n h R j) k m in
-      (sym (ap₂ (heldAt (least n) h (numbered n R)) e₁ e₂ ∙ at-block (least n) h (numbered n R) j l), sym e₁)
+      (sym (ap₂ (heldAt (least n) h (numbered n R)) e₁ e₂ ∙ at-rank (least n) h (numbered n R) j l), sym e₁)
 
   -- the plan once its first m entries stand
   after : (m : ℕ) → m ≤ R .count → planChoiceAfter plan m s ≡ cond (ltb g m) (specialChoice n h R g b) (plainChoice n h R b)
@@ -94,7 +88,7 @@ module _ (n h : ℕ) (R : Problem ℕ) (k : ℕ) (plan : Plan) (M : Made n h R k
       go (yes l) =
           let (at, rank) = at-there l in
           let u : T (someBelow (2 ^ n) (λ x. R .pos b x && R .dis g b x)) =
-          rw (special-is n h R g b) at (rw at at (block-passes (least n) h (numbered n R) t g l .1)) in
+          rw (special-is n h R g b) at (rw at at (leaf-passes (least n) h (numbered n R) t g l .1)) in
           rw (lt-ltb g (R .count) l) (sym (pick-number n (λ x. R .pos b x && R .dis g b x) u))
       go (no l) =
           let u : T (someBelow (2 ^ n) (R .pos b)) = rw (plain-is n h R b) at (plain-passes (least n) h (numbered n R) t b bl) in

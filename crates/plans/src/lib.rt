@@ -2,7 +2,8 @@
 use guesses::Passing;
 ghost use mathlib.Core.Path.{_≡_};
 ghost use Prim.Native.Nat.{ℕ, _+_, _-_, _*_, _/_, _%_, _^_, _<_, _≤_};
-ghost use lib.Dec.{T};
+ghost use mathlib.Core.Bool.{_&&_};
+ghost use lib.Dec.{eqb};
 ghost use lib.ListN.{length, getD, set};
 ghost use Rattle.leaves.specs.Heights.{c};
 ghost use Rattle.leaves.specs.Problem.{Problem};
@@ -49,7 +50,7 @@ pub fn splits(n: usize) -> usize
     k
 }
 
-// The number of the entry that disequation e of a plan has in the table of pairs.
+// The number of the entry that disequation e of a plan has in the table of first words.
 fn slot_of(extra: usize, e: usize) -> usize
     requires { ⌜ extra ≤ 1 ⌝ }
     ensures { λ r. ⌜ r ≡ slotOf extra e ⌝ }
@@ -72,13 +73,13 @@ fn word_digits(n: usize) -> usize
 }
 
 // The word of an entry, with its number among those of all leaves.
-fn word_at(pairs: &[u64; 128], entry: usize) -> Passing
+fn word_at(firsts: &[u64; 128], entry: usize) -> Passing
     requires { ⌜ entry < 64 ⌝ }
-    ensures { λ r. ⌜ leastNumber r ≡ numberAt (now (pairs .entry)) entry ⌝ }
+    ensures { λ r. ⌜ leastNumber r ≡ numberAt (now (firsts .entry)) entry ⌝ }
 {
     Passing {
-        word: pairs[2 * entry] as usize,
-        choices: pairs[2 * entry + 1],
+        word: firsts[2 * entry] as usize,
+        choices: firsts[2 * entry + 1],
     }
 }
 
@@ -104,7 +105,7 @@ fn choice_of(kept: Passing, free: usize) -> u16
 
 // Whether two words are the same, with the same choices.
 fn are_same(a: Passing, b: Passing) -> bool
-    ensures { λ r. ⌜ (T r → leastNumber a ≡ leastNumber b) ⌝ }
+    ensures { λ r. ⌜ r ≡ (eqb (a .word) (b .word) && eqb (a .choices) (b .choices)) ⌝ }
 {
     a.word == b.word && a.choices == b.choices
 }
@@ -128,14 +129,14 @@ fn take_rank(taken: &mut [usize], leaf: usize) -> usize
 }
 
 // The least choice of leaf b: that of the leaf before it, if it has the same word.
-fn plain_at(pairs: &[u64; 128], b: usize, free: usize, plain: &[u16]) -> u16
+fn plain_at(firsts: &[u64; 128], b: usize, free: usize, plain: &[u16]) -> u16
     requires { ⌜ (b < 32) × (free ≤ 12) × (length (now plain) ≡ 64) ⌝ }
-    requires { ⌜ (numberAt (now pairs) (32 + b) < 2 ^ free) × (0 < b → getD (now plain) (b - 1) 0 ≡ numberAt (now pairs) (31 + b)) ⌝ }
-    ensures { λ r. ⌜ r ≡ numberAt (now (pairs .entry)) (32 + b) ⌝ }
+    requires { ⌜ (numberAt (now firsts) (32 + b) < 2 ^ free) × (0 < b → getD (now plain) (b - 1) 0 ≡ numberAt (now firsts) (31 + b)) ⌝ }
+    ensures { λ r. ⌜ r ≡ numberAt (now (firsts .entry)) (32 + b) ⌝ }
 {
-    let kept = word_at(pairs, 32 + b);
+    let kept = word_at(firsts, 32 + b);
     if 0 < b {
-        if are_same(word_at(pairs, 31 + b), kept) {
+        if are_same(word_at(firsts, 31 + b), kept) {
             return plain[b - 1];
         }
     }
@@ -143,27 +144,27 @@ fn plain_at(pairs: &[u64; 128], b: usize, free: usize, plain: &[u16]) -> u16
 }
 
 // Puts the least choices of the leaves into the plan.
-fn fill_plain(pairs: &[u64; 128], leaves: usize, free: usize, plain: &mut [u16])
-    requires { ⌜ (leaves ≤ 32) × (free ≤ 12) × (length (now plain) ≡ 64) × ((b : ℕ) → b < leaves → numberAt (now pairs) (32 + b) < 2 ^ free) ⌝ }
-    ensures { λ _. ⌜ ((b : ℕ) → b < leaves → getD (now (plain .exit)) b 0 ≡ numberAt (now (pairs .entry)) (32 + b)) ⌝ }
+fn fill_plain(firsts: &[u64; 128], leaves: usize, free: usize, plain: &mut [u16])
+    requires { ⌜ (leaves ≤ 32) × (free ≤ 12) × (length (now plain) ≡ 64) × ((b : ℕ) → b < leaves → numberAt (now firsts) (32 + b) < 2 ^ free) ⌝ }
+    ensures { λ _. ⌜ ((b : ℕ) → b < leaves → getD (now (plain .exit)) b 0 ≡ numberAt (now (firsts .entry)) (32 + b)) ⌝ }
 {
     let mut b: usize = 0;
     while b < leaves {
-        plain[b] = plain_at(pairs, b, free, plain);
+        plain[b] = plain_at(firsts, b, free, plain);
         b += 1;
     }
 }
 
 // Gives each disequation its sub-leaf: from the left those of a leaf stand in order.
-fn fill_entries(pairs: &[u64; 128], outline: Outline, subleaf: &mut [u16], choice: &mut [u16])
-    requires { ⌜ Fitting outline (now pairs) ⌝ }
+fn fill_entries(firsts: &[u64; 128], outline: Outline, subleaf: &mut [u16], choice: &mut [u16])
+    requires { ⌜ Fitting outline (now firsts) ⌝ }
     requires { ⌜ (length (now subleaf) ≡ 32) × (length (now choice) ≡ 32) ⌝ }
-    ensures { λ _. ⌜ Filled outline (now (pairs .entry)) (outline .extra + outline .count) (now (subleaf .exit)) (now (choice .exit)) ⌝ }
+    ensures { λ _. ⌜ Filled outline (now (firsts .entry)) (outline .extra + outline .count) (now (subleaf .exit)) (now (choice .exit)) ⌝ }
 {
     let mut taken = [0usize; 32];
     let mut e: usize = 0;
     while e < outline.extra + outline.count {
-        let kept = word_at(pairs, slot_of(outline.extra, e));
+        let kept = word_at(firsts, slot_of(outline.extra, e));
         let leaf = leaf_of(kept, outline.free);
         let rank = take_rank(&mut taken, leaf);
         subleaf[e] = sub_leaf(leaf, outline.splits, rank);
@@ -172,21 +173,21 @@ fn fill_entries(pairs: &[u64; 128], outline: Outline, subleaf: &mut [u16], choic
     }
 }
 
-// The plan of the solution that a table of pairs holds.
-pub fn plan_of(pairs: &[u64; 128], outline: Outline) -> Plan
-    requires { ⌜ Fitting outline (now pairs) ⌝ }
-    ensures { λ r. ⌜ ((R : Problem ℕ) → R .count ≡ outline .extra + outline .count → PairsOf (outline .free) (outline .height) R (outline .extra) (now (pairs .entry)) → Made (outline .free) (outline .height) R (outline .splits) r) ⌝ }
+// The plan of the solution that a table of first words holds.
+pub fn plan_of(firsts: &[u64; 128], outline: Outline) -> Plan
+    requires { ⌜ Fitting outline (now firsts) ⌝ }
+    ensures { λ r. ⌜ ((R : Problem ℕ) → R .count ≡ outline .extra + outline .count → PairsOf (outline .free) (outline .height) R (outline .extra) (now (firsts .entry)) → Made (outline .free) (outline .height) R (outline .splits) r) ⌝ }
 {
     let mut plain = [0u16; 64];
     let mut subleaf = [0u16; 32];
     let mut choice = [0u16; 32];
     fill_plain(
-        pairs,
+        firsts,
         basics::power(outline.height),
         outline.free,
         &mut plain,
     );
-    fill_entries(pairs, outline, &mut subleaf, &mut choice);
+    fill_entries(firsts, outline, &mut subleaf, &mut choice);
     Plan {
         low: outline.height,
         high: outline.height + outline.splits,

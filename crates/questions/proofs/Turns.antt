@@ -6,7 +6,8 @@ use Prim.Native.Nat.{ℕ, zero, suc, _+_, _≤_, _<_}
 use native.Mathlib.Omega.{arith}
 use borrow.Author.Tests.{eqb-true, eqb-false, eq-eqb, ne-eqb}
 use lib.Dec.{eqb}
-use lib.ListN.{length, getD, replicate}
+use lib.ListN.{length, replicate}
+use Rattle.shares.specs.NumberLaws.{zero-at}
 use Rattle.systems.specs.Clauses.{positives, disequations}
 use Rattle.systems.specs.Questions.{Question, satisfiability, entailment}
 use Rattle.format.specs.declared.Section.{Section}
@@ -79,11 +80,6 @@ stands-opened kind n m clauses lc e =
     none FirstDisequation = refl
     none SecondPositive = refl
     none SecondDisequation = refl
-
-zero-at : (n i : ℕ) → _≡_ {A = ℕ} (getD (replicate n 0) i 0) 0
-zero-at zero i = refl
-zero-at (suc n) zero = refl
-zero-at (suc n) (suc i) = zero-at n i
 
 pub begins : (s : List ℕ) (kind n m : ℕ) (clauses : List ℕ) → length clauses ≡ clauseBytes → 4 ≤ length s → headFits kind n m ≡ true
     → Going s kind (opening n m clauses) (opened kind n m) clauses 4

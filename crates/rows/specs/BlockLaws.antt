@@ -244,8 +244,8 @@ block-pair row (suc h) q n =
 -- ---- blocks set one after the other
 
 -- a block whose leaves are v already is set as it stands
-pub block-same : (row : List ℕ) (h q : ℕ) (v : Bool) → AllLeaves row h q v → BlockSet row row h q v
-block-same row h q v all i = pick (ℕ-discrete (i / 2 ^ h) q)
+pub leaf-same : (row : List ℕ) (h q : ℕ) (v : Bool) → AllLeaves row h q v → BlockSet row row h q v
+leaf-same row h q v all i = pick (ℕ-discrete (i / 2 ^ h) q)
   where
     pick : Dec (i / 2 ^ h ≡ q) → rowLeaf row i ≡ cond (eqb (i / 2 ^ h) q) v (rowLeaf row i)
     pick (yes e) = rw (eq-eqb (i / 2 ^ h) q e) (all i e)

@@ -9,7 +9,7 @@ use native.Mathlib.Decide.{decLt}
 use native.Mathlib.Omega.{arith}
 use borrow.Author.Tests.{lt-ltb, le-ltb, le-leb, lt-leb}
 use lib.Dec.{ltb}
-use lib.ListN.{length, getD, take, drop, replicate, length-append, length-drop, length-replicate, replicate-append-replicate, getD-replicate, List·getD-eq-default}
+use lib.ListN.{length, getD, take, drop, replicate, length-append, length-drop, length-replicate, replicate-append-replicate, List·getD-eq-default}
 use lib.Pow.{pow-add}
 use lib.Seq.{ext-getD, take-at, drop-at}
 use Rattle.shares.specs.Tree.{Tree, leaf, Folded, height, leafAt}
@@ -18,6 +18,7 @@ use Rattle.shares.specs.Constant.{bit, numberOf}
 use Rattle.shares.specs.BitLaws.{bit-zero, bits-same, number-lt, bit-number}
 use Rattle.rows.specs.Rows.{rowCount, bytesAt, rowLeaf, rowTree, listOf, rowOf, emptyRange, rowRange, rowPart, zeros, variableRow, rowsOf, filledWith}
 use Rattle.rows.specs.Emptied.{emptied}
+use Rattle.shares.specs.NumberLaws.{zero-at}
 
 -- ---- below one more
 
@@ -195,11 +196,7 @@ zeros-length n = length-replicate n 0
 
 zeros-at : (n j : ℕ) → _≡_ {A = ℕ} (getD (zeros n) j 0) 0
 unfolding zeros
-zeros-at n j = go (decLt j n)
-  where
-    go : Dec (j < n) → _≡_ {A = ℕ} (getD (replicate n 0) j 0) 0
-    go (yes l) = getD-replicate n j 0 0 l
-    go (no l) = List·getD-eq-default (replicate n 0) 0 (omega (arith, zeros-length n))
+zeros-at n j = zero-at n j
 
 pub zeros-leaf : (n i : ℕ) → rowLeaf (zeros n) i ≡ false
 zeros-leaf n = zero-leaf (zeros n) (zeros-at n)

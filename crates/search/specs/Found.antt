@@ -1,4 +1,4 @@
--- What a search of the leaves finds: whether its problem is solvable, and the pairs of the solution. Assumes nothing.
+-- What a search of the leaves finds: whether its problem is solvable, and the first words of the solution. Assumes nothing.
 use mathlib.Core.Path.{_≡_}
 use mathlib.Core.Bool.{Bool, false, not, _&&_}
 use mathlib.Core.List.{List}
@@ -29,18 +29,18 @@ lowestMissedIn S h = firstBelow (getD (S .counts) 3 0) (λ j. solvableIn S h (Mi
 abbrev pub allFound : ℕ → ℕ → ℕ → Bool
 allFound h count met = everyBelow (2 ^ h) (λ b. bit met (32 + b)) && everyBelow count (bit met)
 
--- a search: whether its problem is solvable, and then the pairs of it
-pub record SolvedAs (S : Stored) (h : ℕ) (search : Search) (found : Bool) (pairs : List ℕ) : Type 0 where
+-- a search: whether its problem is solvable, and then the first words of its solution
+pub record SolvedAs (S : Stored) (h : ℕ) (search : Search) (found : Bool) (firsts : List ℕ) : Type 0 where
   pub found-is : found ≡ solvableIn S h search
-  pub pairs-are : T found → PairsOf (S .free) h (testsOf S h search) (extraOf search) pairs
+  pub pairs-are : T found → PairsOf (S .free) h (testsOf S h search) (extraOf search) firsts
 
 -- a survey of an entailment: whether the first system has a solution; if so, whether some solution leaves the second's positive clauses unmet, and the
--- pairs of it; if none does, the lowest disequation of the second that some solution misses. Where it is not asked for, `unmet` is false and `missed`
+-- first words of one; if none does, the lowest disequation of the second that some solution misses. Where it is not asked for, `unmet` is false and `missed`
 -- their count
-pub record SurveyedAs (S : Stored) (h : ℕ) (r : Survey) (pairs : List ℕ) : Type 0 where
+pub record SurveyedAs (S : Stored) (h : ℕ) (r : Survey) (firsts : List ℕ) : Type 0 where
   pub solvable-is : r .solvable ≡ solvableIn S h First
   pub unmet-is : T (r .solvable) → r .unmet ≡ solvableIn S h Unmet
-  pub pairs-are : T (r .solvable) → T (r .unmet) → PairsOf (S .free) h (testsOf S h Unmet) (extraOf Unmet) pairs
+  pub pairs-are : T (r .solvable) → T (r .unmet) → PairsOf (S .free) h (testsOf S h Unmet) (extraOf Unmet) firsts
   pub missed-is : T (r .solvable) → T (not (r .unmet)) → r .missed ≡ lowestMissedIn S h
   pub unmet-else : T (not (r .solvable)) → r .unmet ≡ false
   pub missed-else : T (not (r .solvable && not (r .unmet))) → r .missed ≡ getD (S .counts) 3 0

@@ -57,11 +57,11 @@ module _ (S : Stored) (h : ℕ) where
   pairs-words = mul-left-comm 64 (2 ^ h) (wordCount (S .free))
 
   -- an entry after the last leaf
-  module _ (p : ℕ → Bool) (met : ℕ) (pairs : List ℕ) (e : ℕ) (E : Entry p (2 ^ h * wordCount (S .free)) met pairs e) where
+  module _ (p : ℕ → Bool) (met : ℕ) (firsts : List ℕ) (e : ℕ) (E : Entry p (2 ^ h * wordCount (S .free)) met firsts e) where
     entry-found : bit met e ≡ someBelow pairCount p
     entry-found = E .found ∙ ap (λ k. someBelow k p) pairs-words
 
-    entry-pair : T (bit met e) → numberAt pairs e ≡ firstBelow pairCount p
+    entry-pair : T (bit met e) → numberAt firsts e ≡ firstBelow pairCount p
     entry-pair t = E .stored t ∙ ap (λ k. firstBelow k p) pairs-words
 
   -- the pairs of a stored disequation, and of the extra one
@@ -109,49 +109,49 @@ module _ (S : Stored) (h : ℕ) where
 
   -- the entry of disequation e holds its first pair
   abbrev HasPair : Search → List ℕ → ℕ → Type 0
-  HasPair search pairs e =
+  HasPair search firsts e =
       T (someBelow pairCount (pairAt (S .free) (testsOf S h search) e))
-      × (numberAt pairs (slotOf (extraOf search) e) ≡ firstBelow pairCount (pairAt (S .free) (testsOf S h search) e))
+      × (numberAt firsts (slotOf (extraOf search) e) ≡ firstBelow pairCount (pairAt (S .free) (testsOf S h search) e))
 
   -- an entry that has found a pair, of a test that disequation e is
-  has-pair : (search : Search) (p : ℕ → Bool) (met : ℕ) (pairs : List ℕ) (slot e : ℕ) → Entry p (2 ^ h * wordCount (S .free)) met pairs slot
-      → slotOf (extraOf search) e ≡ slot → ((u : ℕ) → pairAt (S .free) (testsOf S h search) e u ≡ p u) → T (bit met slot) → HasPair search pairs e
-  has-pair search p met pairs slot e E at same t = (
-    rw (some-ext pairCount (pairAt (S .free) (testsOf S h search) e) p (λ u l. same u), ← (entry-found p met pairs slot E)) t,
-    rw at (entry-pair p met pairs slot E t ∙ sym (first-ext pairCount (pairAt (S .free) (testsOf S h search) e) p (λ u l. same u))),
+  has-pair : (search : Search) (p : ℕ → Bool) (met : ℕ) (firsts : List ℕ) (slot e : ℕ) → Entry p (2 ^ h * wordCount (S .free)) met firsts slot
+      → slotOf (extraOf search) e ≡ slot → ((u : ℕ) → pairAt (S .free) (testsOf S h search) e u ≡ p u) → T (bit met slot) → HasPair search firsts e
+  has-pair search p met firsts slot e E at same t = (
+    rw (some-ext pairCount (pairAt (S .free) (testsOf S h search) e) p (λ u l. same u), ← (entry-found p met firsts slot E)) t,
+    rw at (entry-pair p met firsts slot E t ∙ sym (first-ext pairCount (pairAt (S .free) (testsOf S h search) e) p (λ u l. same u))),
   )
 
-  module _ (search : Search) (seen : Seen) (pairs rows : List ℕ) (P : Passed S h search seen pairs rows) where
+  module _ (search : Search) (seen : Seen) (firsts rows : List ℕ) (P : Passed S h search seen firsts rows) where
     all-found : allFound h (getD (S .counts) 1 0) (seen .met) ≡ (leavesAllow search && everyBelow (getD (S .counts) 1 0) (pairMeets search))
     all-found =
         and-same _ _ _ _ (P .all) (λ t. every-ext (getD (S .counts) 1 0) _ _ (λ i l. entry-found _ _ _ _ (P .after t .entries i l)))
 
     module _ (t : T (allFound h (getD (S .counts) 1 0) (seen .met))) where
-      after : After S h search (2 ^ h) seen pairs rows
+      after : After S h search (2 ^ h) seen firsts rows
       after = P .after (and-left (everyBelow (2 ^ h) (λ b. bit (seen .met) (32 + b))) (everyBelow (getD (S .counts) 1 0) (bit (seen .met))) t)
 
-      stored-has : (i : ℕ) → i < getD (S .counts) 1 0 → HasPair search pairs (extraOf search + i)
+      stored-has : (i : ℕ) → i < getD (S .counts) 1 0 → HasPair search firsts (extraOf search + i)
       stored-has i l =
-          has-pair search (onPairs S h (meetsHere S search i)) (seen .met) pairs i (extraOf search + i) (after .entries i l) slot (stored-pair search i)
+          has-pair search (onPairs S h (meetsHere S search i)) (seen .met) firsts i (extraOf search + i) (after .entries i l) slot (stored-pair search i)
           (every-at (getD (S .counts) 1 0) (bit (seen .met)) (and-right (everyBelow (2 ^ h) (λ b. bit (seen .met) (32 + b))) (everyBelow (getD (S .counts) 1 0) (bit (seen .met))) t) i l)
         where
           slot : slotOf (extraOf search) (extraOf search + i) ≡ i
           slot = rw (le-ltb (extraOf search + i) (extraOf search) (omega arith)) (omega arith)
 
       -- with pairs of the extra disequations too, the table is that of the problem
-      all-pairs : ((e : ℕ) → e < extraOf search → HasPair search pairs e) → PairsOf (S .free) h (testsOf S h search) (extraOf search) pairs
+      all-pairs : ((e : ℕ) → e < extraOf search → HasPair search firsts e) → PairsOf (S .free) h (testsOf S h search) (extraOf search) firsts
       all-pairs extra =
-          pairs-of (S .free) h (testsOf S h search) (tests-periodic S h search) (extraOf search) pairs (after .plains)
+          pairs-of (S .free) h (testsOf S h search) (tests-periodic S h search) (extraOf search) firsts (after .plains)
           (λ e l. entry e l (decLt e (extraOf search)))
         where
-          entry : (e : ℕ) → e < extraOf search + getD (S .counts) 1 0 → Dec (e < extraOf search) → HasPair search pairs e
+          entry : (e : ℕ) → e < extraOf search + getD (S .counts) 1 0 → Dec (e < extraOf search) → HasPair search firsts e
           entry e l (yes m) = extra e m
           entry e l (no m) =
               let q : extraOf search + (e - extraOf search) ≡ e = omega arith in
-              subst (HasPair search pairs) q (stored-has (e - extraOf search) (omega arith))
+              subst (HasPair search firsts) q (stored-has (e - extraOf search) (omega arith))
 
     -- a search without an extra disequation
-    pub solved : extraOf search ≡ 0 → SolvedAs S h search (allFound h (getD (S .counts) 1 0) (seen .met)) pairs
+    pub solved : extraOf search ≡ 0 → SolvedAs S h search (allFound h (getD (S .counts) 1 0) (seen .met)) firsts
     solved q = record {
       found-is = all-found ∙ sym (solvable-plain search q);
       pairs-are = λ t. all-pairs t (λ e l. absurd (omega arith));
@@ -159,18 +159,18 @@ module _ (S : Stored) (h : ℕ) where
 
   -- ---- after a pass for an unmet choice
 
-  module _ (seen : Seen) (pairs rows : List ℕ) (P : Passed S h Unmet seen pairs rows) where
+  module _ (seen : Seen) (firsts rows : List ℕ) (P : Passed S h Unmet seen firsts rows) where
     -- the same leaves and stored disequations as in a search of the first system
     first-solvable : allFound h (getD (S .counts) 1 0) (seen .met) ≡ solvableIn S h First
-    first-solvable = all-found Unmet seen pairs rows P ∙ sym (solvable-plain First refl)
+    first-solvable = all-found Unmet seen firsts rows P ∙ sym (solvable-plain First refl)
 
     module _ (t : T (allFound h (getD (S .counts) 1 0) (seen .met))) where
-      at-end : After S h Unmet (2 ^ h) seen pairs rows
-      at-end = after Unmet seen pairs rows P t
+      at-end : After S h Unmet (2 ^ h) seen firsts rows
+      at-end = after Unmet seen firsts rows P t
 
       unmet-solvable : bit (seen .met) 31 ≡ solvableIn S h Unmet
       unmet-solvable =
-          let all : (leavesAllow First && everyBelow (getD (S .counts) 1 0) (pairMeets First)) ≡ true = sym (all-found Unmet seen pairs rows P) ∙ is-true _ t in
+          let all : (leavesAllow First && everyBelow (getD (S .counts) 1 0) (pairMeets First)) ≡ true = sym (all-found Unmet seen firsts rows P) ∙ is-true _ t in
           entry-found _ _ _ _ (at-end .unmet refl) ∙ sym (solvable-unmet ∙ within (leavesAllow First) pairUnmet _ all)
         where
           within : (a b c : Bool) → (a && c) ≡ true → (a && (b && c)) ≡ b
@@ -178,11 +178,11 @@ module _ (S : Stored) (h : ℕ) where
           within true false c e = refl
           within false b c e = absurd (false≢true e)
 
-      unmet-pairs : T (bit (seen .met) 31) → PairsOf (S .free) h (testsOf S h Unmet) (extraOf Unmet) pairs
-      unmet-pairs u = all-pairs Unmet seen pairs rows P t (λ e l. let q : 0 ≡ e = omega arith in subst (HasPair Unmet pairs) q first)
+      unmet-pairs : T (bit (seen .met) 31) → PairsOf (S .free) h (testsOf S h Unmet) (extraOf Unmet) firsts
+      unmet-pairs u = all-pairs Unmet seen firsts rows P t (λ e l. let q : 0 ≡ e = omega arith in subst (HasPair Unmet firsts) q first)
         where
-          first : HasPair Unmet pairs 0
-          first = has-pair Unmet (onPairs S h (unmetHere S)) (seen .met) pairs 31 0 (at-end .unmet refl) refl unmet-pair u
+          first : HasPair Unmet firsts 0
+          first = has-pair Unmet (onPairs S h (unmetHere S)) (seen .met) firsts 31 0 (at-end .unmet refl) refl unmet-pair u
 
       missed-solvable : T (not (bit (seen .met) 31)) → (j : ℕ) → j < getD (S .counts) 3 0
           → isMissed (seen .possible) rows (getD (S .counts) 1 0) j ≡ solvableIn S h (Missed j)
@@ -198,7 +198,7 @@ module _ (S : Stored) (h : ℕ) where
     -- ---- the three outcomes of a survey
 
     pub surveyed-none : allFound h (getD (S .counts) 1 0) (seen .met) ≡ false
-        → SurveyedAs S h (record { solvable = false; unmet = false; missed = getD (S .counts) 3 0 }) pairs
+        → SurveyedAs S h (record { solvable = false; unmet = false; missed = getD (S .counts) 3 0 }) firsts
     surveyed-none e = record {
       solvable-is = sym e ∙ first-solvable;
       unmet-is = λ t. absurd t;
@@ -209,7 +209,7 @@ module _ (S : Stored) (h : ℕ) where
     }
 
     pub surveyed-unmet : allFound h (getD (S .counts) 1 0) (seen .met) ≡ true → bit (seen .met) 31 ≡ true
-        → SurveyedAs S h (record { solvable = true; unmet = true; missed = getD (S .counts) 3 0 }) pairs
+        → SurveyedAs S h (record { solvable = true; unmet = true; missed = getD (S .counts) 3 0 }) firsts
     surveyed-unmet e u = record {
       solvable-is = sym e ∙ first-solvable;
       unmet-is = λ t. sym u ∙ unmet-solvable (of-true e);
@@ -221,7 +221,7 @@ module _ (S : Stored) (h : ℕ) where
 
     pub surveyed-missed : (lowest : ℕ) → allFound h (getD (S .counts) 1 0) (seen .met) ≡ true → bit (seen .met) 31 ≡ false
         → lowest ≡ firstBelow (getD (S .counts) 3 0) (isMissed (seen .possible) rows (getD (S .counts) 1 0))
-        → SurveyedAs S h (record { solvable = true; unmet = false; missed = lowest }) pairs
+        → SurveyedAs S h (record { solvable = true; unmet = false; missed = lowest }) firsts
     surveyed-missed lowest e u q = record {
       solvable-is = sym e ∙ first-solvable;
       unmet-is = λ t. sym u ∙ unmet-solvable (of-true e);

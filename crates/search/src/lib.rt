@@ -1,4 +1,4 @@
-// What a pass over the leaves finds: whether a search has a solution, and the table of its pairs.
+// What a pass over the leaves finds: whether a search has a solution, and the first words of it.
 use basics::CLAUSE_BYTES;
 use beside::Sizes;
 use steps::Search;
@@ -66,38 +66,38 @@ fn lowest_missed(possible: u64, rows: &[u64; 96], first_count: usize, second_cou
     second_count
 }
 
-// Whether the problem of a search is solvable, and then the table of its pairs.
+// Whether the problem of a search is solvable, and then the first words of its solution.
 pub fn solve(
     clauses: &[u8; CLAUSE_BYTES],
     sizes: Sizes,
     constants: &[u64; 32],
     search: Search,
-    pairs: &mut [u64; 128],
+    firsts: &mut [u64; 128],
 ) -> bool
     requires { ⌜ Readable (now clauses) (sizes .counts) (sizes .free) (sizes .own) ⌝ }
     requires { ⌜ Named (sizes .counts) search × (sizes .defined ≤ 32) × (sizes .height ≤ 5) × (extraOf search ≡ 0) ⌝ }
-    ensures { λ r. ⌜ SolvedAs (storedBy sizes (now (clauses .entry)) (now (constants .entry))) (sizes .height) search r (now (pairs .exit)) ⌝ }
+    ensures { λ r. ⌜ SolvedAs (storedBy sizes (now (clauses .entry)) (now (constants .entry))) (sizes .height) search r (now (firsts .exit)) ⌝ }
 {
     let mut rows = [0u64; 96];
-    let seen = pass::pass_leaves(clauses, sizes, constants, search, pairs, &mut rows);
+    let seen = pass::pass_leaves(clauses, sizes, constants, search, firsts, &mut rows);
     all_found(seen.met, sizes.height, sizes.counts[1])
 }
 
-// Surveys an entailment, with the table of the pairs of an unmet choice if there is one. Where the first system has no solution `unmet` is false,
+// Surveys an entailment, with the first words of a solution that has an unmet choice, if there is one. Where the first system has no solution `unmet` is false,
 // and where there is no such disequation to find `missed` is the number of the second system's.
 pub fn survey_leaves(
     clauses: &[u8; CLAUSE_BYTES],
     sizes: Sizes,
     constants: &[u64; 32],
-    pairs: &mut [u64; 128],
+    firsts: &mut [u64; 128],
 ) -> Survey
     requires { ⌜ Readable (now clauses) (sizes .counts) (sizes .free) (sizes .own) ⌝ }
     requires { ⌜ (sizes .defined ≤ 32) × (sizes .height ≤ 5) ⌝ }
-    ensures { λ r. ⌜ SurveyedAs (storedBy sizes (now (clauses .entry)) (now (constants .entry))) (sizes .height) r (now (pairs .exit)) ⌝ }
+    ensures { λ r. ⌜ SurveyedAs (storedBy sizes (now (clauses .entry)) (now (constants .entry))) (sizes .height) r (now (firsts .exit)) ⌝ }
 {
     let second_count = sizes.counts[3];
     let mut rows = [0u64; 96];
-    let seen = pass::pass_leaves(clauses, sizes, constants, Search::Unmet, pairs, &mut rows);
+    let seen = pass::pass_leaves(clauses, sizes, constants, Search::Unmet, firsts, &mut rows);
     if !all_found(seen.met, sizes.height, sizes.counts[1]) {
         return Survey {
             solvable: false,

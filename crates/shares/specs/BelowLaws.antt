@@ -179,9 +179,6 @@ first-passes n p i h t = let l : firstBelow n p < n = omega (arith, first-min n 
 pub first-some : (m : ℕ) (p : ℕ → Bool) → firstBelow m p < m → T (someBelow m p)
 first-some m p l = some-intro m p (firstBelow m p) l (first-below m p l)
 
-pub first-not-some : (m : ℕ) (p : ℕ → Bool) → m ≤ firstBelow m p → T (not (someBelow m p))
-first-not-some m p l = not-T (someBelow m p) (λ t. let (i, u, v) = some-found m p t in omega (arith, first-passes m p i u v .0))
-
 -- it is the one number that passes with none below it
 pub first-is : (n : ℕ) (p : ℕ → Bool) (r : ℕ) → r < n → ((i : ℕ) → i < r → p i ≡ false) → p r ≡ true → firstBelow n p ≡ r
 first-is n p r h before found =

@@ -14,3 +14,4 @@ pub mod BitLaws
 pub mod BitParts
 pub mod ConstantLaws
 pub mod TextLaws
+pub mod NumberLaws

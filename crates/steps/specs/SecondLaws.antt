@@ -25,10 +25,10 @@ use Rattle.steps.specs.declared.Seen.{Seen}
 use Rattle.steps.specs.declared.Allowed.{Allowed}
 
 -- an unmet choice was found before
-pub second-before : (sizes : Sizes) (clauses : List ℕ) (values : ℕ) (at : Allowed) (seen : Seen) (pairs rows : List ℕ) → bit (seen .met) 31 ≡ true
-    → Second (storedBy sizes clauses []) values at seen pairs rows seen pairs rows
-second-before sizes clauses values at seen pairs rows e = record {
-  unmet = λ p w E. entry-stays p (at .turn) (at .turn + 1) (seen .met) pairs 31 (omega arith) e E;
+pub second-before : (sizes : Sizes) (clauses : List ℕ) (values : ℕ) (at : Allowed) (seen : Seen) (firsts rows : List ℕ) → bit (seen .met) 31 ≡ true
+    → Second (storedBy sizes clauses []) values at seen firsts rows seen firsts rows
+second-before sizes clauses values at seen firsts rows e = record {
+  unmet = λ p w E. entry-stays p (at .turn) (at .turn + 1) (seen .met) firsts 31 (omega arith) e E;
   stays = λ t. t;
   here = λ t. absurd (T-not (bit (seen .met) 31) t (of-true e));
   marks = λ t. absurd (T-not (bit (seen .met) 31) t (of-true e));
@@ -43,11 +43,11 @@ both-left true false false = refl
 both-left false d e = refl
 
 module _ (sizes : Sizes) (clauses : List ℕ) (R : Readable clauses (sizes .counts) (sizes .free) (sizes .own)) (values : ℕ) (at : Allowed) (seen : Seen)
-    (pairs rows : List ℕ) (first : (i : ℕ) → i < 64 → bit (at .choices) i ≡ firstMeets (storedBy sizes clauses []) values (64 * at .word + i))
+    (firsts rows : List ℕ) (first : (i : ℕ) → i < 64 → bit (at .choices) i ≡ firstMeets (storedBy sizes clauses []) values (64 * at .word + i))
     (none : ℕ) (rows₁ : List ℕ)
     (M : Missing clauses (sizes .counts) (sizes .free) (sizes .own) values (at .word) (at .choices) (seen .possible) none rows₁)
     (kept₁ : (k : ℕ) → 32 ≤ k → getD rows₁ k 0 ≡ getD rows k 0) (apart : bit (seen .met) 31 ≡ false)
-    (met : ℕ) (pairs′ : List ℕ) (K : Kept 31 (at .turn) (bit none) (seen .met) pairs met pairs′) where
+    (met : ℕ) (firsts′ : List ℕ) (K : Kept 31 (at .turn) (bit none) (seen .met) firsts met firsts′) where
   -- what is left, as tests
   none-bits : (i : ℕ) → i < 64 → bit none i ≡ unmetHere (storedBy sizes clauses []) values (64 * at .word + i)
   none-bits i l = M .none i l ∙ ap (λ b. b && not (secondMeets (storedBy sizes clauses []) values (64 * at .word + i))) (first i l)
@@ -58,7 +58,7 @@ module _ (sizes : Sizes) (clauses : List ℕ) (R : Readable clauses (sizes .coun
 
   -- nothing is possible
   pub second-alone : seen .possible ≡ 0
-      → Second (storedBy sizes clauses []) values at seen pairs rows (record { met = met; possible = seen .possible; here = seen .here }) pairs′ rows₁
+      → Second (storedBy sizes clauses []) values at seen firsts rows (record { met = met; possible = seen .possible; here = seen .here }) firsts′ rows₁
   second-alone e = record {
     unmet = λ p w E. K .entry p (λ i l. none-bits i l ∙ w i l) E;
     stays = λ t. of-false apart;
@@ -91,7 +91,7 @@ module _ (sizes : Sizes) (clauses : List ℕ) (R : Readable clauses (sizes .coun
         (not (secondDiffers (storedBy sizes clauses []) values j (64 * at .word + k)))
         ∙ ap (λ b. (b && not (secondDiffers (storedBy sizes clauses []) values j (64 * at .word + k))) && firstDiffers (storedBy sizes clauses []) values i (64 * at .word + k)) (first k h))
 
-    pub second-marked : Second (storedBy sizes clauses []) values at seen pairs rows (record { met = met; possible = seen .possible; here = here′ }) pairs′ rows₃
+    pub second-marked : Second (storedBy sizes clauses []) values at seen firsts rows (record { met = met; possible = seen .possible; here = here′ }) firsts′ rows₃
     second-marked = record {
       unmet = λ p w E. K .entry p (λ i l. none-bits i l ∙ w i l) E;
       stays = λ t. of-false apart;

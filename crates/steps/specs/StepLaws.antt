@@ -53,8 +53,8 @@ allowed-same sizes clauses constants (Missed j) values z = refl
 next : (c b w : ℕ) → (b * c + w) + 1 ≡ b * c + (w + 1)
 next c b w = omega arith
 
-module _ (sizes : Sizes) (clauses constants : List ℕ) (h b w : ℕ) (search : Search) (seen : Seen) (pairs rows : List ℕ) (l : w < wordCount (sizes .free))
-    (A : Amid (storedBy sizes clauses constants) h search b w seen pairs rows) where
+module _ (sizes : Sizes) (clauses constants : List ℕ) (h b w : ℕ) (search : Search) (seen : Seen) (firsts rows : List ℕ) (l : w < wordCount (sizes .free))
+    (A : Amid (storedBy sizes clauses constants) h search b w seen firsts rows) where
   abbrev S : Stored
   S = storedBy sizes clauses constants
 
@@ -86,16 +86,16 @@ module _ (sizes : Sizes) (clauses constants : List ℕ) (h b w : ℕ) (search : 
     not-missed : search ≡ Unmet → (j k : ℕ) → k < 64 → allowedIn S (Missed j) values (64 * w + k) ≡ false
     not-missed e j k m = ap (λ c. c && not (secondDiffers S values j (64 * w + k))) (not-first e k m)
 
-    pub amid-none : Amid S h search b (w + 1) seen pairs rows′
+    pub amid-none : Amid S h search b (w + 1) seen firsts rows′
     amid-none = record {
-      plain = entry-none (allowedIn S search values) w (seen .met) pairs (32 + b) none (A .plain);
+      plain = entry-none (allowedIn S search values) w (seen .met) firsts (32 + b) none (A .plain);
       entries = λ i m.
           entry-next _ _ _ i
-          (entry-none (onPairs S h (meetsHere S search i)) turn (seen .met) pairs i
+          (entry-none (onPairs S h (meetsHere S search i)) turn (seen .met) firsts i
           (λ k u. on-pairs S h b w k (meetsHere S search i) l u ∙ no-meeting i k u) (A .entries i m));
       unmet = λ e.
           entry-next _ _ _ 31
-          (entry-none (onPairs S h (unmetHere S)) turn (seen .met) pairs 31
+          (entry-none (onPairs S h (unmetHere S)) turn (seen .met) firsts 31
           (λ k u. on-pairs S h b w k (unmetHere S) l u ∙ ap (λ c. c && not (secondMeets S values (64 * w + k))) (not-first e k u)) (A .unmet e));
       here = λ e t j m u.
           A .here e t j m u
@@ -112,37 +112,37 @@ module _ (sizes : Sizes) (clauses constants : List ℕ) (h b w : ℕ) (search : 
   module _ (R : Readable clauses (sizes .counts) (sizes .free) (sizes .own)) (small : b < 32) (terms : List ℕ)
       (table : Terms (sizes .free) (sizes .own) values w terms)
       (x : ℕ) (bits : (k : ℕ) → k < 64 → bit x k ≡ allowedIn S search values (64 * w + k))
-      (met₁ : ℕ) (pairs₁ : List ℕ) (K : Kept (32 + b) w (bit x) (seen .met) pairs met₁ pairs₁)
-      (met₂ : ℕ) (pairs₂ : List ℕ)
-      (L : KeptAll (getD (sizes .counts) 1 0) turn (λ i k. bit x k && not (clauseTest clauses (λ t. bit (getD terms t 0) k) (256 + 4 * i))) met₁ pairs₁ met₂ pairs₂) where
+      (met₁ : ℕ) (firsts₁ : List ℕ) (K : Kept (32 + b) w (bit x) (seen .met) firsts met₁ firsts₁)
+      (met₂ : ℕ) (firsts₂ : List ℕ)
+      (L : KeptAll (getD (sizes .counts) 1 0) turn (λ i k. bit x k && not (clauseTest clauses (λ t. bit (getD terms t 0) k) (256 + 4 * i))) met₁ firsts₁ met₂ firsts₂) where
     -- the choices of a disequation
     meeting : (i : ℕ) → i < getD (sizes .counts) 1 0
         → WordOf (λ k. bit x k && not (clauseTest clauses (λ t. bit (getD terms t 0) k) (256 + 4 * i))) (onPairs S h (meetsHere S search i)) turn
     meeting i m k u =
         ap₂ _&&_ (bits k u) (differs-bits sizes clauses R values w terms table i m k u) ∙ sym (on-pairs S h b w k (meetsHere S search i) l u)
 
-    pub plain-after : Entry (allowedIn S search values) (w + 1) met₂ pairs₂ (32 + b)
+    pub plain-after : Entry (allowedIn S search values) (w + 1) met₂ firsts₂ (32 + b)
     plain-after =
-        entry-same _ _ _ _ _ _ (32 + b) (L .met-kept (32 + b) (omega (arith, R .few))) (L .pairs-kept (32 + b) (omega (arith, R .few)))
+        entry-same _ _ _ _ _ _ (32 + b) (L .met-kept (32 + b) (omega (arith, R .few))) (L .firsts-kept (32 + b) (omega (arith, R .few)))
         (K .entry (allowedIn S search values) bits (A .plain))
 
-    pub entries-after : (i : ℕ) → i < getD (sizes .counts) 1 0 → Entry (onPairs S h (meetsHere S search i)) (b * wordCount (sizes .free) + (w + 1)) met₂ pairs₂ i
+    pub entries-after : (i : ℕ) → i < getD (sizes .counts) 1 0 → Entry (onPairs S h (meetsHere S search i)) (b * wordCount (sizes .free) + (w + 1)) met₂ firsts₂ i
     entries-after i m =
         entry-next _ _ _ i
         (L .entry i m _ (meeting i m)
-        (entry-same _ _ _ _ _ _ i (K .met-kept i (λ q. omega (arith, R .few))) (K .pairs-kept i (λ q. omega (arith, R .few))) (A .entries i m)))
+        (entry-same _ _ _ _ _ _ i (K .met-kept i (λ q. omega (arith, R .few))) (K .firsts-kept i (λ q. omega (arith, R .few))) (A .entries i m)))
 
     -- entry 31 is as it was
     met-apart : bit met₂ 31 ≡ bit (seen .met) 31
     met-apart = L .met-kept 31 (omega (arith, R .few)) ∙ K .met-kept 31 (λ q. omega arith)
 
-    unmet-apart : search ≡ Unmet → Entry (onPairs S h (unmetHere S)) turn met₂ pairs₂ 31
+    unmet-apart : search ≡ Unmet → Entry (onPairs S h (unmetHere S)) turn met₂ firsts₂ 31
     unmet-apart e =
-        entry-same _ _ _ _ _ _ 31 met-apart (L .pairs-kept 31 (omega (arith, R .few)) ∙ K .pairs-kept 31 (λ q. omega arith)) (A .unmet e)
+        entry-same _ _ _ _ _ _ 31 met-apart (L .firsts-kept 31 (omega (arith, R .few)) ∙ K .firsts-kept 31 (λ q. omega arith)) (A .unmet e)
 
     -- a search for a solution of the first system, or for one that misses a disequation
     pub amid-kept : (search ≡ Unmet → ⊥) → (rows′ : List ℕ)
-        → Amid S h search b (w + 1) (record { met = met₂; possible = seen .possible; here = seen .here }) pairs₂ rows′
+        → Amid S h search b (w + 1) (record { met = met₂; possible = seen .possible; here = seen .here }) firsts₂ rows′
     amid-kept n rows′ = record {
       plain = plain-after;
       entries = entries-after;
@@ -152,17 +152,17 @@ module _ (sizes : Sizes) (clauses constants : List ℕ) (h b w : ℕ) (search : 
     }
 
     -- a search for an unmet choice
-    module _ (e : search ≡ Unmet) (seen₃ : Seen) (pairs₃ rows₃ : List ℕ)
-        (Q : Second (storedBy sizes clauses []) values (record { word = w; turn = turn; choices = x }) (record { met = met₂; possible = seen .possible; here = seen .here }) pairs₂ rows seen₃ pairs₃ rows₃)
+    module _ (e : search ≡ Unmet) (seen₃ : Seen) (firsts₃ rows₃ : List ℕ)
+        (Q : Second (storedBy sizes clauses []) values (record { word = w; turn = turn; choices = x }) (record { met = met₂; possible = seen .possible; here = seen .here }) firsts₂ rows seen₃ firsts₃ rows₃)
         (possible-kept : seen₃ .possible ≡ seen .possible)
-        (met-kept : (k : ℕ) → (k ≡ 31 → ⊥) → bit (seen₃ .met) k ≡ bit met₂ k) (pairs-kept : (k : ℕ) → (k ≡ 31 → ⊥) → numberAt pairs₃ k ≡ numberAt pairs₂ k) where
+        (met-kept : (k : ℕ) → (k ≡ 31 → ⊥) → bit (seen₃ .met) k ≡ bit met₂ k) (firsts-kept : (k : ℕ) → (k ≡ 31 → ⊥) → numberAt firsts₃ k ≡ numberAt firsts₂ k) where
       before : T (not (bit (seen₃ .met) 31)) → T (not (bit (seen .met) 31))
       before t = subst (λ c. T (not c)) met-apart (Q .stays t)
 
-      pub amid-second : Amid S h search b (w + 1) seen₃ pairs₃ rows₃
+      pub amid-second : Amid S h search b (w + 1) seen₃ firsts₃ rows₃
       amid-second = record {
-        plain = entry-same _ _ _ _ _ _ (32 + b) (met-kept (32 + b) (λ q. omega arith)) (pairs-kept (32 + b) (λ q. omega arith)) plain-after;
-        entries = λ i m. entry-same _ _ _ _ _ _ i (met-kept i (λ q. omega (arith, R .few))) (pairs-kept i (λ q. omega (arith, R .few))) (entries-after i m);
+        plain = entry-same _ _ _ _ _ _ (32 + b) (met-kept (32 + b) (λ q. omega arith)) (firsts-kept (32 + b) (λ q. omega arith)) plain-after;
+        entries = λ i m. entry-same _ _ _ _ _ _ i (met-kept i (λ q. omega (arith, R .few))) (firsts-kept i (λ q. omega (arith, R .few))) (entries-after i m);
         unmet = λ q.
             entry-next _ _ _ 31 (Q .unmet (onPairs S h (unmetHere S)) (λ k u. sym (on-pairs S h b w k (unmetHere S) l u)) (unmet-apart q));
         here = λ q t j m u.
@@ -179,22 +179,22 @@ module _ (sizes : Sizes) (clauses constants : List ℕ) (h b w : ℕ) (search : 
 
 -- ---- the other leaves
 
-pub others-kept : (b w t x count : ℕ) (word : ℕ → ℕ → Bool) (seen : Seen) (pairs : List ℕ) (met₁ : ℕ) (pairs₁ : List ℕ) (met₂ : ℕ) (pairs₂ : List ℕ) → count ≤ 31
-    → Kept (32 + b) w (bit x) (seen .met) pairs met₁ pairs₁ → KeptAll count t word met₁ pairs₁ met₂ pairs₂
-    → OthersKept b seen pairs (record { met = met₂; possible = seen .possible; here = seen .here }) pairs₂
-others-kept b w t x count word seen pairs met₁ pairs₁ met₂ pairs₂ few K L = record {
+pub others-kept : (b w t x count : ℕ) (word : ℕ → ℕ → Bool) (seen : Seen) (firsts : List ℕ) (met₁ : ℕ) (firsts₁ : List ℕ) (met₂ : ℕ) (firsts₂ : List ℕ) → count ≤ 31
+    → Kept (32 + b) w (bit x) (seen .met) firsts met₁ firsts₁ → KeptAll count t word met₁ firsts₁ met₂ firsts₂
+    → OthersKept b seen firsts (record { met = met₂; possible = seen .possible; here = seen .here }) firsts₂
+others-kept b w t x count word seen firsts met₁ firsts₁ met₂ firsts₂ few K L = record {
   possible-kept = refl;
   met-kept = λ k m n. L .met-kept k (omega arith) ∙ K .met-kept k n;
-  pairs-kept = λ k m n. L .pairs-kept k (omega arith) ∙ K .pairs-kept k n;
+  firsts-kept = λ k m n. L .firsts-kept k (omega arith) ∙ K .firsts-kept k n;
 }
 
-pub others-second : (b : ℕ) (seen : Seen) (pairs : List ℕ) (seen₂ : Seen) (pairs₂ : List ℕ) (seen₃ : Seen) (pairs₃ : List ℕ) → OthersKept b seen pairs seen₂ pairs₂
+pub others-second : (b : ℕ) (seen : Seen) (firsts : List ℕ) (seen₂ : Seen) (firsts₂ : List ℕ) (seen₃ : Seen) (firsts₃ : List ℕ) → OthersKept b seen firsts seen₂ firsts₂
     → seen₃ .possible ≡ seen₂ .possible → ((k : ℕ) → (k ≡ 31 → ⊥) → bit (seen₃ .met) k ≡ bit (seen₂ .met) k)
-    → ((k : ℕ) → (k ≡ 31 → ⊥) → numberAt pairs₃ k ≡ numberAt pairs₂ k) → OthersKept b seen pairs seen₃ pairs₃
-others-second b seen pairs seen₂ pairs₂ seen₃ pairs₃ O e met-kept pairs-kept = record {
+    → ((k : ℕ) → (k ≡ 31 → ⊥) → numberAt firsts₃ k ≡ numberAt firsts₂ k) → OthersKept b seen firsts seen₃ firsts₃
+others-second b seen firsts seen₂ firsts₂ seen₃ firsts₃ O e met-kept firsts-kept = record {
   possible-kept = e ∙ O .possible-kept;
   met-kept = λ k m n. met-kept k (λ q. omega arith) ∙ O .met-kept k m n;
-  pairs-kept = λ k m n. pairs-kept k (λ q. omega arith) ∙ O .pairs-kept k m n;
+  firsts-kept = λ k m n. firsts-kept k (λ q. omega arith) ∙ O .firsts-kept k m n;
 }
 
 -- ---- numbers

@@ -53,12 +53,12 @@ unmetHere S values z = firstMeets S values z && not (secondMeets S values z)
 
 -- ---- in the middle of leaf b, after its first w words
 
-pub record Amid (S : Stored) (h : ℕ) (search : Search) (b w : ℕ) (seen : Seen) (pairs rows : List ℕ) : Type 0 where
+pub record Amid (S : Stored) (h : ℕ) (search : Search) (b w : ℕ) (seen : Seen) (firsts rows : List ℕ) : Type 0 where
   -- the least choice of the leaf
-  pub plain : Entry (allowedIn S search (leafValues S h b)) w (seen .met) pairs (32 + b)
+  pub plain : Entry (allowedIn S search (leafValues S h b)) w (seen .met) firsts (32 + b)
   -- the least pair of each disequation of the first system, and of an unmet choice
-  pub entries : (i : ℕ) → i < getD (S .counts) 1 0 → Entry (onPairs S h (meetsHere S search i)) (b * wordCount (S .free) + w) (seen .met) pairs i
-  pub unmet : search ≡ Unmet → Entry (onPairs S h (unmetHere S)) (b * wordCount (S .free) + w) (seen .met) pairs 31
+  pub entries : (i : ℕ) → i < getD (S .counts) 1 0 → Entry (onPairs S h (meetsHere S search i)) (b * wordCount (S .free) + w) (seen .met) firsts i
+  pub unmet : search ≡ Unmet → Entry (onPairs S h (unmetHere S)) (b * wordCount (S .free) + w) (seen .met) firsts 31
   -- unless there is an unmet choice: which disequations of the second system some choice of this leaf misses, and which of the first
   -- system's were met by such a choice of any leaf
   pub here : search ≡ Unmet → T (not (bit (seen .met) 31)) → (j : ℕ) → j < getD (S .counts) 3 0 → T (bit (seen .possible) j)
@@ -68,9 +68,9 @@ pub record Amid (S : Stored) (h : ℕ) (search : Search) (b w : ℕ) (seen : See
 
 -- what the second system says of one word, whose choices the first system allows: the search for an unmet choice has seen it and, unless there is one, each
 -- disequation of the second that is possible has its bit and its mark for it
-pub record Second (S : Stored) (values : ℕ) (at : Allowed) (seen : Seen) (pairs rows : List ℕ) (seen′ : Seen) (pairs′ rows′ : List ℕ) : Type 0 where
-  pub unmet : (p : ℕ → Bool) → WordOf (λ i. unmetHere S values (64 * at .word + i)) p (at .turn) → Entry p (at .turn) (seen .met) pairs 31
-      → Entry p (at .turn + 1) (seen′ .met) pairs′ 31
+pub record Second (S : Stored) (values : ℕ) (at : Allowed) (seen : Seen) (firsts rows : List ℕ) (seen′ : Seen) (firsts′ rows′ : List ℕ) : Type 0 where
+  pub unmet : (p : ℕ → Bool) → WordOf (λ i. unmetHere S values (64 * at .word + i)) p (at .turn) → Entry p (at .turn) (seen .met) firsts 31
+      → Entry p (at .turn + 1) (seen′ .met) firsts′ 31
   pub stays : T (not (bit (seen′ .met) 31)) → T (not (bit (seen .met) 31))
   pub here : T (not (bit (seen′ .met) 31)) → (j : ℕ) → j < getD (S .counts) 3 0 → T (bit (seen .possible) j)
       → bit (seen′ .here) j ≡ (bit (seen .here) j || someBelow 64 (λ i. allowedIn S (Missed j) values (64 * at .word + i)))
@@ -78,7 +78,7 @@ pub record Second (S : Stored) (values : ℕ) (at : Allowed) (seen : Seen) (pair
       → bit (getD rows′ (64 + j) 0) i ≡ (bit (getD rows (64 + j) 0) i || someBelow 64 (λ k. meetsHere S (Missed j) i values (64 * at .word + k)))
 
 -- what is possible is as it was, and so is everything about the leaves other than b
-pub record OthersKept (b : ℕ) (seen : Seen) (pairs : List ℕ) (seen′ : Seen) (pairs′ : List ℕ) : Type 0 where
+pub record OthersKept (b : ℕ) (seen : Seen) (firsts : List ℕ) (seen′ : Seen) (firsts′ : List ℕ) : Type 0 where
   pub possible-kept : seen′ .possible ≡ seen .possible
   pub met-kept : (k : ℕ) → 32 ≤ k → (k ≡ 32 + b → ⊥) → bit (seen′ .met) k ≡ bit (seen .met) k
-  pub pairs-kept : (k : ℕ) → 32 ≤ k → (k ≡ 32 + b → ⊥) → numberAt pairs′ k ≡ numberAt pairs k
+  pub firsts-kept : (k : ℕ) → 32 ≤ k → (k ≡ 32 + b → ⊥) → numberAt firsts′ k ≡ numberAt firsts k

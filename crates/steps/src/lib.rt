@@ -106,13 +106,13 @@ fn second_word(
     sizes: Sizes,
     at: Allowed,
     seen: Seen,
-    pairs: &mut [u64; 128],
+    firsts: &mut [u64; 128],
     rows: &mut [u64; 96],
 ) -> Seen
     requires { ⌜ Readable (now clauses) (sizes .counts) (sizes .free) (sizes .own) ⌝ }
-    requires { ⌜ (at .word < wordCount (sizes .free)) × (at .turn < 2048) × SameFree (sizes .free) (at .choices) ⌝ }
-    ensures { λ r. ⌜ ((values : ℕ) → Terms (sizes .free) (sizes .own) values (at .word) (now (terms .entry)) → Terms (sizes .free) (sizes .own) values (at .word) (now (terms .exit)) × (((i : ℕ) → i < 64 → bit (at .choices) i ≡ firstMeets (storedBy sizes (now (clauses .entry)) []) values (64 * at .word + i)) → Second (storedBy sizes (now (clauses .entry)) []) values at seen (now (pairs .entry)) (now (rows .entry)) r (now (pairs .exit)) (now (rows .exit)))) ⌝ }
-    ensures { λ r. ⌜ (r .possible ≡ seen .possible) × ((k : ℕ) → (k ≡ 31 → ⊥) → bit (r .met) k ≡ bit (seen .met) k) × ((k : ℕ) → (k ≡ 31 → ⊥) → numberAt (now (pairs .exit)) k ≡ numberAt (now (pairs .entry)) k) ⌝ }
+    requires { ⌜ (at .word < wordCount (sizes .free)) × SameFree (sizes .free) (at .choices) ⌝ }
+    ensures { λ r. ⌜ ((values : ℕ) → Terms (sizes .free) (sizes .own) values (at .word) (now (terms .entry)) → Terms (sizes .free) (sizes .own) values (at .word) (now (terms .exit)) × (((i : ℕ) → i < 64 → bit (at .choices) i ≡ firstMeets (storedBy sizes (now (clauses .entry)) []) values (64 * at .word + i)) → Second (storedBy sizes (now (clauses .entry)) []) values at seen (now (firsts .entry)) (now (rows .entry)) r (now (firsts .exit)) (now (rows .exit)))) ⌝ }
+    ensures { λ r. ⌜ (r .possible ≡ seen .possible) × ((k : ℕ) → (k ≡ 31 → ⊥) → bit (r .met) k ≡ bit (seen .met) k) × ((k : ℕ) → (k ≡ 31 → ⊥) → numberAt (now (firsts .exit)) k ≡ numberAt (now (firsts .entry)) k) ⌝ }
 {
     if basics::digit(seen.met, 31) {
         return seen;
@@ -126,7 +126,7 @@ fn second_word(
         seen.possible,
         rows,
     );
-    let met = entries::keep_word(31, at.turn, none, seen.met, pairs);
+    let met = entries::keep_word(31, at.turn, none, seen.met, firsts);
     if seen.possible == 0 {
         return Seen {
             met,
@@ -156,14 +156,14 @@ pub fn pass_word(
     sizes: Sizes,
     spot: Spot,
     seen: Seen,
-    pairs: &mut [u64; 128],
+    firsts: &mut [u64; 128],
     rows: &mut [u64; 96],
 ) -> Seen
     requires { ⌜ Readable (now clauses) (sizes .counts) (sizes .free) (sizes .own) ⌝ }
     requires { ⌜ Named (sizes .counts) (spot .search) × (spot .leaf < 32) × (spot .word < wordCount (sizes .free)) × Tabled (sizes .free) (sizes .own) (spot .word) (now terms) ⌝ }
     ensures { λ r. ⌜ ((values : ℕ) → Terms (sizes .free) (sizes .own) values (spot .word) (now (terms .entry)) → Terms (sizes .free) (sizes .own) values (spot .word) (now (terms .exit))) ⌝ }
-    ensures { λ r. ⌜ ((h : ℕ) (constants : List ℕ) → Terms (sizes .free) (sizes .own) (leafValues (storedBy sizes (now (clauses .entry)) constants) h (spot .leaf)) (spot .word) (now (terms .entry)) → Amid (storedBy sizes (now (clauses .entry)) constants) h (spot .search) (spot .leaf) (spot .word) seen (now (pairs .entry)) (now (rows .entry)) → Amid (storedBy sizes (now (clauses .entry)) constants) h (spot .search) (spot .leaf) (spot .word + 1) r (now (pairs .exit)) (now (rows .exit))) ⌝ }
-    ensures { λ r. ⌜ OthersKept (spot .leaf) seen (now (pairs .entry)) r (now (pairs .exit)) ⌝ }
+    ensures { λ r. ⌜ ((h : ℕ) (constants : List ℕ) → Terms (sizes .free) (sizes .own) (leafValues (storedBy sizes (now (clauses .entry)) constants) h (spot .leaf)) (spot .word) (now (terms .entry)) → Amid (storedBy sizes (now (clauses .entry)) constants) h (spot .search) (spot .leaf) (spot .word) seen (now (firsts .entry)) (now (rows .entry)) → Amid (storedBy sizes (now (clauses .entry)) constants) h (spot .search) (spot .leaf) (spot .word + 1) r (now (firsts .exit)) (now (rows .exit))) ⌝ }
+    ensures { λ r. ⌜ OthersKept (spot .leaf) seen (now (firsts .entry)) r (now (firsts .exit)) ⌝ }
 {
     let search = spot.search;
     let x = allowed_word(terms, clauses, sizes, search, spot.word, rows);
@@ -171,8 +171,8 @@ pub fn pass_word(
         return seen;
     }
     let turn = spot.leaf * words::word_count(sizes.free) + spot.word;
-    let least = entries::keep_word(32 + spot.leaf, spot.word, x, seen.met, pairs);
-    let met = entries::keep_all(terms, clauses, sizes.counts[1], turn, x, least, pairs);
+    let least = entries::keep_word(32 + spot.leaf, spot.word, x, seen.met, firsts);
+    let met = entries::keep_all(terms, clauses, sizes.counts[1], turn, x, least, firsts);
     let kept = Seen {
         met,
         possible: seen.possible,
@@ -185,7 +185,7 @@ pub fn pass_word(
     };
     match search {
         Search::First => kept,
-        Search::Unmet => second_word(terms, clauses, sizes, at, kept, pairs, rows),
+        Search::Unmet => second_word(terms, clauses, sizes, at, kept, firsts, rows),
         Search::Missed(_) => kept,
     }
 }

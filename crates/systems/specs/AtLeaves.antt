@@ -12,7 +12,7 @@ use Rattle.leaves.specs.Second.{Second}
 use Rattle.systems.specs.Clauses.{Constants, Term, variable, constant, Atom, joined, equal, positives, disequations, disequation}
 use Rattle.systems.specs.Questions.{Question}
 
--- a term at block b of 2 ^ h, where variable v is x v; a constant there is its first leaf in the block
+-- a term at leaf b of 2 ^ h, where variable v is x v; a constant has there the first of its own leaves below it
 unfoldable pub termAt : ℕ → Constants → ℕ → (ℕ → Bool) → Term → Bool
 termAt h cs b x (variable v) = x v
 termAt h cs b x (constant i) = bit (getD (cs .numbers) i 0) (b * 2 ^ (cs .levels - h))

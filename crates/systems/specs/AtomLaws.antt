@@ -50,7 +50,7 @@ pub record Reads (n k : ℕ) (ρ : Assignment) (x : ℕ → ℕ → Bool) : Type
   pub low : (v : ℕ) → v < n → height (ρ v .tree) ≤ k
   pub bits : (i : ℕ) → i < 2 ^ k → (v : ℕ) → v < n → x i v ≡ leafAt k (ρ v .tree) i
 
--- a constant of 2 ^ w leaves, no taller than h, at block b
+-- a constant of 2 ^ w leaves, no taller than h, at leaf b
 constant-at : (w h m b : ℕ) → h ≤ w → height (numberTree w m) ≤ h → b < 2 ^ h → bit m (firstOf h w b) ≡ leafAt h (numberTree w m) b
 constant-at w h m b hw low l =
     sym (leaf-number w m (firstOf h w b) (first-lt hw l))

@@ -9,7 +9,7 @@ use Rattle.leaves.specs.Problem.{Problem, solvable}
 use Rattle.leaves.specs.Fixed.{fixedAt, withUnmet, withMissed}
 use Rattle.leaves.specs.Entailment.{canBeUnmet, firstMissed}
 use Rattle.systems.specs.Clauses.{Assignment}
-use Rattle.systems.specs.Questions.{Kind, satisfiability, entailment, Question, questionHeight, firstCount, secondCount}
+use Rattle.systems.specs.Questions.{Kind, satisfiability, entailment, Question, questionHeight, secondCount}
 use Rattle.systems.specs.Answers.{Answer, satisfied, unsatisfied, vacuous, entailed, unmet, missed, heightGiven}
 use Rattle.systems.specs.AtLeaves.{firstAt, secondAt}
 

@@ -3,8 +3,8 @@ use mathlib.Core.Path.{_≡_, refl, sym, ap, _∙_}
 use mathlib.Core.Bool.{Bool, true, false}
 use mathlib.Core.List.{List, [], _∷_, _++_}
 use mathlib.Core.Logic.{_↔_}
-use Prim.Native.Nat.{ℕ, zero, suc, _+_, _-_, _*_, _^_, _≤_, _<_}
-use native.Mathlib.Nat.{two-pow-succ, mul-one, mul-le-mul-left}
+use Prim.Native.Nat.{ℕ, suc, _+_, _-_, _*_, _^_, _≤_, _<_}
+use native.Mathlib.Nat.{mul-one, mul-le-mul-left}
 use native.Mathlib.Numerals.{add-one}
 use native.Mathlib.Omega.{arith}
 use lib.Dec.{T}
@@ -12,6 +12,7 @@ use lib.ListN.{length, getD, drop, set, length-append, length-set}
 use lib.Pow.{pow-pos}
 use lib.Seq.{sets, length-sets, sets-eq}
 use Rattle.shares.specs.Test.{of-true}
+use Rattle.shares.specs.NumberLaws.{halved}
 use Rattle.shares.specs.Tree.{Tree, leaf, pair}
 use Rattle.shares.specs.Text.{text}
 use Rattle.rows.specs.Blocks.{Inside, blockTree, AllLeaves}
@@ -128,10 +129,6 @@ module _ (row : List ℕ) (h q : ℕ) (inside : Inside h q (length row)) where
 
     pub above : 0 < h
     above = is-pair .0
-
-    halved : (k : ℕ) → 0 < k → 2 ^ k ≡ 2 ^ (k - 1) + 2 ^ (k - 1)
-    halved zero l = absurd (omega arith)
-    halved (suc k) l = let e : suc k - 1 ≡ k = omega arith in rw e (two-pow-succ k)
 
     pub insides : Inside (h - 1) (2 * q) (length row) × Inside (h - 1) (2 * q + 1) (length row)
     insides = halves-inside h q (length row) above inside

@@ -1,4 +1,4 @@
--- Words that are kept in a table: entry e is the number of a word of choices and the bits of those of its choices that pass. Assumes nothing.
+-- The table of first words: entry e is the number of the first word that has a choice for search e, and the choices of it that pass. Assumes nothing.
 use mathlib.Core.List.{List}
 use Prim.Native.Nat.{ℕ, _+_, _*_}
 use lib.ListN.{getD}
@@ -11,4 +11,4 @@ lowestIn x = firstBelow 63 (bit x)
 
 -- the number of the lowest choice that passes in the word of entry e
 unfoldable pub numberAt : List ℕ → ℕ → ℕ
-numberAt pairs e = 64 * getD pairs (2 * e) 0 + lowestIn (getD pairs (2 * e + 1) 0)
+numberAt firsts e = 64 * getD firsts (2 * e) 0 + lowestIn (getD firsts (2 * e + 1) 0)

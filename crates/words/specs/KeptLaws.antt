@@ -1,8 +1,8 @@
--- Laws of words that are kept in a table. Assumes nothing.
-use mathlib.Core.Path.{_≡_, sym, ap, ap₂, _∙_}
+-- Laws of the table of first words. Assumes nothing.
+use mathlib.Core.Path.{_≡_, ap₂, _∙_}
 use mathlib.Core.Bool.{false}
 use mathlib.Core.List.{List}
-use Prim.Native.Nat.{ℕ, _+_, _*_, _^_, _≤_, _<_, suc-le-suc}
+use Prim.Native.Nat.{ℕ, _+_, _*_, _^_, _<_, suc-le-suc}
 use native.Mathlib.Decide.{decLt}
 use native.Mathlib.Omega.{arith}
 use lib.ListN.{length, getD, set, length-set}
@@ -32,22 +32,22 @@ lowest-in x small n = go (decLt r 63)
     go (yes l) = first-is 63 (bit x) r l before (is-true (bit x r) (first-below 64 (bit x) (lowest-lt x small n)))
     go (no l) = first-none 63 (bit x) (λ i k. before i (omega arith)) ∙ omega (arith, lowest-lt x small n)
 
-module _ (pairs : List ℕ) (e t y : ℕ) where
+module _ (firsts : List ℕ) (e t y : ℕ) where
   -- word y with the number t is kept as entry e
   abbrev pub keptIn : List ℕ
-  keptIn = set (set pairs (2 * e) t) (2 * e + 1) y
+  keptIn = set (set firsts (2 * e) t) (2 * e + 1) y
 
-  pub kept-there : 2 * e + 1 < length pairs → numberAt keptIn e ≡ 64 * t + lowestIn y
+  pub kept-there : 2 * e + 1 < length firsts → numberAt keptIn e ≡ 64 * t + lowestIn y
   unfolding numberAt
   kept-there room =
       ap₂ (λ a b. 64 * a + lowestIn b)
-      (getD-set-other (set pairs (2 * e) t) (2 * e + 1) (2 * e) y 0 (λ q. omega arith) ∙ getD-set-same pairs (2 * e) t 0 (omega arith))
-      (getD-set-same (set pairs (2 * e) t) (2 * e + 1) y 0 (rw (length-set pairs (2 * e) t) room))
+      (getD-set-other (set firsts (2 * e) t) (2 * e + 1) (2 * e) y 0 (λ q. omega arith) ∙ getD-set-same firsts (2 * e) t 0 (omega arith))
+      (getD-set-same (set firsts (2 * e) t) (2 * e + 1) y 0 (rw (length-set firsts (2 * e) t) room))
 
-  pub kept-others : (k : ℕ) → (k ≡ e → ⊥) → numberAt keptIn k ≡ numberAt pairs k
+  pub kept-others : (k : ℕ) → (k ≡ e → ⊥) → numberAt keptIn k ≡ numberAt firsts k
   unfolding numberAt
   kept-others k n =
       ap₂ (λ a b. 64 * a + lowestIn b) (other (2 * k) (λ q. n (omega arith)) (λ q. omega arith)) (other (2 * k + 1) (λ q. omega arith) (λ q. n (omega arith)))
     where
-      other : (i : ℕ) → (i ≡ 2 * e → ⊥) → (i ≡ 2 * e + 1 → ⊥) → getD keptIn i 0 ≡ getD pairs i 0
-      other i a b = getD-set-other (set pairs (2 * e) t) (2 * e + 1) i y 0 b ∙ getD-set-other pairs (2 * e) i t 0 a
+      other : (i : ℕ) → (i ≡ 2 * e → ⊥) → (i ≡ 2 * e + 1 → ⊥) → getD keptIn i 0 ≡ getD firsts i 0
+      other i a b = getD-set-other (set firsts (2 * e) t) (2 * e + 1) i y 0 b ∙ getD-set-other firsts (2 * e) i t 0 a

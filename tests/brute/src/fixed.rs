@@ -89,12 +89,12 @@ pub trait Words {
     fn rows(&self, asked: &Asked) -> Vec<u8> {
         let leaves = self.unfolded(asked);
         let disequations = asked.first.disequations.iter();
-        let homes: Vec<(usize, Held)> = disequations
+        let placed: Vec<(usize, Held)> = disequations
             .map(|clause| Held::Disequation(*clause))
             .map(|held| (self.leftmost(&leaves, held), held))
             .collect();
         let mut held: Vec<Vec<Held>> = (0..leaves.len())
-            .map(|leaf| self.in_order(&homes, leaf))
+            .map(|leaf| self.in_order(&placed, leaf))
             .collect();
         if asked.outcome.reason == 2 {
             self.reason_2(&leaves, &mut held);
@@ -141,8 +141,8 @@ pub trait Words {
     }
 
     /// "From the left they hold the leaf's disequations in question order, ..."
-    fn in_order(&self, homes: &[(usize, Held)], leaf: usize) -> Vec<Held> {
-        let here = homes.iter().filter(|(home, _)| *home == leaf);
+    fn in_order(&self, placed: &[(usize, Held)], leaf: usize) -> Vec<Held> {
+        let here = placed.iter().filter(|(at, _)| *at == leaf);
         here.map(|(_, held)| *held).collect()
     }
 

@@ -75,7 +75,7 @@ impl Shown<'_> {
     }
 
     /// The leftmost leaf at which any assignment no taller than h meets this.
-    fn home(&self, held: Held) -> usize {
+    fn leaf_of(&self, held: Held) -> usize {
         let height = self.question.height();
         let questions = cut_everywhere(self.question, height);
         let leftmost = |trees: &Vec<Tree>| {
@@ -99,7 +99,7 @@ impl Shown<'_> {
         let below = 1 << (self.outcome.height - self.question.height());
         let mut places: Vec<(usize, Held)> = Vec::new();
         for held in held {
-            let mut sub_leaf = self.home(held) * below;
+            let mut sub_leaf = self.leaf_of(held) * below;
             while places.iter().any(|(taken, _)| *taken == sub_leaf) {
                 sub_leaf += 1;
             }
@@ -217,7 +217,7 @@ fn fixed_solutions(report: &mut Report) {
     }
     changed.enough(report, 50);
     let [_, yes] = seen.satisfiable;
-    let [_, _, unmet, lacked] = seen.reasons;
-    let enough = [yes, unmet, lacked].map(|count| count >= 200);
+    let [_, _, unmet, missed] = seen.reasons;
+    let enough = [yes, unmet, missed].map(|count| count >= 200);
     report.same_apart("each answer that shows a solution", enough, [true; 3]);
 }

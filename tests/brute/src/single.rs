@@ -171,8 +171,8 @@ fn entails(question: &Question, leaves: &[Leaf]) -> Outcome {
         return not_entailed(question, 2, 0);
     }
     let mut numbers = 0..disequations(&question.second).len();
-    let lacked = |number: &usize| solved(question, leaves, |a| !a.beside.had[*number]);
-    match numbers.find(lacked) {
+    let missed = |number: &usize| solved(question, leaves, |a| !a.beside.had[*number]);
+    match numbers.find(missed) {
         Some(number) => not_entailed(question, 3, number),
         None => nothing_shown(true, 0),
     }

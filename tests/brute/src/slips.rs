@@ -52,8 +52,8 @@ impl Words for RightmostUnmet {
 struct Reverse;
 
 impl Words for Reverse {
-    fn in_order(&self, homes: &[(usize, Held)], leaf: usize) -> Vec<Held> {
-        let here = homes.iter().rev().filter(|(home, _)| *home == leaf);
+    fn in_order(&self, placed: &[(usize, Held)], leaf: usize) -> Vec<Held> {
+        let here = placed.iter().rev().filter(|(at, _)| *at == leaf);
         here.map(|(_, held)| *held).collect()
     }
 }

@@ -17,7 +17,7 @@ write-rows-requires : tie.Need-write-rows-requires
 write-rows-requires c κs =
     let start = c .before .before .before .before .before in
     let (q, D) = start .pre .1 in
-    (c .before .plan .ensures q D .formed, (start .pre .0, rw (D .sizing .sized) (omega (arith, D .sizing .standing .stands .variables))))
+    (c .before .plan .ensures q D .formed, (start .pre .0, omega (arith, ap (λ s. s .free) (D .sizing .sized), D .sizing .standing .stands .variables)))
 
 same-length : tie.Need-same-length
 same-length c = search needs

@@ -13,17 +13,17 @@ use Rattle.entries.proofs.keep_all.Statement.{statement}
 use Rattle.entries.proofs.keep_all.Tie as tie
 
 abbrev Inv-loop : tie.InvT-loop
-Inv-loop terms clauses count turn x met pairs₀ r₀ i₀ pairs r i = (i ≤ count) × (length pairs ≡ 128)
-    × KeptAll i turn (λ i k. bit x k && not (clauseTest clauses (λ t. bit (getD terms t 0) k) (256 + 4 * i))) met pairs₀ r pairs
+Inv-loop terms clauses count turn x met firsts₀ r₀ i₀ firsts r i = (i ≤ count) × (length firsts ≡ 128)
+    × KeptAll i turn (λ i k. bit x k && not (clauseTest clauses (λ t. bit (getD terms t 0) k) (256 + 4 * i))) met firsts₀ r firsts
 
 abbrev μ-loop : tie.MeasureT-loop
-μ-loop terms clauses count turn x met pairs₀ r₀ i₀ pairs r i = count - i
+μ-loop terms clauses count turn x met firsts₀ r₀ i₀ firsts r i = count - i
 
 loop-holds : tie.Need-loop-holds Inv-loop μ-loop
-loop-holds c = (omega arith, c .before .pre .0 .2, all-none _ _ _ _)
+loop-holds c = (omega arith, c .before .pre .0 .1, all-none _ _ _ _)
 
 keep-one-requires : tie.Need-keep-one-requires Inv-loop μ-loop
-keep-one-requires c κs = ((omega arith, c .before .before .before .before .pre .0 .1, c .before .before .loop .inv .1), clauses-at (c .before .before .before .before .pre .1) (c .before .before .loop .i) (c .before .loop-test .taken))
+keep-one-requires c κs = ((omega arith, c .before .before .loop .inv .1), clauses-at (c .before .before .before .before .pre .1) (c .before .before .loop .i) (c .before .loop-test .taken))
 
 add-i : tie.Need-add-i Inv-loop μ-loop
 add-i c = omega arith
@@ -36,7 +36,7 @@ loop-again c =
     let l = c .before .before .before .before .before .loop in (
       omega arith,
       omega arith,
-      all-more _ _ _ _ (l .i) (l .r) (l .pairs) _ _ (l .inv .2) (c .before .before .keep-one .ensures),
+      all-more _ _ _ _ (l .i) (l .r) (l .firsts) _ _ (l .inv .2) (c .before .before .keep-one .ensures),
     )
 
 same-length : tie.Need-same-length Inv-loop μ-loop

@@ -19,26 +19,26 @@ returns c = kept-before _ _ _ _ _ (sym (c .before .digit .ensures) ∙ c .if1 .t
 returns-2 : tie.Need-returns-2
 returns-2 c = kept-none _ _ _ _ _ (λ i l. ap (λ y. bit y i) (c .if2 .taken) ∙ bit-zero i)
 
-mul-pairs : tie.Need-mul-pairs
-mul-pairs c = search needs
+mul-firsts : tie.Need-mul-firsts
+mul-firsts c = search needs
 
-mul-pairs-2 : tie.Need-mul-pairs-2
-mul-pairs-2 c = search needs
+mul-firsts-2 : tie.Need-mul-firsts-2
+mul-firsts-2 c = search needs
 
-slice-write-pairs : tie.Need-slice-write-pairs
-slice-write-pairs c = search needs
+slice-write-firsts : tie.Need-slice-write-firsts
+slice-write-firsts c = search needs
 
-mul-pairs-3 : tie.Need-mul-pairs-3
-mul-pairs-3 c = search needs
+mul-firsts-3 : tie.Need-mul-firsts-3
+mul-firsts-3 c = search needs
 
-add-pairs : tie.Need-add-pairs
-add-pairs c = search needs
+add-firsts : tie.Need-add-firsts
+add-firsts c = search needs
 
-mul-pairs-4 : tie.Need-mul-pairs-4
-mul-pairs-4 c = search needs
+mul-firsts-4 : tie.Need-mul-firsts-4
+mul-firsts-4 c = search needs
 
-slice-write-pairs-2 : tie.Need-slice-write-pairs-2
-slice-write-pairs-2 c = simp length-set (omega arith)
+slice-write-firsts-2 : tie.Need-slice-write-firsts-2
+slice-write-firsts-2 c = simp length-set (omega arith)
 
 shl-result : tie.Need-shl-result
 shl-result c = search needs
@@ -50,7 +50,7 @@ returns-3 : tie.Need-returns-3
 returns-3 c =
     let a = c .before .before .before .before .args in
     rw (power-shift (a .e) (omega arith))
-    (kept-found (a .e) (a .turn) (a .y) (a .met) (a .pairs .now) (omega arith) (search needs) (c .if2 .left) (sym (c .before .before .digit .ensures) ∙ c .before .if1 .left))
+    (kept-found (a .e) (a .turn) (a .y) (a .met) (a .firsts .now) (omega arith) (search needs) (c .if2 .left) (sym (c .before .before .digit .ensures) ∙ c .before .if1 .left))
 
 pub keep-word-spec : {M : Type 1} → statement M
 keep-word-spec =
@@ -59,13 +59,13 @@ keep-word-spec =
     digit-requires
     returns
     returns-2
-    mul-pairs
-    mul-pairs-2
-    slice-write-pairs
-    mul-pairs-3
-    add-pairs
-    mul-pairs-4
-    slice-write-pairs-2
+    mul-firsts
+    mul-firsts-2
+    slice-write-firsts
+    mul-firsts-3
+    add-firsts
+    mul-firsts-4
+    slice-write-firsts-2
     shl-result
     same-length
     returns-3)

@@ -12,10 +12,10 @@ use Rattle.guesses.proofs.least_values.Statement.{statement}
 use Rattle.guesses.proofs.least_values.Tie as tie
 
 abbrev Inv-loop : tie.InvT-loop
-Inv-loop passing free values₀ low₀ half₀ left₀ values low half left = Guessed (leastNumber passing) free left values low half
+Inv-loop passing free values₀ low₀ span₀ left₀ values low span left = Guessed (leastNumber passing) free left values low span
 
 abbrev μ-loop : tie.MeasureT-loop
-μ-loop passing free values₀ low₀ half₀ left₀ values low half left = left
+μ-loop passing free values₀ low₀ span₀ left₀ values low span left = left
 
 power-requires : tie.Need-power-requires Inv-loop μ-loop
 power-requires c κs = omega arith
@@ -52,15 +52,15 @@ loop-again c =
     let l = c .before .before .before .loop in
     let least = leastNumber (s .args .passing) in
     let free = s .args .free in
-    let end = l .low + l .half / 2 in
+    let end = l .low + l .span / 2 in
     let told : c .before .passes-below .result ≡ ltb least end = c .before .passes-below .ensures in
     ⊎-elim
     (λ w.
     let passes : c .before .passes-below .result ≡ true = w .0 .taken in
-    rw (w .1, w .2) (guess-empty least free (l .left) (l .values) (l .low) (l .half) (l .inv) (omega arith) (ltb-true least end (sym told ∙ passes))))
+    rw (w .1, w .2) (guess-empty least free (l .left) (l .values) (l .low) (l .span) (l .inv) (omega arith) (ltb-true least end (sym told ∙ passes))))
     (λ w.
     let fails : c .before .passes-below .result ≡ false = w .0 .left in
-    rw (w .1, w .2) (guess-full least free (l .left) (l .values) (l .low) (l .half) (l .inv) (omega arith) (s .pre .0) (ltb-false least end (sym told ∙ fails))))
+    rw (w .1, w .2) (guess-full least free (l .left) (l .values) (l .low) (l .span) (l .inv) (omega arith) (s .pre .0) (ltb-false least end (sym told ∙ fails))))
     (c .if1 .came)
 
 returns : tie.Need-returns Inv-loop μ-loop

@@ -35,20 +35,20 @@ mul-choices c = search needs
 slice-read-choices : tie.Need-slice-read-choices
 slice-read-choices c = search needs
 
-mul-pairs : tie.Need-mul-pairs
-mul-pairs c = search needs
+mul-firsts : tie.Need-mul-firsts
+mul-firsts c = search needs
 
-slice-write-pairs : tie.Need-slice-write-pairs
-slice-write-pairs c = search needs
+slice-write-firsts : tie.Need-slice-write-firsts
+slice-write-firsts c = search needs
 
-add-pairs : tie.Need-add-pairs
-add-pairs c = search needs
+add-firsts : tie.Need-add-firsts
+add-firsts c = search needs
 
-mul-pairs-2 : tie.Need-mul-pairs-2
-mul-pairs-2 c = search needs
+mul-firsts-2 : tie.Need-mul-firsts-2
+mul-firsts-2 c = search needs
 
-slice-write-pairs-2 : tie.Need-slice-write-pairs-2
-slice-write-pairs-2 c = simp length-set (omega arith)
+slice-write-firsts-2 : tie.Need-slice-write-firsts-2
+slice-write-firsts-2 c = simp length-set (omega arith)
 
 add-t12 : tie.Need-add-t12
 add-t12 c = search needs
@@ -62,7 +62,7 @@ same-length c = search needs
 returns : tie.Need-returns
 returns c =
     let a = c .before .before .before .args in
-    rw (power-shift (32 + a .number) (omega arith)) (copied (a .number) (a .like) (a .seen) (a .pairs .now) (omega arith))
+    rw (power-shift (32 + a .number) (omega arith)) (copied (a .number) (a .like) (a .seen) (a .firsts .now) (omega arith))
 
 pub copy-leaf-spec : {M : Type 1} → statement M
 copy-leaf-spec =
@@ -77,11 +77,11 @@ copy-leaf-spec =
     add-choices
     mul-choices
     slice-read-choices
-    mul-pairs
-    slice-write-pairs
-    add-pairs
-    mul-pairs-2
-    slice-write-pairs-2
+    mul-firsts
+    slice-write-firsts
+    add-firsts
+    mul-firsts-2
+    slice-write-firsts-2
     add-t12
     shl-t16
     same-length

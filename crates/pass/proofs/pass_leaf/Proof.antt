@@ -12,14 +12,14 @@ use Rattle.pass.proofs.pass_leaf.Statement.{statement}
 use Rattle.pass.proofs.pass_leaf.Tie as tie
 
 abbrev Inv-loop : tie.InvT-loop
-Inv-loop terms₀ clauses sizes pairs₀ rows₀ search number words r₀ w₀ terms pairs rows r w = (w ≤ words) × Placed (sizes .free) (sizes .own) terms
+Inv-loop terms₀ clauses sizes firsts₀ rows₀ search number words r₀ w₀ terms firsts rows r w = (w ≤ words) × Placed (sizes .free) (sizes .own) terms
     × ((values v : ℕ) → Terms (sizes .free) (sizes .own) values v terms₀ → (u : ℕ) × Terms (sizes .free) (sizes .own) values u terms)
     × ((h : ℕ) (constants : List ℕ) (v : ℕ) → Terms (sizes .free) (sizes .own) (leafValues (storedBy sizes clauses constants) h number) v terms₀
-    → Amid (storedBy sizes clauses constants) h search number 0 r₀ pairs₀ rows₀ → Amid (storedBy sizes clauses constants) h search number w r pairs rows)
-    × OthersKept number r₀ pairs₀ r pairs
+    → Amid (storedBy sizes clauses constants) h search number 0 r₀ firsts₀ rows₀ → Amid (storedBy sizes clauses constants) h search number w r firsts rows)
+    × OthersKept number r₀ firsts₀ r firsts
 
 abbrev μ-loop : tie.MeasureT-loop
-μ-loop terms₀ clauses sizes pairs₀ rows₀ search number words r₀ w₀ terms pairs rows r w = words - w
+μ-loop terms₀ clauses sizes firsts₀ rows₀ search number words r₀ w₀ terms firsts rows r w = words - w
 
 word-count-requires : tie.Need-word-count-requires Inv-loop μ-loop
 word-count-requires c κs = omega (arith, c .pre .0 .variables)
@@ -52,7 +52,7 @@ loop-again c =
       (let (values, v, t) = l .inv .1 in (values, l .w, passed .0 values (moved values v t))),
       λ values v t. (let (u, s) = l .inv .2 values v t in (l .w, passed .0 values (moved values u s))),
       λ h constants v t A. (let (u, s) = l .inv .2 _ v t in passed .1 .0 h constants (moved _ u s) (l .inv .3 h constants v t A)),
-      others-more _ _ _ (l .r) (l .pairs) _ _ (l .inv .4) (passed .1 .1),
+      others-more _ _ _ (l .r) (l .firsts) _ _ (l .inv .4) (passed .1 .1),
     )
 
 returns : tie.Need-returns Inv-loop μ-loop
@@ -64,9 +64,9 @@ returns c =
     let e : l .w ≡ wordCount (a .sizes .free) = omega (arith, c .before .before .before .word-count .ensures) in (
       l .inv .2,
       λ h constants v t A.
-          leaf-done (storedBy (a .sizes) (a .clauses .now) constants) h (a .leaf .search) (a .leaf .number) (a .seen) _ _ A (l .r) (l .pairs) (l .rows)
+          leaf-done (storedBy (a .sizes) (a .clauses .now) constants) h (a .leaf .search) (a .leaf .number) (a .seen) _ _ A (l .r) (l .firsts) (l .rows)
           (rw e at (l .inv .3 h constants v t (amid-start (storedBy (a .sizes) (a .clauses .now) constants) h (a .leaf .search) (a .leaf .number) (a .seen) _ _ (s .pre .1 .1) A)))
-          (record { possible-kept = O .possible-kept; met-kept = O .met-kept; pairs-kept = O .pairs-kept }),
+          (record { possible-kept = O .possible-kept; met-kept = O .met-kept; firsts-kept = O .firsts-kept }),
     )
 
 pub pass-leaf-spec : {M : Type 1} → statement M

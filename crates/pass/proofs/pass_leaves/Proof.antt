@@ -17,13 +17,13 @@ use Rattle.pass.proofs.pass_leaves.Statement.{statement}
 use Rattle.pass.proofs.pass_leaves.Tie as tie
 
 abbrev Inv-loop : tie.InvT-loop
-Inv-loop clauses constants search pairs₀ rows₀ sizes terms₀ keys₀ leaves seen₀ b₀ pairs rows terms keys seen b = (b ≤ leaves)
+Inv-loop clauses constants search firsts₀ rows₀ sizes terms₀ keys₀ leaves seen₀ b₀ firsts rows terms keys seen b = (b ≤ leaves)
     × (length keys ≡ 32) × PlacedWithin (sizes .free) (sizes .own) (sizes .defined) terms
     × ((i : ℕ) → i < b → getD keys i 0 ≡ leafValues (storedBy sizes clauses constants) (sizes .height) i)
-    × After (storedBy sizes clauses constants) (sizes .height) search b seen pairs rows
+    × After (storedBy sizes clauses constants) (sizes .height) search b seen firsts rows
 
 abbrev μ-loop : tie.MeasureT-loop
-μ-loop clauses constants search pairs₀ rows₀ sizes terms₀ keys₀ leaves seen₀ b₀ pairs rows terms keys seen b = leaves - b
+μ-loop clauses constants search firsts₀ rows₀ sizes terms₀ keys₀ leaves seen₀ b₀ firsts rows terms keys seen b = leaves - b
 
 -- there are at most 32 leaves
 few-leaves : (s : tie.Start Inv-loop μ-loop) → 2 ^ s .args .t2 .height ≤ 32
@@ -56,7 +56,7 @@ loop-holds c =
       (0, 0, λ i l. bit-zero i, c .before .before .before .start-terms .ensures),
       λ i l. absurd (omega arith),
       rw (power-shift (getD (a .t2 .counts) 3 0) (omega (arith, s .pre .0 .few)))
-          (after-none (storedBy (a .t2) (a .clauses .now) (a .constants .now)) (a .t2 .height) (a .search) (a .pairs .now) (a .rows .now) (s .pre .1 .3)),
+          (after-none (storedBy (a .t2) (a .clauses .now) (a .constants .now)) (a .t2 .height) (a .search) (a .firsts .now) (a .rows .now) (s .pre .1 .3)),
     )
 
 values-at-requires : tie.Need-values-at-requires Inv-loop μ-loop
@@ -120,7 +120,7 @@ returns-2 c =
     let a = s .args in
     let l = c .before .loop in
     let e : l .b ≡ 2 ^ a .t2 .height = omega (arith, c .before .before .before .power .ensures) in
-    passed-all (storedBy (a .t2) (a .clauses .now) (a .constants .now)) (a .t2 .height) (a .search) (l .seen) (l .pairs) (l .rows) (rw e at (l .inv .4))
+    passed-all (storedBy (a .t2) (a .clauses .now) (a .constants .now)) (a .t2 .height) (a .search) (l .seen) (l .firsts) (l .rows) (rw e at (l .inv .4))
 
 pub pass-leaves-spec : {M : Type 1} → statement M
 pass-leaves-spec =

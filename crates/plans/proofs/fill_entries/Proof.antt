@@ -12,16 +12,16 @@ use Rattle.plans.proofs.fill_entries.Statement.{statement}
 use Rattle.plans.proofs.fill_entries.Tie as tie
 
 abbrev Inv-loop : tie.InvT-loop
-Inv-loop pairs outline subleaf₀ choice₀ taken₀ e₀ subleaf choice taken e = (e ≤ outline .extra + outline .count) × (length subleaf ≡ 32) × (length choice ≡ 32)
-    × (length taken ≡ 32) × Taken outline pairs e taken × Filled outline pairs e subleaf choice
+Inv-loop firsts outline subleaf₀ choice₀ taken₀ e₀ subleaf choice taken e = (e ≤ outline .extra + outline .count) × (length subleaf ≡ 32) × (length choice ≡ 32)
+    × (length taken ≡ 32) × Taken outline firsts e taken × Filled outline firsts e subleaf choice
 
 abbrev μ-loop : tie.MeasureT-loop
-μ-loop pairs outline subleaf₀ choice₀ taken₀ e₀ subleaf choice taken e = outline .extra + outline .count - e
+μ-loop firsts outline subleaf₀ choice₀ taken₀ e₀ subleaf choice taken e = outline .extra + outline .count - e
 
 loop-holds : tie.Need-loop-holds Inv-loop μ-loop
 loop-holds c =
     let s = c .before .before in
-    (omega arith, s .pre .1 .0, s .pre .1 .1, refl, taken-none (s .args .outline) (s .args .pairs .now), filled-none (s .args .outline) (s .args .pairs .now) _ _)
+    (omega arith, s .pre .1 .0, s .pre .1 .1, refl, taken-none (s .args .outline) (s .args .firsts .now), filled-none (s .args .outline) (s .args .firsts .now) _ _)
 
 add-if1 : tie.Need-add-if1 Inv-loop μ-loop
 add-if1 c = omega arith
@@ -33,7 +33,7 @@ word-at-requires : tie.Need-word-at-requires Inv-loop μ-loop
 word-at-requires c κs =
     let s = c .before .before .before .before .before .before in
     let fits = s .pre .0 in
-    omega (arith, c .slot-of .ensures, slot-lt (s .args .outline .extra) (c .before .before .before .loop .e) (omega (arith, fits .extra, fits .few)))
+    rw (c .slot-of .ensures) (slot-lt _ (c .before .before .before .loop .e) (omega (arith, fits .extra, fits .few)))
 
 leaf-of-requires : tie.Need-leaf-of-requires Inv-loop μ-loop
 leaf-of-requires c κs = c .before .before .before .before .before .before .before .pre .0 .variables
@@ -41,10 +41,10 @@ leaf-of-requires c κs = c .before .before .before .before .before .before .befo
 -- the number of the word at hand
 number : (c : tie.After-word-at Inv-loop μ-loop) → (
     let s = c .before .before .before .before .before .before .before in
-    leastNumber (c .word-at .result) ≡ numberAt (s .args .pairs .now) (slotOf (s .args .outline .extra) (c .before .before .before .before .loop .e)))
+    leastNumber (c .word-at .result) ≡ numberAt (s .args .firsts .now) (slotOf (s .args .outline .extra) (c .before .before .before .before .loop .e)))
 number c =
     let s = c .before .before .before .before .before .before .before in
-    c .word-at .ensures ∙ ap (numberAt (s .args .pairs .now)) (c .before .slot-of .ensures)
+    c .word-at .ensures ∙ ap (numberAt (s .args .firsts .now)) (c .before .slot-of .ensures)
 
 slice-aggregate-take-rank : tie.Need-slice-aggregate-take-rank Inv-loop μ-loop
 slice-aggregate-take-rank c = search needs
@@ -52,7 +52,7 @@ slice-aggregate-take-rank c = search needs
 -- its leaf
 at-leaf : (c : tie.After-leaf-of Inv-loop μ-loop) → (
     let s = c .before .before .before .before .before .before .before .before in
-    c .leaf-of .result ≡ pairLeaf (s .args .outline) (s .args .pairs .now) (c .before .before .before .before .before .loop .e))
+    c .leaf-of .result ≡ pairLeaf (s .args .outline) (s .args .firsts .now) (c .before .before .before .before .before .loop .e))
 at-leaf c =
     let s = c .before .before .before .before .before .before .before .before in
     c .leaf-of .ensures ∙ ap (λ x. x / leafWidth (s .args .outline .free)) (number (c .before))
@@ -60,7 +60,7 @@ at-leaf c =
 leaf-lt : (c : tie.After-leaf-of Inv-loop μ-loop) → c .leaf-of .result < 32
 leaf-lt c =
     let s = c .before .before .before .before .before .before .before .before in
-    omega (arith, at-leaf c, pair-leaf-lt (s .args .outline) (s .args .pairs .now) (s .pre .0) (c .before .before .before .before .before .loop .e) (c .before .before .before .if1 .taken))
+    omega (arith, at-leaf c, pair-leaf-lt (s .args .outline) (s .args .firsts .now) (s .pre .0) (c .before .before .before .before .before .loop .e) (c .before .before .before .if1 .taken))
 
 take-rank-requires : tie.Need-take-rank-requires Inv-loop μ-loop
 take-rank-requires c κs =
@@ -68,7 +68,7 @@ take-rank-requires c κs =
     let s = c .before .before .before .before .before .before .before .before .before in
     let within = leaf-lt (c .before) in (
       omega (arith, within, l .inv .3),
-      omega (arith, s .pre .0 .extra, s .pre .0 .few, rank-le (s .args .outline) (s .args .pairs .now) (l .e) (c .before .leaf-of .result) _ (l .taken) (at-leaf (c .before)) within refl (l .inv .4)),
+      omega (arith, s .pre .0 .extra, s .pre .0 .few, rank-le (s .args .outline) (s .args .firsts .now) (l .e) (c .before .leaf-of .result) _ (l .taken) (at-leaf (c .before)) within refl (l .inv .4)),
     )
 
 sub-leaf-requires : tie.Need-sub-leaf-requires Inv-loop μ-loop
@@ -105,7 +105,7 @@ loop-again c =
     let l = c .before .before .before .before .before .before .before .before .before .before .loop in
     let s = c .before .before .before .before .before .before .before .before .before .before .before .before .before in
     let o = s .args .outline in
-    let pairs = s .args .pairs .now in
+    let firsts = s .args .firsts .now in
     let leaf = c .before .before .before .before .before in
     let taking = c .before .before .before .take-rank in
     let b = leaf .leaf-of .result in
@@ -115,10 +115,10 @@ loop-again c =
       simp length-set (l .inv .1),
       simp length-set (l .inv .2),
       ap length (taking .ensures .2) ∙ simp length-set (l .inv .3),
-      taken-more o pairs (l .e) b (taking .result) (l .taken) (at-leaf leaf) (leaf-lt leaf) (taking .ensures .0) (l .inv .4) (taking .last .0)
+      taken-more o firsts (l .e) b (taking .result) (l .taken) (at-leaf leaf) (leaf-lt leaf) (taking .ensures .0) (l .inv .4) (taking .last .0)
           (omega (arith, leaf-lt leaf, l .inv .3)) (taking .ensures .2),
-      filled-more o pairs (l .e) (c .before .sub-leaf .result) (c .choice-of .result) (l .subleaf) (l .choice) (omega arith) (omega arith)
-          (stands ∙ sub-leaf-is o pairs (l .e) b (taking .result) (l .taken) (at-leaf leaf) (leaf-lt leaf) (taking .ensures .0) (l .inv .4))
+      filled-more o firsts (l .e) (c .before .sub-leaf .result) (c .choice-of .result) (l .subleaf) (l .choice) (omega arith) (omega arith)
+          (stands ∙ sub-leaf-is o firsts (l .e) b (taking .result) (l .taken) (at-leaf leaf) (leaf-lt leaf) (taking .ensures .0) (l .inv .4))
           (chosen ∙ ap (λ x. x % leafWidth (o .free)) (number (leaf .before))) (l .inv .5),
     )
 

@@ -1,5 +1,5 @@
 -- `plans::fill_plain` meets its contract. The loop's invariant: the first b leaves have their choices. Assumes nothing.
-use mathlib.Core.Path.{_≡_, refl}
+use mathlib.Core.Path.{_≡_}
 use Prim.Native.Nat.{ℕ, _+_, _-_, _≤_, _<_}
 use native.Mathlib.Omega.{arith}
 use lib.ListN.{length, getD, length-set}
@@ -9,10 +9,10 @@ use Rattle.plans.proofs.fill_plain.Statement.{statement}
 use Rattle.plans.proofs.fill_plain.Tie as tie
 
 abbrev Inv-loop : tie.InvT-loop
-Inv-loop pairs leaves free plain₀ b₀ plain b = (b ≤ leaves) × (length plain ≡ 64) × ((i : ℕ) → i < b → getD plain i 0 ≡ numberAt pairs (32 + i))
+Inv-loop firsts leaves free plain₀ b₀ plain b = (b ≤ leaves) × (length plain ≡ 64) × ((i : ℕ) → i < b → getD plain i 0 ≡ numberAt firsts (32 + i))
 
 abbrev μ-loop : tie.MeasureT-loop
-μ-loop pairs leaves free plain₀ b₀ plain b = leaves - b
+μ-loop firsts leaves free plain₀ b₀ plain b = leaves - b
 
 loop-holds : tie.Need-loop-holds Inv-loop μ-loop
 loop-holds c = (omega arith, c .before .pre .2, λ i l. absurd (omega arith))
@@ -21,7 +21,7 @@ plain-at-requires : tie.Need-plain-at-requires Inv-loop μ-loop
 plain-at-requires c κs =
     let s = c .before .before .before .before in
     let l = c .before .before .loop in
-    let pairs = s .args .pairs .now in (
+    let firsts = s .args .firsts .now in (
       (omega arith, s .pre .1, l .inv .1),
       (
         s .pre .3 (l .b) (c .before .loop-test .taken),
@@ -44,10 +44,10 @@ loop-less c = omega arith
 loop-again : tie.Need-loop-again Inv-loop μ-loop
 loop-again c =
     let l = c .before .before .before .loop in
-    let pairs = c .before .before .before .before .before .args .pairs .now in (
+    let firsts = c .before .before .before .before .before .args .firsts .now in (
       omega arith,
       simp length-set (l .inv .1),
-      store-law (λ i x. i < l .b + 1 → x ≡ numberAt pairs (32 + i)) (l .plain) (l .b) (c .plain-at .result) (omega arith)
+      store-law (λ i x. i < l .b + 1 → x ≡ numberAt firsts (32 + i)) (l .plain) (l .b) (c .plain-at .result) (omega arith)
           (λ i n h. l .inv .2 i (omega arith)) (λ h. c .plain-at .ensures),
     )
 

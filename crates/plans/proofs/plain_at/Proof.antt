@@ -1,12 +1,11 @@
 -- `plans::plain_at` meets its contract. Assumes nothing.
 use mathlib.Core.Path.{_≡_, sym, ap, _∙_}
 use Prim.Native.Nat.{_+_, _%_}
-use native.Mathlib.Omega.{arith}
 use native.Mathlib.Nat.{le-trans, mod-eq-of-lt}
 use Rattle.shares.specs.Test.{of-true}
 use Rattle.words.specs.Kept.{numberAt}
 use Rattle.plans.specs.Pairs.{leafWidth}
-use Rattle.plans.specs.PairLaws.{width-enough}
+use Rattle.plans.specs.PairLaws.{width-enough, same-least}
 use borrow.Author.Needs.{needs}
 use Rattle.plans.proofs.plain_at.Statement.{statement}
 use Rattle.plans.proofs.plain_at.Tie as tie
@@ -41,11 +40,11 @@ returns c =
     let first = same .before .before .before in
     first .before .before .pre .1 .1 (same .before .before .if1 .taken)
     ∙ sym (same .before .word-at2 .ensures)
-    ∙ same .are-same .ensures (of-true (c .before .if2 .taken))
+    ∙ same-least _ _ (of-true (sym (same .are-same .ensures) ∙ c .before .if2 .taken))
     ∙ first .word-at .ensures
 
 -- the number of the leaf's word is the choice
-alone : (s : tie.Start) → numberAt (s .args .pairs .now) (32 + s .args .b) % leafWidth (s .args .free) ≡ numberAt (s .args .pairs .now) (32 + s .args .b)
+alone : (s : tie.Start) → numberAt (s .args .firsts .now) (32 + s .args .b) % leafWidth (s .args .free) ≡ numberAt (s .args .firsts .now) (32 + s .args .b)
 alone s = mod-eq-of-lt (le-trans (s .pre .1 .0) (width-enough (s .args .free)))
 
 choice-of-requires : tie.Need-choice-of-requires

@@ -16,7 +16,7 @@ fill-plain-requires : tie.Need-fill-plain-requires
 fill-plain-requires c κs =
     let s = c .before .before in
     let leaves = c .before .power .ensures in
-    (omega (arith, leaves, leaves-le (s .args .outline) (s .args .pairs .now) (s .pre)), s .pre .variables, refl, λ b l. s .pre .plains b (rw leaves at l))
+    (omega (arith, leaves, leaves-le (s .args .outline) (s .args .firsts .now) (s .pre)), s .pre .variables, refl, λ b l. s .pre .plains b (rw leaves at l))
 
 slice-aggregate-fill-entries : tie.Need-slice-aggregate-fill-entries
 slice-aggregate-fill-entries c = search needs
@@ -38,7 +38,7 @@ returns c R e P =
     let filled = c .before .before .before .before in
     let plain = filled .before .before .before .before in
     let s = plain .before .before .before in
-    made (s .args .outline) (s .args .pairs .now) R P e _ _ _ (λ b l. plain .fill-plain .ensures b (rw (plain .before .before .power .ensures) l))
+    made (s .args .outline) (s .args .firsts .now) R P e _ _ _ (λ b l. plain .fill-plain .ensures b (rw (plain .before .before .power .ensures) l))
     (filled .fill-entries .ensures)
 
 pub plan-of-spec : {M : Type 1} → statement M

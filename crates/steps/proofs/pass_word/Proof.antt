@@ -4,7 +4,6 @@ use mathlib.Core.Path.{_≡_, refl, sym, ap, _∙_}
 use Prim.Native.Nat.{ℕ, _+_, _*_, _<_}
 use native.Mathlib.Omega.{arith}
 use borrow.Author.Needs.{needs}
-use Rattle.beside.specs.GatherLaws.{words-le}
 use Rattle.steps.specs.Steps.{storedBy}
 use Rattle.steps.specs.StepLaws.{allowed-same, turn-lt, amid-none, amid-kept, amid-second, others-kept, others-second}
 use Rattle.steps.specs.TestLaws.{first-not-unmet, missed-not-unmet}
@@ -34,7 +33,7 @@ returns c =
             amid-none (a .t3) (a .clauses .now) constants h (a .spot .leaf) (a .spot .word) (a .spot .search) (a .seen) _ _ (s .pre .1 .2) A
             (λ k m. sym (allowed-same (a .t3) (a .clauses .now) constants (a .spot .search) _ _) ∙ sym (U .1 k m) ∙ ap (λ x. bit x k) (c .if1 .taken) ∙ bit-zero k)
             _ (λ e. W .1 e .1),
-        record { possible-kept = refl; met-kept = λ k m n. refl; pairs-kept = λ k m n. refl },
+        record { possible-kept = refl; met-kept = λ k m n. refl; firsts-kept = λ k m n. refl },
       ),
     )
 
@@ -51,13 +50,13 @@ add-keep-word : tie.Need-add-keep-word
 add-keep-word c = search needs
 
 keep-word-requires : tie.Need-keep-word-requires
-keep-word-requires c κs = let s = c .before .before .before .before .before .before .before .before .before in (omega (arith, s .pre .1 .1), omega (arith, s .pre .1 .2, words-le (s .args .t3 .free) (omega (arith, s .pre .0 .variables))), omega arith)
+keep-word-requires c κs = let s = c .before .before .before .before .before .before .before .before .before in (omega (arith, s .pre .1 .1), omega arith)
 
 element-copy-out-keep-all : tie.Need-element-copy-out-keep-all
 element-copy-out-keep-all c = search needs
 
 keep-all-requires : tie.Need-keep-all-requires
-keep-all-requires c κs = let s = c .before .before .before .before .before .before .before .before .before .before .before .before .before in ((s .pre .0 .few .0, rw (c .before .before .before .before .before .before .before .before .word-count .ensures) (few-turns s), omega arith), s .pre .0 .first-disequation)
+keep-all-requires c κs = let s = c .before .before .before .before .before .before .before .before .before .before .before .before .before in ((s .pre .0 .few .0, omega arith), s .pre .0 .first-disequation)
 
 enum-told : tie.Need-enum-told
 enum-told c = search needs
@@ -66,7 +65,7 @@ enum-told-2 : tie.Need-enum-told-2
 enum-told-2 c = search needs
 
 second-word-requires : tie.Need-second-word-requires
-second-word-requires c κs = let s = c .before .before .before .before .before .before .before .before .before .before .before .before .before .before .before .before .before .before .before in (s .pre .0, (s .pre .1 .2, rw (c .before .before .before .before .before .before .before .before .before .before .before .before .before .before .word-count .ensures) (few-turns s), c .before .before .before .before .before .before .before .before .before .before .before .before .before .before .before .before .allowed-word .ensures .1 (c .before .before .before .enum-told2 .given .1) .0))
+second-word-requires c κs = let s = c .before .before .before .before .before .before .before .before .before .before .before .before .before .before .before .before .before .before .before in (s .pre .0, (s .pre .1 .2, c .before .before .before .before .before .before .before .before .before .before .before .before .before .before .before .before .allowed-word .ensures .1 (c .before .before .before .enum-told2 .given .1) .0))
 
 enum-told-3 : tie.Need-enum-told-3
 enum-told-3 c = search needs

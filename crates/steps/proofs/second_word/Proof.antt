@@ -15,7 +15,7 @@ returns c =
     (λ values t. (t, λ first. second-before (a .t3) (a .clauses .now) values (a .at) (a .seen) _ _ (sym (c .before .digit .ensures) ∙ c .if1 .taken)), (refl, λ k n. refl, λ k n. refl))
 
 missing-requires : tie.Need-missing-requires
-missing-requires c κs = let s = c .before .before .before .before in (s .pre .0, (s .pre .1 .0, omega arith, s .pre .1 .2))
+missing-requires c κs = let s = c .before .before .before .before in (s .pre .0, (s .pre .1 .0, omega arith, s .pre .1 .1))
 
 keep-word-requires : tie.Need-keep-word-requires
 keep-word-requires c κs = search needs
@@ -30,7 +30,7 @@ returns-2 c =
         M .0 values t .0,
         λ first. second-alone (a .t3) (a .clauses .now) (s .pre .0) values (a .at) (a .seen) _ _ first _ _ (M .0 values t .1) (M .1) (sym (c .before .before .before .before .before .before .before .before .digit .ensures) ∙ c .before .before .before .before .before .before .before .if1 .left) _ _ K (c .if2 .taken),
       ),
-      (refl, K .met-kept, K .pairs-kept),
+      (refl, K .met-kept, K .firsts-kept),
     )
 
 element-copy-out-fill-failing : tie.Need-element-copy-out-fill-failing
@@ -61,7 +61,7 @@ returns-3 c =
             second-marked (a .t3) (a .clauses .now) (s .pre .0) values (a .at) (a .seen) _ _ first _ _ (M .0 values t .1) (M .1) (sym (c .before .before .before .before .before .before .before .before .before .before .before .before .before .before .before .before .digit .ensures) ∙ c .before .before .before .before .before .before .before .before .before .before .before .before .before .before .before .if1 .left) _ _ K
             (c .before .before .before .before .before .before .before .before .before .before .before .before .missing .last .0) _ (M .0 values t .0) (F .0) (F .1) _ _ (c .mark-all .ensures),
       ),
-      (refl, K .met-kept, K .pairs-kept),
+      (refl, K .met-kept, K .firsts-kept),
     )
 
 pub second-word-spec : {M : Type 1} → statement M

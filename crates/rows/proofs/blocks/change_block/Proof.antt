@@ -3,7 +3,7 @@ use mathlib.Core.Path.{subst}
 use borrow.Author.Needs.{needs}
 use Rattle.shares.specs.Test.{of-true, beq-iff}
 use Rattle.rows.specs.Blocks.{AllLeaves}
-use Rattle.rows.specs.BlockLaws.{block-same}
+use Rattle.rows.specs.BlockLaws.{leaf-same}
 use Rattle.rows.proofs.blocks.change_block.Statement.{statement}
 use Rattle.rows.proofs.blocks.change_block.Tie as tie
 
@@ -11,7 +11,7 @@ returns : tie.Need-returns
 returns c =
     let a = c .before .before .args in
     let e = beq-iff (a .old) (a .full) .0 (of-true (c .if1 .taken)) in
-    block-same _ _ _ _ (subst (AllLeaves (a .row .now) (a .height) (a .q)) e (c .before .before .pre .1))
+    leaf-same _ _ _ _ (subst (AllLeaves (a .row .now) (a .height) (a .q)) e (c .before .before .pre .1))
 
 write-block-requires : tie.Need-write-block-requires
 write-block-requires c κs = search needs
