@@ -1,4 +1,4 @@
-//! The fixed solution, made by the words that fix it:
+//! The fixed solution (SPEC 4.5), made by the words that fix it:
 //!
 //! "The solution shown is fixed. Unfold the question to height h. Each disequation of the first system goes to the leftmost leaf
 //! where it and the first system's positive clauses can be met together. Below a leaf stand 2^(W-h) sub-leaves, W being the
