@@ -1,12 +1,14 @@
 -- The solution that is shown: its trees past the free variables are empty, none is taller than the height given, and it is the one solution
 -- that the words fix. Assumes nothing.
-use mathlib.Core.Path.{_≡_, sym, ap, _∙_}
+use mathlib.Core.Path.{_≡_, refl, sym, ap, _∙_}
 use mathlib.Core.Bool.{Bool, false}
+use mathlib.Core.List.{[], _∷_}
 use Prim.Native.Nat.{ℕ, _+_, _-_, _^_, _≤_, _<_}
 use native.Mathlib.Nat.{add-sub-cancel-left}
 use native.Mathlib.Omega.{arith}
 use lib.Dec.{T, ltb, ltb→lt}
 use Rattle.shares.specs.Test.{cond-law}
+use Rattle.shares.specs.Below.{firstBelow}
 use Rattle.shares.specs.BelowLaws.{first-below}
 use Rattle.shares.specs.Tree.{leaf, height}
 use Rattle.shares.specs.TreeLaws.{share-path, treeOf-ext, treeOf-leaf, treeOf-height, leafAt-treeOf, equal-iff}
@@ -20,12 +22,30 @@ use Rattle.leaves.specs.FixedWords.{Words}
 use Rattle.leaves.specs.FixedLaws.{fixed-words, words-positive, words-one, unmet-words, missed-means}
 use Rattle.leaves.specs.Entailment.{canBeMissed, firstMissed}
 use Rattle.leaves.specs.SecondLaws.{unmet-solvable}
-use Rattle.systems.specs.Clauses.{Assignment}
+use Rattle.systems.specs.Clauses.{variable, equal, negated, Assignment, disequations}
 use Rattle.systems.specs.Questions.{Kind, satisfiability, entailment, Question, firstCount, secondCount}
 use Rattle.systems.specs.Answers.{Answer, satisfied, unsatisfied, vacuous, entailed, unmet, missed, shows, heightGiven}
 use Rattle.systems.specs.AtLeaves.{firstAt, secondAt}
 use Rattle.systems.specs.Decide.{canSolve, someUnmet, lowestMissed, decideKind, decideAt, sharesOf, askedFor, shownWith, shownAt}
 use Rattle.systems.specs.ShownWords.{ReasonWords, ShownFixed}
+
+-- ---- an example, computed: with two disequations and h = 2, each leaf has two sub-leaves for a solution, and four for a no
+
+abbrev two : Question
+two = record {
+  kind = entailment;
+  free = 2;
+  own = 0;
+  constants = record { levels = 2; numbers = [] };
+  first = negated (equal (variable 0) (variable 1)) ∷ negated (equal (variable 1) (variable 0)) ∷ [];
+  second = [];
+}
+
+two-given : (heightGiven 2 two satisfied ≡ 3) × (heightGiven 2 two unmet ≡ 4) × (heightGiven 2 two (missed 0) ≡ 4)
+unfolding c firstBelow disequations
+two-given = (refl, refl, refl)
+
+-- ---- past the free variables, and how tall
 
 shares-past : {n : ℕ} (k : ℕ) (s : ℕ → Row Bool n) (v : ℕ) → n ≤ v → sharesOf k s v .tree ≡ leaf false
 unfolding sharesOf
