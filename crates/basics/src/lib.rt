@@ -14,6 +14,11 @@ pub const SECOND_POSITIVES: usize = 384;
 
 pub const SECOND_DISEQUATIONS: usize = 640;
 
+// Parts of a join at a leaf that are no term's: one that is always empty, and one that is always full.
+pub const EMPTY_PART: u8 = 0x0C;
+
+pub const FULL_PART: u8 = 0x0D;
+
 // Two to the power k.
 pub fn power(k: usize) -> usize
     requires { ⌜ k < 64 ⌝ }

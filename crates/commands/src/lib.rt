@@ -10,9 +10,9 @@ use format::Step;
 use format::Test;
 ghost use mathlib.Core.Path.{_≡_};
 ghost use Prim.Native.Nat.{_+_, _≤_};
-ghost use lib.ListN.{length, getD, take, drop};
+ghost use lib.ListN.{length, take, drop};
 ghost use Rattle.shares.specs.Constant.{number};
-ghost use Rattle.format.specs.Format.{termCount, operands, thirdAt, commandOf, readAt};
+ghost use Rattle.format.specs.Format.{termCount, operands, termByte, clauseAt, commandOf, readAt};
 
 // The number that four bytes make, the lowest first.
 fn constant_at(bytes: &[u8], i: usize) -> u64
@@ -26,24 +26,25 @@ fn constant_at(bytes: &[u8], i: usize) -> u64
     ((d * 256 + c) * 256 + b) * 256 + a
 }
 
-fn third_at(bytes: &[u8], i: usize, test: Test) -> u8
-    requires { ⌜ i + termCount test ≤ length (now bytes) + 2 ⌝ }
-    ensures { λ r. ⌜ r ≡ thirdAt (now (bytes .entry)) i test ⌝ }
+// The byte of term number k of a clause with so many terms, 0 where it has none.
+fn term_byte(bytes: &[u8], i: usize, count: usize, k: usize) -> u8
+    requires { ⌜ i + count ≤ length (now bytes) ⌝ }
+    ensures { λ r. ⌜ r ≡ termByte (now (bytes .entry)) i count k ⌝ }
 {
-    match test {
-        Test::Join => bytes[i],
-        Test::Equality => 0,
+    if k < count {
+        return bytes[i + k];
     }
+    0
 }
 
 fn clause_at(bytes: &[u8], i: usize, section: Section, test: Test) -> Command
     requires { ⌜ i + termCount test ≤ length (now bytes) ⌝ }
-    requires { ⌜ 2 ≤ termCount test ⌝ }
-    ensures { λ r. ⌜ r ≡ Command.Clause section test (getD (now (bytes .entry)) i 0) (getD (now (bytes .entry)) (i + 1) 0) (thirdAt (now (bytes .entry)) (i + 2) test) ⌝ }
+    ensures { λ r. ⌜ r ≡ clauseAt (now (bytes .entry)) i section test ⌝ }
 {
-    let a = bytes[i];
-    let b = bytes[i + 1];
-    let c = third_at(bytes, i + 2, test);
+    let count = table::term_count(test);
+    let a = term_byte(bytes, i, count, 0);
+    let b = term_byte(bytes, i, count, 1);
+    let c = term_byte(bytes, i, count, 2);
     Command::Clause {
         section,
         test,

@@ -1,10 +1,14 @@
-// The table of commands: what a command byte announces.
+// The table of commands: what a command byte announces, how many terms each test takes, and how it reads as a join at one leaf.
+use basics::EMPTY_PART;
+use basics::FULL_PART;
 use format::Entry;
+use format::LeafJoin;
 use format::Section;
 use format::Shape;
 use format::Test;
 ghost use mathlib.Core.Path.{_≡_};
 ghost use Rattle.format.specs.Format.{entryOf, termCount, operands};
+ghost use Rattle.format.specs.Stored.{joined, joinFor};
 
 pub fn entry_of(byte: u8) -> Entry
     ensures { λ r. ⌜ r ≡ entryOf byte ⌝ }
@@ -21,16 +25,25 @@ pub fn entry_of(byte: u8) -> Entry
         0x21 => Entry::Known(Shape::Clause(Section::SecondDisequation, Test::Join)),
         0x22 => Entry::Known(Shape::Clause(Section::SecondPositive, Test::Equality)),
         0x23 => Entry::Known(Shape::Clause(Section::SecondDisequation, Test::Equality)),
+        0x30 => Entry::Known(Shape::Clause(Section::FirstPositive, Test::Full)),
+        0x31 => Entry::Known(Shape::Clause(Section::FirstDisequation, Test::Empty)),
+        0x32 => Entry::Known(Shape::Clause(Section::FirstPositive, Test::Together)),
+        0x38 => Entry::Known(Shape::Clause(Section::SecondPositive, Test::Full)),
+        0x39 => Entry::Known(Shape::Clause(Section::SecondDisequation, Test::Empty)),
+        0x3A => Entry::Known(Shape::Clause(Section::SecondPositive, Test::Together)),
         _ => Entry::Unknown,
     }
 }
 
-fn term_count(test: Test) -> usize
+pub fn term_count(test: Test) -> usize
     ensures { λ r. ⌜ r ≡ termCount test ⌝ }
 {
     match test {
         Test::Join => 3,
         Test::Equality => 2,
+        Test::Full => 1,
+        Test::Empty => 1,
+        Test::Together => 2,
     }
 }
 
@@ -43,5 +56,34 @@ pub fn operand_count(shape: Shape) -> usize
         Shape::Head => 3,
         Shape::Constant => 4,
         Shape::Clause(_, test) => term_count(test),
+    }
+}
+
+fn joined(first: u8, second: u8, sum: u8) -> LeafJoin
+    ensures { λ r. ⌜ r ≡ joined first second sum ⌝ }
+{
+    LeafJoin {
+        form: 0,
+        first,
+        second,
+        sum,
+    }
+}
+
+// How a test with these terms reads as a join at one leaf.
+pub fn join_for(test: Test, a: u8, b: u8, c: u8) -> LeafJoin
+    ensures { λ r. ⌜ r ≡ joinFor test a b c ⌝ }
+{
+    match test {
+        Test::Join => joined(a, b, c),
+        Test::Equality => joined(a, EMPTY_PART, b),
+        Test::Full => joined(a, EMPTY_PART, FULL_PART),
+        Test::Empty => joined(a, EMPTY_PART, EMPTY_PART),
+        Test::Together => LeafJoin {
+            form: 1,
+            first: a,
+            second: b,
+            sum: EMPTY_PART,
+        },
     }
 }

@@ -1,13 +1,14 @@
 // What is wrong with a command, by what was read before it.
 pub mod sections;
 
+use commands::table;
 use format::Command;
 use format::Section;
 use format::Step;
 use format::Test;
 ghost use mathlib.Core.Path.{_≡_};
 ghost use Prim.Native.Nat.{_+_, _≤_};
-ghost use Rattle.format.specs.Format.{readAt, names, variablesFor, allNamed, clauseFault, constantFault};
+ghost use Rattle.format.specs.Format.{readAt, names, variablesFor, termNamed, allNamed, clauseFault, constantFault};
 ghost use Rattle.format.specs.Stored.{countOf, Counted};
 ghost use Rattle.format.specs.Keeping.{clauseTotal, foreignTo, faultOf, judgedOf, refusalOf};
 
@@ -22,19 +23,27 @@ fn names_it(variables: usize, constants: usize, term: u8) -> bool
     t - 0x20 < constants
 }
 
+// Whether term number k of a test with so many terms names something defined, where it has one.
+fn term_named(variables: usize, constants: usize, count: usize, k: usize, term: u8) -> bool
+    ensures { λ r. ⌜ r ≡ termNamed variables constants count k term ⌝ }
+{
+    if k < count {
+        return names_it(variables, constants, term);
+    }
+    true
+}
+
 fn all_named(variables: usize, constants: usize, test: Test, a: u8, b: u8, c: u8) -> bool
     ensures { λ r. ⌜ r ≡ allNamed variables constants test a b c ⌝ }
 {
-    if !names_it(variables, constants, a) {
+    let count = table::term_count(test);
+    if !term_named(variables, constants, count, 0, a) {
         return false;
     }
-    if !names_it(variables, constants, b) {
+    if !term_named(variables, constants, count, 1, b) {
         return false;
     }
-    match test {
-        Test::Join => names_it(variables, constants, c),
-        Test::Equality => true,
-    }
+    term_named(variables, constants, count, 2, c)
 }
 
 fn variables_for(free: usize, own: usize, section: Section) -> usize

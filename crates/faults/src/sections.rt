@@ -1,21 +1,11 @@
-// The numbers of sections and tests.
+// The numbers of sections.
 use basics::FIRST_DISEQUATIONS;
 use basics::SECOND_DISEQUATIONS;
 use basics::SECOND_POSITIVES;
 use format::Section;
-use format::Test;
 ghost use mathlib.Core.Path.{_≡_};
 ghost use Rattle.format.specs.Format.{isSecond, mostOf};
-ghost use Rattle.format.specs.Stored.{sectionNumber, testNumber, sectionStart};
-
-pub fn test_number(test: Test) -> u8
-    ensures { λ r. ⌜ r ≡ testNumber test ⌝ }
-{
-    match test {
-        Test::Join => 0,
-        Test::Equality => 1,
-    }
-}
+ghost use Rattle.format.specs.Stored.{sectionNumber, sectionStart};
 
 pub fn section_number(section: Section) -> usize
     ensures { λ r. ⌜ r ≡ sectionNumber section ⌝ }

@@ -5,17 +5,16 @@ use mathlib.Core.Logic.{_⊎_, inl, inr}
 use Prim.Native.Nat.{ℕ, zero, suc, _+_, _*_, _≤_, _<_}
 use native.Mathlib.Nat.{eq-or-lt-of-le, le-of-suc-le-suc, not-suc-le-zero}
 use native.Mathlib.Omega.{arith}
-use lib.Dec.{T}
 use lib.ListN.{getD, List·getD-append}
 use lib.Seq.{getD-at}
-use Rattle.shares.specs.Test.{and-left, and-right}
-use Rattle.systems.specs.Clauses.{Atom}
 use Rattle.systems.specs.Questions.{Kind, satisfiability, entailment, Question, WellFormed}
+use Rattle.systems.specs.AtLeaves.{LeafTest}
+use Rattle.format.specs.declared.LeafJoin.{LeafJoin}
 use Rattle.format.specs.declared.Reading.{Reading}
-use Rattle.format.specs.Format.{Result, refused, accepted, names, read}
-use Rattle.format.specs.Stored.{kindNumber, storedAtom, atomsOf, Stored, storedOf, StoredClause, Stands, readingOf}
+use Rattle.format.specs.Format.{Result, refused, accepted, read}
+use Rattle.format.specs.Stored.{kindNumber, testOf, fourAt, testsAt, Stored, storedOf, StoredClause, Stands, readingOf}
 use Rattle.format.specs.FormatLaws.{accepted-formed, refusal-number}
-use Rattle.format.specs.KeepingLaws.{atoms-length, named-small}
+use Rattle.format.specs.KeepingLaws.{tests-length, part-small}
 
 -- ---- the answer
 
@@ -62,24 +61,19 @@ module _ {k : ℕ} (x : Stored) (q : Question) (d : Stands k x q) where
 
 -- ---- clauses in bytes
 
--- clause number i of n that start at an offset
-pub atoms-at : (l : List ℕ) (start n i : ℕ) (a : Atom) → i < n → getD (atomsOf l start n) i a ≡ storedAtom l (start + 4 * i)
-unfolding atomsOf
-atoms-at l start zero i a h = absurd (not-suc-le-zero h)
-atoms-at l start (suc n) i a h = pick (eq-or-lt-of-le (le-of-suc-le-suc h)) (atoms-at l start n i a)
+-- the test of clause number i of n that start at an offset
+pub tests-at : (l : List ℕ) (start n i : ℕ) (t : LeafTest) → i < n → getD (testsAt l start n) i t ≡ testOf (fourAt l (start + 4 * i))
+unfolding testsAt
+tests-at l start zero i t h = absurd (not-suc-le-zero h)
+tests-at l start (suc n) i t h = pick (eq-or-lt-of-le (le-of-suc-le-suc h)) (tests-at l start n i t)
   where
-    pick : (i ≡ n) ⊎ (i < n) → (i < n → getD (atomsOf l start n) i a ≡ storedAtom l (start + 4 * i))
-        → getD (atomsOf l start n ++ (storedAtom l (start + 4 * n) ∷ [])) i a ≡ storedAtom l (start + 4 * i)
-    pick (inl e) ih = getD-at (atomsOf l start n) (storedAtom l (start + 4 * n)) [] a i (atoms-length l start n ∙ sym e) ∙ ap (λ j. storedAtom l (start + 4 * j)) (sym e)
-    pick (inr k) ih = List·getD-append (atomsOf l start n) (storedAtom l (start + 4 * n) ∷ []) a i (rw atoms-length k) ∙ ih k
+    pick : (i ≡ n) ⊎ (i < n) → (i < n → getD (testsAt l start n) i t ≡ testOf (fourAt l (start + 4 * i)))
+        → getD (testsAt l start n ++ (testOf (fourAt l (start + 4 * n)) ∷ [])) i t ≡ testOf (fourAt l (start + 4 * i))
+    pick (inl e) ih =
+        getD-at (testsAt l start n) (testOf (fourAt l (start + 4 * n))) [] t i (tests-length l start n ∙ sym e) ∙ ap (λ j. testOf (fourAt l (start + 4 * j))) (sym e)
+    pick (inr k) ih = List·getD-append (testsAt l start n) (testOf (fourAt l (start + 4 * n)) ∷ []) t i (rw tests-length k) ∙ ih k
 
--- the terms of a stored clause
-module _ (n k t a b c : ℕ) (d : StoredClause n k t a b c) where
-  first-named : T (names n k a)
-  first-named = and-left (names n k a) _ (d .named)
-
-  second-named : T (names n k b)
-  second-named = and-left (names n k b) _ (and-right (names n k a) _ (d .named))
-
-  pub bytes-small : n ≤ 32 → k ≤ 32 → (a < 64) × (b < 64) × (c < 64)
-  bytes-small hn hk = (named-small n k a hn hk first-named, named-small n k b hn hk second-named, d .third)
+-- the bytes of a stored clause
+pub bytes-small : (n k : ℕ) (j : LeafJoin) → StoredClause n k j → n ≤ 32 → k ≤ 32 → (j .first < 64) × (j .second < 64) × (j .sum < 64)
+bytes-small n k j d hn hk =
+    (part-small n k (j .first) hn hk (d .first), part-small n k (j .second) hn hk (d .second), part-small n k (j .sum) hn hk (d .sum))

@@ -5,12 +5,12 @@ use Prim.Native.Nat.{ℕ, zero, suc, _+_, _-_}
 use lib.Dec.{eqb, ltb, leb}
 use lib.ListN.{length, getD, take, drop}
 use Rattle.shares.specs.Constant.{constantLevels, number}
-use Rattle.systems.specs.Clauses.{Term, variable, constant, Atom, joined, equal, Clause, positive, negated, positives, disequations}
+use Rattle.systems.specs.Clauses.{Term, variable, constant, Atom, joined, equal, isFull, isEmpty, together, Clause, positive, negated, positives, disequations}
 use Rattle.systems.specs.Questions.{Kind, satisfiability, entailment, Question}
 use Rattle.format.specs.declared.Section.{Section}
 use Rattle.format.specs.declared.Section.the-variants.{FirstPositive, FirstDisequation, SecondPositive, SecondDisequation}
 use Rattle.format.specs.declared.Test.{Test}
-use Rattle.format.specs.declared.Test.the-variants.{Join, Equality}
+use Rattle.format.specs.declared.Test.the-variants.{Join, Equality, Full, Empty, Together}
 use Rattle.format.specs.declared.Shape.{Shape}
 use Rattle.format.specs.declared.Entry.{Entry}
 use Rattle.format.specs.declared.Entry.the-variants.{Known, Unknown}
@@ -58,12 +58,21 @@ entryOf b =
     (cond (eqb b 0x21) (Known (Shape.Clause SecondDisequation Join))
     (cond (eqb b 0x22) (Known (Shape.Clause SecondPositive Equality))
     (cond (eqb b 0x23) (Known (Shape.Clause SecondDisequation Equality))
-    Unknown))))))))))
+    (cond (eqb b 0x30) (Known (Shape.Clause FirstPositive Full))
+    (cond (eqb b 0x31) (Known (Shape.Clause FirstDisequation Empty))
+    (cond (eqb b 0x32) (Known (Shape.Clause FirstPositive Together))
+    (cond (eqb b 0x38) (Known (Shape.Clause SecondPositive Full))
+    (cond (eqb b 0x39) (Known (Shape.Clause SecondDisequation Empty))
+    (cond (eqb b 0x3A) (Known (Shape.Clause SecondPositive Together))
+    Unknown))))))))))))))))
 
 -- how many terms a test takes
 abbrev pub termCount : Test → ℕ
 termCount Join = 3
 termCount Equality = 2
+termCount Full = 1
+termCount Empty = 1
+termCount Together = 2
 
 -- how many bytes of operands follow a command byte
 abbrev pub operands : Shape → ℕ
@@ -74,17 +83,20 @@ operands (Shape.Clause σ t) = termCount t
 
 -- ---- a command with its operands
 
--- the third term's byte, 0 where a test has none
-abbrev pub thirdAt : List ℕ → ℕ → Test → ℕ
-thirdAt s i Join = getD s i 0
-thirdAt s i Equality = 0
+-- the byte of term number k of n, 0 where there is none; their bytes start at an offset
+abbrev pub termByte : List ℕ → ℕ → ℕ → ℕ → ℕ
+termByte s i n k = cond (ltb k n) (getD s (i + k) 0) 0
+
+-- a clause by its number of terms
+abbrev pub clauseAt : List ℕ → ℕ → Section → Test → Command
+clauseAt s i σ t = Command.Clause σ t (termByte s i (termCount t) 0) (termByte s i (termCount t) 1) (termByte s i (termCount t) 2)
 
 -- the command whose operands start at an offset; a constant's leaf i is bit i of its number
 unfoldable pub commandOf : List ℕ → ℕ → Shape → Command
 commandOf s i Shape.End = Command.End
 commandOf s i Shape.Head = Command.Head
 commandOf s i Shape.Constant = Command.Constant (number (take constantBytes (drop i s)))
-commandOf s i (Shape.Clause σ t) = Command.Clause σ t (getD s i 0) (getD s (i + 1) 0) (thirdAt s (i + 2) t)
+commandOf s i (Shape.Clause σ t) = clauseAt s i σ t
 
 -- an unknown byte is refused first (3), then operands that are cut short (2); else the command and the offset after it
 unfoldable pub wholeAt : List ℕ → ℕ → Entry → Step
@@ -133,19 +145,21 @@ names n k t = cond (ltb t 0x20) (ltb t n) (ltb (t - 0x20) k)
 abbrev pub variablesFor : ℕ → ℕ → Section → ℕ
 variablesFor free own σ = cond (isSecond σ) (free + own) free
 
--- a test's third term names something defined, where it has one
-abbrev pub thirdNamed : ℕ → ℕ → Test → ℕ → Bool
-thirdNamed n k Join c = names n k c
-thirdNamed n k Equality c = true
+-- term number i of so many names something defined, where it is there
+abbrev pub termNamed : ℕ → ℕ → ℕ → ℕ → ℕ → Bool
+termNamed n k count i t = cond (ltb i count) (names n k t) true
 
 -- each term of a test names something defined
 abbrev pub allNamed : ℕ → ℕ → Test → ℕ → ℕ → ℕ → Bool
-allNamed n k t a b c = names n k a && (names n k b && thirdNamed n k t c)
+allNamed n k t a b c = termNamed n k (termCount t) 0 a && (termNamed n k (termCount t) 1 b && termNamed n k (termCount t) 2 c)
 
 -- what a test with its terms says
 abbrev pub atomOf : Test → ℕ → ℕ → ℕ → Atom
 atomOf Join a b c = joined (termOf a) (termOf b) (termOf c)
 atomOf Equality a b c = equal (termOf a) (termOf b)
+atomOf Full a b c = isFull (termOf a)
+atomOf Empty a b c = isEmpty (termOf a)
+atomOf Together a b c = together (termOf a) (termOf b)
 
 -- ---- what is wrong with a whole command, 0 for nothing
 

@@ -4,8 +4,8 @@ use mathlib.Core.Bool.{Bool, true, false, cond, _&&_}
 use mathlib.Core.List.{List, [], _∷_, _++_}
 use Prim.Native.Nat.{ℕ, zero, suc, _+_, _-_, _*_, _≤_, _<_, zero-le}
 use native.Mathlib.Omega.{arith}
-use borrow.Author.Tests.{ltb-true, ltb-false, leb-false, eqb-true, eqb-false}
-use lib.Dec.{T, eqb, ltb, leb, ltb→lt}
+use borrow.Author.Tests.{lt-ltb, ltb-true, ltb-false, leb-false, eqb-true, eqb-false}
+use lib.Dec.{T, eqb, ltb, leb, ltb→lt, lit<}
 use lib.ListN.{length, getD, length-append}
 use Rattle.shares.specs.Constant.{constantLevels}
 use Rattle.shares.specs.Test.{of-true, and-left, and-right}
@@ -14,7 +14,7 @@ use Rattle.systems.specs.Questions.{Kind, satisfiability, entailment, Question,
 use Rattle.format.specs.declared.Section.{Section}
 use Rattle.format.specs.declared.Section.the-variants.{FirstPositive, FirstDisequation, SecondPositive, SecondDisequation}
 use Rattle.format.specs.declared.Test.{Test}
-use Rattle.format.specs.declared.Test.the-variants.{Join, Equality}
+use Rattle.format.specs.declared.Test.the-variants.{Join, Equality, Full, Empty, Together}
 use Rattle.format.specs.declared.Shape.{Shape}
 use Rattle.format.specs.declared.Entry.{Entry}
 use Rattle.format.specs.declared.Entry.the-variants.{Known, Unknown}
@@ -24,7 +24,7 @@ use Rattle.format.specs.declared.Head.the-variants.{Opens, Wrong}
 use Rattle.format.specs.declared.Step.{Step}
 use Rattle.format.specs.declared.Step.the-variants.{Take, Refused}
 use Rattle.format.specs.SectionLaws.{both-counts, added, Alike, same, other, alike, constant-sections, clause-keeps}
-use Rattle.format.specs.Format.{Result, refused, accepted, mostVariables, mostConstants, constantBytes, entryOf, termCount, operands, commandOf, wholeAt, readAt, isSecond, mostOf, inSection, termOf, names, variablesFor, allNamed, atomOf, isForeign, clauseFault, constantFault, fault, judged, begun, withFirst, withSecond, withClause, withConstant, taken, ended, Turn, go, stop, onward, turn, following, run, headFits, opened, headOf, afterHead, read}
+use Rattle.format.specs.Format.{Result, refused, accepted, mostVariables, mostConstants, constantBytes, entryOf, termCount, operands, commandOf, wholeAt, readAt, isSecond, mostOf, inSection, termOf, names, variablesFor, termNamed, allNamed, atomOf, isForeign, clauseFault, constantFault, fault, judged, begun, withFirst, withSecond, withClause, withConstant, taken, ended, Turn, go, stop, onward, turn, following, run, headFits, opened, headOf, afterHead, read}
 
 -- ---- the statements
 
@@ -172,20 +172,38 @@ named-defined n cs t h = pick (ltb t 0x20) h
     pick true u = ltb→lt _ _ u
     pick false u = ltb→lt _ _ u
 
+-- each of the terms that a test has
+pub record EachNamed (n k : ℕ) (t : Test) (a b c : ℕ) : Type 0 where
+  pub first : 0 < termCount t → T (names n k a)
+  pub second : 1 < termCount t → T (names n k b)
+  pub third : 2 < termCount t → T (names n k c)
+
+term-named : (n k count i t : ℕ) → T (termNamed n k count i t) → i < count → T (names n k t)
+term-named n k count i t h l = rw (lt-ltb i count l) at h
+
+pub each-named : (n k : ℕ) (t : Test) (a b c : ℕ) → T (allNamed n k t a b c) → EachNamed n k t a b c
+each-named n k t a b c h =
+    let m = termCount t in
+    let r = and-right (termNamed n k m 0 a) _ h in
+    record {
+      first = term-named n k m 0 a (and-left (termNamed n k m 0 a) _ h);
+      second = term-named n k m 1 b (and-left (termNamed n k m 1 b) _ r);
+      third = term-named n k m 2 c (and-right (termNamed n k m 1 b) _ r);
+    }
+
 pub atom-defined : (n : ℕ) (cs : Constants) (t : Test) (a b c : ℕ) → T (allNamed n (length (cs .numbers)) t a b c)
     → InAtom (Defined n cs) (atomOf t a b c)
-atom-defined n cs Join a b c h =
-    let k = length (cs .numbers) in
-    let r = and-right (names n k a) (names n k b && names n k c) h in (
-      named-defined n cs a (and-left (names n k a) (names n k b && names n k c) h),
-      named-defined n cs b (and-left (names n k b) (names n k c) r),
-      named-defined n cs c (and-right (names n k b) (names n k c) r),
-    )
-atom-defined n cs Equality a b c h =
-    let k = length (cs .numbers) in (
-      named-defined n cs a (and-left (names n k a) (names n k b && true) h),
-      named-defined n cs b (and-left (names n k b) true (and-right (names n k a) (names n k b && true) h)),
-    )
+atom-defined n cs t a b c h = go t (each-named n (length (cs .numbers)) t a b c h)
+  where
+    d : (u : ℕ) → T (names n (length (cs .numbers)) u) → Defined n cs (termOf u)
+    d = named-defined n cs
+
+    go : (t : Test) → EachNamed n (length (cs .numbers)) t a b c → InAtom (Defined n cs) (atomOf t a b c)
+    go Join e = (d a (e .first (lit< tt)), d b (e .second (lit< tt)), d c (e .third (lit< tt)))
+    go Equality e = (d a (e .first (lit< tt)), d b (e .second (lit< tt)))
+    go Full e = d a (e .first (lit< tt))
+    go Empty e = d a (e .first (lit< tt))
+    go Together e = (d a (e .first (lit< tt)), d b (e .second (lit< tt)))
 
 -- ---- what every question that is read so far keeps to, at the offset where reading stands
 
@@ -257,9 +275,12 @@ section-limit q σ τ a h k = pick (alike σ τ) h k
     pick (same {σ = υ}) m l = rw (added q υ a) (simp length-append (omega arith))
     pick (other e) m l = rw (e .kept q a) l
 
-term-small : (t : Test) → termCount t ≤ 3
+pub term-small : (t : Test) → termCount t ≤ 3
 term-small Join = omega arith
 term-small Equality = omega arith
+term-small Full = omega arith
+term-small Empty = omega arith
+term-small Together = omega arith
 
 sound-clause : (q : Question) (at : ℕ) (σ : Section) (t : Test) (a b c : ℕ) → Sound q at → ClauseFits q σ t a b c
     → Sound (withClause q σ (atomOf t a b c)) (at + (1 + termCount t))

@@ -11,7 +11,7 @@ use Rattle.format.specs.declared.Step.the-variants.{Take, Refused}
 use Rattle.format.specs.declared.Head.{Head}
 use Rattle.format.specs.declared.Head.the-variants.{Opens, Wrong}
 use Rattle.format.specs.Format.{mostConstants, isSecond, mostOf, allNamed, variablesFor, clauseFault, constantFault}
-use Rattle.format.specs.Stored.{sectionNumber, testNumber, clauseBytes, sectionStart, countOf, clauseWritten}
+use Rattle.format.specs.Stored.{sectionNumber, joinFor, clauseBytes, sectionStart, countOf, clauseWritten}
 
 -- ---- one command kept
 
@@ -35,7 +35,7 @@ abbrev pub keptClauses : List ℕ → List ℕ → Command → List ℕ
 keptClauses l counts Command.End = l
 keptClauses l counts Command.Head = l
 keptClauses l counts (Command.Constant x) = l
-keptClauses l counts (Command.Clause σ t a b c) = clauseWritten l (nextSlot counts σ) (testNumber t) a b c
+keptClauses l counts (Command.Clause σ t a b c) = clauseWritten l (nextSlot counts σ) (joinFor t a b c)
 
 abbrev pub clauseCounts : List ℕ → Command → List ℕ
 clauseCounts counts Command.End = counts

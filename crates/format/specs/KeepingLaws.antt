@@ -1,23 +1,27 @@
 -- Laws of what is kept of a question: its counts, its faults, and one command more. Assumes nothing.
-use mathlib.Core.Path.{_≡_, refl, sym, ap, ap₂, _∙_}
-use mathlib.Core.Bool.{Bool, true, false, cond}
-use mathlib.Core.List.{List, [], _∷_, _++_}
+use mathlib.Core.Path.{_≡_, refl, sym, ap, ap₂, _∙_, subst}
+use mathlib.Core.Bool.{Bool, true, false, cond, _||_}
+use mathlib.Core.List.{List, [], _∷_, _++_, map, map-append}
 use mathlib.Core.Logic.{_⊎_, inl, inr, _≢_}
 use Prim.Native.Nat.{ℕ, zero, suc, _+_, _-_, _*_, _^_, _≤_, _<_}
 use native.Mathlib.Nat.{eq-or-lt-of-le, le-of-suc-le-suc, le-trans}
 use native.Mathlib.Numerals.{add-one}
 use native.Mathlib.Omega.{arith}
-use lib.Dec.{T, eqb, ltb, leb, ltb→lt}
-use lib.ListN.{length, getD, set, take, drop, replicate, length-set, length-append, length-take, length-drop, length-replicate, getD-replicate, take-append-drop}
+use borrow.Author.Tests.{ltb-false, ne-eqb}
+use lib.Dec.{T, eqb, ltb, leb, ltb→lt, eqb→eq, lit<}
+use lib.ListN.{length, length-map, getD, set, take, drop, replicate, length-set, length-append, length-take, length-drop, length-replicate, getD-replicate, take-append-drop}
 use lib.Pow.{pow-add, pow-mono}
 use lib.Seq.{length-take-le, take-suc-set, getD-set-same, getD-set-other, getD-drop, ext-getD}
 use Rattle.shares.specs.Constant.{constantLevels, number}
-use Rattle.shares.specs.Test.{and-right}
+use Rattle.shares.specs.Parts.{emptyPart, fullPart}
+use Rattle.shares.specs.Test.{or-right, or-cases}
 use Rattle.systems.specs.Questions.{Kind, satisfiability, entailment, Question}
+use Rattle.systems.specs.AtLeaves.{of, always, readAs}
 use Rattle.format.specs.declared.Section.{Section}
 use Rattle.format.specs.declared.Section.the-variants.{FirstPositive, FirstDisequation, SecondPositive, SecondDisequation}
 use Rattle.format.specs.declared.Test.{Test}
-use Rattle.format.specs.declared.Test.the-variants.{Join, Equality}
+use Rattle.format.specs.declared.Test.the-variants.{Join, Equality, Full, Empty, Together}
+use Rattle.format.specs.declared.LeafJoin.{LeafJoin}
 use Rattle.format.specs.declared.Shape.{Shape}
 use Rattle.format.specs.declared.Entry.{Entry}
 use Rattle.format.specs.declared.Entry.the-variants.{Known, Unknown}
@@ -26,11 +30,11 @@ use Rattle.format.specs.declared.Head.{Head}
 use Rattle.format.specs.declared.Step.{Step}
 use Rattle.format.specs.declared.Question.{Question as Struct}
 use Rattle.format.specs.declared.Step.the-variants.{Take, Refused}
-use Rattle.format.specs.Format.{mostConstants, constantBytes, entryOf, operands, commandOf, wholeAt, readAt, mostOf, inSection, names, variablesFor, allNamed, atomOf, isForeign, constantFault, fault, judged, withClause, withConstant, taken}
-use Rattle.format.specs.Stored.{kindNumber, sectionNumber, testNumber, testOf, clauseBytes, sectionStart, storedAtom, atomsOf, Stored, stored, countOf, Counted, StoredClause, StoredAt, Stands, heldAs, clauseWritten, commandWritten}
+use Rattle.format.specs.Format.{mostVariables, mostConstants, constantBytes, termOf, entryOf, operands, commandOf, wholeAt, readAt, mostOf, inSection, names, variablesFor, atomOf, isForeign, constantFault, fault, judged, withClause, withConstant, taken}
+use Rattle.format.specs.Stored.{kindNumber, sectionNumber, joinFor, partOf, testOf, clauseBytes, sectionStart, fourAt, testsAt, Stored, stored, countOf, Counted, partNamed, StoredClause, StoredAt, Stands, heldAs, clauseWritten, commandWritten}
 use Rattle.format.specs.Keeping.{nextSlot, keptConstants, constantCount, keptClauses, clauseCounts, Slot, clauseTotal, foreignTo, faultOf, judgedOf}
 use Rattle.format.specs.SectionLaws.{both-counts, added, Apart, Alike, same, other, alike, constant-sections, clause-keeps, section-below, slot-fits, variables-le}
-use Rattle.format.specs.FormatLaws.{branch, ClauseFits, clause-fits, ConstantFits, constant-fits}
+use Rattle.format.specs.FormatLaws.{branch, ClauseFits, clause-fits, ConstantFits, constant-fits, EachNamed, each-named}
 
 -- ---- what a command of bytes holds
 
@@ -52,13 +56,12 @@ take-bytes (suc n) [] h j = omega arith
 take-bytes (suc n) (a ∷ l) h zero = h zero
 take-bytes (suc n) (a ∷ l) h (suc j) = take-bytes n l (λ i. h (suc i)) j
 
--- a constant fits its bytes, and an equality has 0 for its third term
+-- a constant fits its bytes
 abbrev pub Proper : Command → Type 0
 Proper Command.End = Unit {0}
 Proper Command.Head = Unit {0}
 Proper (Command.Constant x) = x < 2 ^ (8 * constantBytes)
-Proper (Command.Clause σ Join a b c) = Unit {0}
-Proper (Command.Clause σ Equality a b c) = c ≡ 0
+Proper (Command.Clause σ t a b c) = Unit {0}
 
 abbrev pub ProperStep : Step → Type 0
 ProperStep (Take c next) = Proper c
@@ -72,8 +75,7 @@ command-proper s h i Shape.Constant =
     let l = take constantBytes (drop i s) in
     let n : 8 * length l ≤ 8 * constantBytes = simp length-take (omega arith) in
     le-trans (number-fits l (take-bytes constantBytes (drop i s) (λ j. rw getD-drop (h (i + j))))) (pow-mono n)
-command-proper s h i (Shape.Clause σ Join) = tt
-command-proper s h i (Shape.Clause σ Equality) = refl
+command-proper s h i (Shape.Clause σ t) = tt
 
 pub read-proper : (s : List ℕ) → Bytes s → (at : ℕ) → ProperStep (readAt s at)
 unfolding readAt wholeAt
@@ -87,18 +89,30 @@ read-proper s h at = branch ProperStep (ltb at (length s)) _ (Refused 2) (λ _. 
 
 -- ---- four bytes written
 
-module _ (l : List ℕ) (i t a b c : ℕ) where
-  pub stored-length : length (clauseWritten l i t a b c) ≡ length l
+module _ (l : List ℕ) (i : ℕ) (w : LeafJoin) where
+  abbrev t : ℕ
+  t = w .form
+
+  abbrev a : ℕ
+  a = w .first
+
+  abbrev b : ℕ
+  b = w .second
+
+  abbrev c : ℕ
+  c = w .sum
+
+  pub stored-length : length (clauseWritten l i w) ≡ length l
   stored-length = simp length-set
 
-  pub stored-other : (j : ℕ) → (j < i) ⊎ (i + 4 ≤ j) → getD (clauseWritten l i t a b c) j 0 ≡ getD l j 0
+  pub stored-other : (j : ℕ) → (j < i) ⊎ (i + 4 ≤ j) → getD (clauseWritten l i w) j 0 ≡ getD l j 0
   stored-other j h = past (apart h)
     where
       apart : (j < i) ⊎ (i + 4 ≤ j) → (j ≢ i) × (j ≢ i + 1) × (j ≢ i + 2) × (j ≢ i + 3)
       apart (inl k) = (omega arith, omega arith, omega arith, omega arith)
       apart (inr k) = (omega arith, omega arith, omega arith, omega arith)
 
-      past : (j ≢ i) × (j ≢ i + 1) × (j ≢ i + 2) × (j ≢ i + 3) → getD (clauseWritten l i t a b c) j 0 ≡ getD l j 0
+      past : (j ≢ i) × (j ≢ i + 1) × (j ≢ i + 2) × (j ≢ i + 3) → getD (clauseWritten l i w) j 0 ≡ getD l j 0
       past n =
           getD-set-other (set (set (set l i t) (i + 1) a) (i + 2) b) (i + 3) j c 0 (n .3)
           ∙ getD-set-other (set (set l i t) (i + 1) a) (i + 2) j b 0 (n .2)
@@ -106,36 +120,60 @@ module _ (l : List ℕ) (i t a b c : ℕ) where
           ∙ getD-set-other l i j t 0 (n .0)
 
   module _ (h : i + 4 ≤ length l) where
-    byte-0 : getD (clauseWritten l i t a b c) i 0 ≡ t
+    byte-0 : getD (clauseWritten l i w) i 0 ≡ t
     byte-0 =
         getD-set-other (set (set (set l i t) (i + 1) a) (i + 2) b) (i + 3) i c 0 (omega arith)
         ∙ getD-set-other (set (set l i t) (i + 1) a) (i + 2) i b 0 (omega arith)
         ∙ getD-set-other (set l i t) (i + 1) i a 0 (omega arith)
         ∙ getD-set-same l i t 0 (omega arith)
 
-    byte-1 : getD (clauseWritten l i t a b c) (i + 1) 0 ≡ a
+    byte-1 : getD (clauseWritten l i w) (i + 1) 0 ≡ a
     byte-1 =
         getD-set-other (set (set (set l i t) (i + 1) a) (i + 2) b) (i + 3) (i + 1) c 0 (omega arith)
         ∙ getD-set-other (set (set l i t) (i + 1) a) (i + 2) (i + 1) b 0 (omega arith)
         ∙ getD-set-same (set l i t) (i + 1) a 0 (simp length-set (omega arith))
 
-    byte-2 : getD (clauseWritten l i t a b c) (i + 2) 0 ≡ b
+    byte-2 : getD (clauseWritten l i w) (i + 2) 0 ≡ b
     byte-2 =
         getD-set-other (set (set (set l i t) (i + 1) a) (i + 2) b) (i + 3) (i + 2) c 0 (omega arith)
         ∙ getD-set-same (set (set l i t) (i + 1) a) (i + 2) b 0 (simp length-set (omega arith))
 
-    byte-3 : getD (clauseWritten l i t a b c) (i + 3) 0 ≡ c
+    byte-3 : getD (clauseWritten l i w) (i + 3) 0 ≡ c
     byte-3 = getD-set-same (set (set (set l i t) (i + 1) a) (i + 2) b) (i + 3) c 0 (simp length-set (omega arith))
 
-test-number : (t : Test) → testOf (testNumber t) ≡ t
-test-number Join = refl
-test-number Equality = refl
+    -- they read back
+    pub four-back : fourAt (clauseWritten l i w) i ≡ w
+    four-back = rw (byte-0, byte-1, byte-2, byte-3) refl
 
-stored-atom : (l : List ℕ) (i : ℕ) (t : Test) (a b c : ℕ) → i + 4 ≤ length l → storedAtom (clauseWritten l i (testNumber t) a b c) i ≡ atomOf t a b c
-unfolding storedAtom
-stored-atom l i t a b c h =
-    let n = testNumber t in
-    rw (byte-0 l i n a b c h, byte-1 l i n a b c h, byte-2 l i n a b c h, byte-3 l i n a b c h, test-number t)
+-- ---- the parts of a stored clause
+
+-- a term that names something defined is no part of its own kind, since there are at most 12 variables
+part-of : (n k t : ℕ) → n ≤ mostVariables → T (names n k t) → partOf t ≡ of (termOf t)
+unfolding names partOf
+part-of n k t hn h = pick (ltb t 0x20) refl h
+  where
+    pick : (b : Bool) → ltb t 0x20 ≡ b → T (cond b (ltb t n) (ltb (t - 0x20) k))
+        → cond (eqb t emptyPart) (always false) (cond (eqb t fullPart) (always true) (of (termOf t))) ≡ of (termOf t)
+    pick true e u = let l : t < n = ltb→lt t n u in rw (ne-eqb t emptyPart (omega arith), ne-eqb t fullPart (omega arith)) refl
+    pick false e u = let l : 0x20 ≤ t = ltb-false t 0x20 e in rw (ne-eqb t emptyPart (omega arith), ne-eqb t fullPart (omega arith)) refl
+
+empty-part : partOf emptyPart ≡ always false
+unfolding partOf
+empty-part = refl
+
+full-part : partOf fullPart ≡ always true
+unfolding partOf
+full-part = refl
+
+-- the bytes of a test whose terms are named stand for how its atom reads
+join-reads : (n k : ℕ) (t : Test) (a b c : ℕ) → n ≤ mostVariables → EachNamed n k t a b c → testOf (joinFor t a b c) ≡ readAs (atomOf t a b c)
+unfolding testOf
+join-reads n k Join a b c hn e =
+    rw (part-of n k a hn (e .first (lit< tt)), part-of n k b hn (e .second (lit< tt)), part-of n k c hn (e .third (lit< tt))) refl
+join-reads n k Equality a b c hn e = rw (part-of n k a hn (e .first (lit< tt)), part-of n k b hn (e .second (lit< tt)), empty-part) refl
+join-reads n k Full a b c hn e = rw (part-of n k a hn (e .first (lit< tt)), empty-part, full-part) refl
+join-reads n k Empty a b c hn e = rw (part-of n k a hn (e .first (lit< tt)), empty-part) refl
+join-reads n k Together a b c hn e = rw (part-of n k a hn (e .first (lit< tt)), part-of n k b hn (e .second (lit< tt))) refl
 
 -- ---- clauses of two lists that have the same bytes
 
@@ -143,27 +181,20 @@ stored-atom l i t a b c h =
 abbrev Agrees : List ℕ → List ℕ → ℕ → ℕ → Type 0
 Agrees l l′ from to = (j : ℕ) → from ≤ j → j < to → getD l′ j 0 ≡ getD l j 0
 
-atom-agrees : (l l′ : List ℕ) (i : ℕ) → Agrees l l′ i (i + 4) → storedAtom l′ i ≡ storedAtom l i
-unfolding storedAtom
-atom-agrees l l′ i h =
-    rw (h i (omega arith) (omega arith), h (i + 1) (omega arith) (omega arith), h (i + 2) (omega arith) (omega arith), h (i + 3) (omega arith) (omega arith))
+four-agrees : (l l′ : List ℕ) (i : ℕ) → Agrees l l′ i (i + 4) → fourAt l′ i ≡ fourAt l i
+four-agrees l l′ i h =
+    rw (h i (omega arith) (omega arith), h (i + 1) (omega arith) (omega arith), h (i + 2) (omega arith) (omega arith), h (i + 3) (omega arith) (omega arith)) refl
 
-atoms-agree : (l l′ : List ℕ) (start n : ℕ) → Agrees l l′ start (start + 4 * n) → atomsOf l′ start n ≡ atomsOf l start n
-unfolding atomsOf
-atoms-agree l l′ start zero h = refl
-atoms-agree l l′ start (suc n) h =
-    ap₂ (λ k x. k ++ (x ∷ [])) (atoms-agree l l′ start n (λ j f t. h j f (omega arith))) (atom-agrees l l′ (start + 4 * n) (λ j f t. h j (omega arith) (omega arith)))
+tests-agree : (l l′ : List ℕ) (start n : ℕ) → Agrees l l′ start (start + 4 * n) → testsAt l′ start n ≡ testsAt l start n
+unfolding testsAt
+tests-agree l l′ start zero h = refl
+tests-agree l l′ start (suc n) h =
+    ap₂ (λ k x. k ++ (testOf x ∷ [])) (tests-agree l l′ start n (λ j f t. h j f (omega arith))) (four-agrees l l′ (start + 4 * n) (λ j f t. h j (omega arith) (omega arith)))
 
-clause-agrees : (l l′ : List ℕ) (n k i : ℕ) → Agrees l l′ i (i + 4)
-    → StoredClause n k (getD l i 0) (getD l (i + 1) 0) (getD l (i + 2) 0) (getD l (i + 3) 0)
-    → StoredClause n k (getD l′ i 0) (getD l′ (i + 1) 0) (getD l′ (i + 2) 0) (getD l′ (i + 3) 0)
-clause-agrees l l′ n k i h d =
-    rw (h i (omega arith) (omega arith), h (i + 1) (omega arith) (omega arith), h (i + 2) (omega arith) (omega arith), h (i + 3) (omega arith) (omega arith)) d
-
-pub atoms-length : (l : List ℕ) (start n : ℕ) → length (atomsOf l start n) ≡ n
-unfolding atomsOf
-atoms-length l start zero = refl
-atoms-length l start (suc n) = simp length-append (omega (arith, atoms-length l start n))
+pub tests-length : (l : List ℕ) (start n : ℕ) → length (testsAt l start n) ≡ n
+unfolding testsAt
+tests-length l start zero = refl
+tests-length l start (suc n) = simp length-append (omega (arith, tests-length l start n))
 
 -- ---- terms are small
 
@@ -175,14 +206,44 @@ named-small n k t hn hk h = pick (ltb t 0x20) h
     pick true u = omega (arith, ltb→lt t n u)
     pick false u = omega (arith, ltb→lt (t - 0x20) k u)
 
-third-small : (n k : ℕ) (σ : Section) (t : Test) (a b c : ℕ) → n ≤ 32 → k ≤ 32 → T (allNamed n k t a b c) → Proper (Command.Clause σ t a b c) → c < 64
-third-small n k σ Join a b c hn hk h p =
-    named-small n k c hn hk (and-right (names n k b) (names n k c) (and-right (names n k a) _ h))
-third-small n k σ Equality a b c hn hk h p = omega arith
+-- and so are parts
+pub part-cases : (n k t : ℕ) → T (partNamed n k t) → (t ≡ emptyPart) ⊎ ((t ≡ fullPart) ⊎ T (names n k t))
+part-cases n k t h = pick (or-cases (eqb t emptyPart) _ h)
+  where
+    rest : T (eqb t fullPart) ⊎ T (names n k t) → (t ≡ fullPart) ⊎ T (names n k t)
+    rest (inl u) = inl (eqb→eq t fullPart u)
+    rest (inr u) = inr u
 
-test-small : (t : Test) → testNumber t < 2
-test-small Join = omega arith
-test-small Equality = omega arith
+    pick : T (eqb t emptyPart) ⊎ T (eqb t fullPart || names n k t) → (t ≡ emptyPart) ⊎ ((t ≡ fullPart) ⊎ T (names n k t))
+    pick (inl u) = inl (eqb→eq t emptyPart u)
+    pick (inr u) = inr (rest (or-cases (eqb t fullPart) _ u))
+
+pub part-small : (n k t : ℕ) → n ≤ 32 → k ≤ 32 → T (partNamed n k t) → t < 64
+part-small n k t hn hk h = pick (part-cases n k t h)
+  where
+    pick : (t ≡ emptyPart) ⊎ ((t ≡ fullPart) ⊎ T (names n k t)) → t < 64
+    pick (inl e) = omega arith
+    pick (inr (inl e)) = omega arith
+    pick (inr (inr u)) = named-small n k t hn hk u
+
+-- a part that is a term's
+named-part : (n k t : ℕ) → T (names n k t) → T (partNamed n k t)
+named-part n k t h = or-right (eqb t emptyPart) _ (or-right (eqb t fullPart) _ h)
+
+-- the bytes of a test whose terms are named are a stored clause
+join-stored : (n k : ℕ) (t : Test) (a b c : ℕ) → EachNamed n k t a b c → StoredClause n k (joinFor t a b c)
+join-stored n k Join a b c e = record {
+  form = lit< tt;
+  first = named-part n k a (e .first (lit< tt));
+  second = named-part n k b (e .second (lit< tt));
+  sum = named-part n k c (e .third (lit< tt));
+}
+join-stored n k Equality a b c e =
+    record { form = lit< tt; first = named-part n k a (e .first (lit< tt)); second = tt; sum = named-part n k b (e .second (lit< tt)) }
+join-stored n k Full a b c e = record { form = lit< tt; first = named-part n k a (e .first (lit< tt)); second = tt; sum = tt }
+join-stored n k Empty a b c e = record { form = lit< tt; first = named-part n k a (e .first (lit< tt)); second = tt; sum = tt }
+join-stored n k Together a b c e =
+    record { form = lit< tt; first = named-part n k a (e .first (lit< tt)); second = named-part n k b (e .second (lit< tt)); sum = tt }
 
 foreign-same : (k : Kind) (σ : Section) → foreignTo (kindNumber k) σ ≡ isForeign k σ
 foreign-same satisfiability σ = refl
@@ -216,7 +277,8 @@ module _ {kind : ℕ} (x : Stored) (q : Question) (d : Stands kind x q) where
       ap (λ cs. length (cs .numbers)) (d .constants) ∙ length-take-le (x .defined) (x .constants) (omega (arith, d .constantCounted, d .sizes .0))
 
   pub section-count : (σ : Section) → length (inSection q σ) ≡ countOf (x .counts) σ
-  section-count σ = ap length (sym (d .sections σ)) ∙ atoms-length (x .clauses) (sectionStart σ) (countOf (x .counts) σ)
+  section-count σ =
+      sym (length-map (inSection q σ) readAs) ∙ ap length (sym (d .sections σ)) ∙ tests-length (x .clauses) (sectionStart σ) (countOf (x .counts) σ)
 
   pub clause-count : clauseTotal (x .counts) ≡ length (q .first) + length (q .second)
   clause-count =
@@ -261,7 +323,7 @@ module _ {kind : ℕ} (x : Stored) (q : Question) (d : Stands kind x q) where
         constants =
             ap (λ cs. record { levels = cs .levels; numbers = cs .numbers ++ (v ∷ []) }) (d .constants)
             ∙ ap (λ k. record { levels = constantLevels; numbers = k }) (sym (rw add-one (take-suc-set l n v fits)));
-        sections = λ σ. d .sections σ ∙ sym (constant-sections q v σ);
+        sections = λ σ. d .sections σ ∙ ap (map readAs) (sym (constant-sections q v σ));
         variables = d .variables;
         counted = d .counted;
         constantCounted = omega arith;
@@ -275,12 +337,12 @@ module _ {kind : ℕ} (x : Stored) (q : Question) (d : Stands kind x q) where
       below i (inr h) fits = rw (getD-set-other (x .constants) (x .defined) i v 0 (omega arith)) (d .small i h)
 
   -- a clause more: σ is its section
-  module _ (σ : Section) (t : Test) (a b c : ℕ) (f : ClauseFits q σ t a b c) (p : Proper (Command.Clause σ t a b c)) where
+  module _ (σ : Section) (t : Test) (a b c : ℕ) (f : ClauseFits q σ t a b c) where
     counts′ : List ℕ
     counts′ = set (x .counts) (sectionNumber σ) (countOf (x .counts) σ + 1)
 
     clauses′ : List ℕ
-    clauses′ = clauseWritten (x .clauses) (nextSlot (x .counts) σ) (testNumber t) a b c
+    clauses′ = clauseWritten (x .clauses) (nextSlot (x .counts) σ) (joinFor t a b c)
 
     clause-room : countOf (x .counts) σ < mostOf σ
     clause-room = omega (arith, f .room, section-count σ)
@@ -299,69 +361,61 @@ module _ {kind : ℕ} (x : Stored) (q : Question) (d : Stands kind x q) where
     -- the clauses before it, and those of another section, keep their bytes
     before-it : Agrees (x .clauses) clauses′ (sectionStart σ) (nextSlot (x .counts) σ)
     unfolding clauses′
-    before-it j from to = stored-other (x .clauses) (nextSlot (x .counts) σ) (testNumber t) a b c j (inl to)
+    before-it j from to = stored-other (x .clauses) (nextSlot (x .counts) σ) (joinFor t a b c) j (inl to)
 
     elsewhere : (τ : Section) → Apart σ τ → Agrees (x .clauses) clauses′ (sectionStart τ) (nextSlot (x .counts) τ)
     unfolding clauses′
-    elsewhere τ o j from to = stored-other (x .clauses) (nextSlot (x .counts) σ) (testNumber t) a b c j (side (o .clear))
+    elsewhere τ o j from to = stored-other (x .clauses) (nextSlot (x .counts) σ) (joinFor t a b c) j (side (o .clear))
       where
         side : (sectionStart τ + 4 * mostOf τ ≤ sectionStart σ) ⊎ (sectionStart σ + 4 * mostOf σ ≤ sectionStart τ)
             → (j < nextSlot (x .counts) σ) ⊎ (nextSlot (x .counts) σ + 4 ≤ j)
         side (inl h) = inl (omega (arith, d .counted τ))
         side (inr h) = inr (omega (arith, clause-room))
 
-    the-atom : storedAtom clauses′ (nextSlot (x .counts) σ) ≡ atomOf t a b c
-    unfolding clauses′
-    the-atom = stored-atom (x .clauses) (nextSlot (x .counts) σ) t a b c (omega (arith, clause-slot, d .sizes .1))
+    its-terms : EachNamed (variablesFor (x .free) (x .own) σ) (x .defined) t a b c
+    its-terms = each-named _ _ t a b c (rw (d .free, d .own, ← defined-count) (f .named))
 
-    sections′ : (τ : Section) → atomsOf clauses′ (sectionStart τ) (countOf counts′ τ) ≡ inSection (withClause q σ (atomOf t a b c)) τ
-    unfolding atomsOf
-    sections′ τ = pick (alike σ τ) before-it the-atom count-more elsewhere count-other
+    its-bytes : fourAt clauses′ (nextSlot (x .counts) σ) ≡ joinFor t a b c
+    unfolding clauses′
+    its-bytes = four-back (x .clauses) (nextSlot (x .counts) σ) (joinFor t a b c) (omega (arith, clause-slot, d .sizes .1))
+
+    its-test : testOf (fourAt clauses′ (nextSlot (x .counts) σ)) ≡ readAs (atomOf t a b c)
+    its-test =
+        ap testOf its-bytes
+        ∙ join-reads (variablesFor (x .free) (x .own) σ) (x .defined) t a b c (omega (arith, variables-le (x .free) (x .own) σ, d .variables)) its-terms
+
+    sections′ : (τ : Section) → testsAt clauses′ (sectionStart τ) (countOf counts′ τ) ≡ map readAs (inSection (withClause q σ (atomOf t a b c)) τ)
+    unfolding testsAt
+    sections′ τ = pick (alike σ τ) before-it its-test count-more elsewhere count-other
       where
         pick : {σ τ : Section} → Alike σ τ → Agrees (x .clauses) clauses′ (sectionStart σ) (nextSlot (x .counts) σ)
-            → storedAtom clauses′ (nextSlot (x .counts) σ) ≡ atomOf t a b c → countOf counts′ σ ≡ countOf (x .counts) σ + 1
+            → testOf (fourAt clauses′ (nextSlot (x .counts) σ)) ≡ readAs (atomOf t a b c) → countOf counts′ σ ≡ countOf (x .counts) σ + 1
             → ((υ : Section) → Apart σ υ → Agrees (x .clauses) clauses′ (sectionStart υ) (nextSlot (x .counts) υ))
             → ((υ : Section) → Apart σ υ → countOf counts′ υ ≡ countOf (x .counts) υ)
-            → atomsOf clauses′ (sectionStart τ) (countOf counts′ τ) ≡ inSection (withClause q σ (atomOf t a b c)) τ
+            → testsAt clauses′ (sectionStart τ) (countOf counts′ τ) ≡ map readAs (inSection (withClause q σ (atomOf t a b c)) τ)
         pick (same {σ = υ}) h e n g m =
-            ap (atomsOf clauses′ (sectionStart υ)) (n ∙ add-one (countOf (x .counts) υ))
-            ∙ ap₂ (λ k y. k ++ (y ∷ [])) (atoms-agree (x .clauses) clauses′ (sectionStart υ) (countOf (x .counts) υ) h ∙ d .sections υ) e
-            ∙ sym (added q υ (atomOf t a b c))
+            ap (testsAt clauses′ (sectionStart υ)) (n ∙ add-one (countOf (x .counts) υ))
+            ∙ ap₂ (λ k y. k ++ (y ∷ [])) (tests-agree (x .clauses) clauses′ (sectionStart υ) (countOf (x .counts) υ) h ∙ d .sections υ) e
+            ∙ sym (ap (map readAs) (added q υ (atomOf t a b c)) ∙ map-append readAs (inSection q υ) (atomOf t a b c ∷ []))
         pick (other {τ = υ} o) h e n g m =
-            ap (atomsOf clauses′ (sectionStart υ)) (m υ o)
-            ∙ atoms-agree (x .clauses) clauses′ (sectionStart υ) (countOf (x .counts) υ) (g υ o)
+            ap (testsAt clauses′ (sectionStart υ)) (m υ o)
+            ∙ tests-agree (x .clauses) clauses′ (sectionStart υ) (countOf (x .counts) υ) (g υ o)
             ∙ d .sections υ
-            ∙ sym (o .kept q (atomOf t a b c))
-
-    its-terms : T (allNamed (variablesFor (x .free) (x .own) σ) (x .defined) t a b c)
-    its-terms = rw (d .free, d .own, ← defined-count) (f .named)
-
-    the-clause : StoredClause (variablesFor (x .free) (x .own) σ) (x .defined) (testNumber t) a b c
-    the-clause = record {
-      test = test-small t;
-      named = rw (test-number t) its-terms;
-      third = third-small (variablesFor (x .free) (x .own) σ) (x .defined) σ t a b c (omega (arith, variables-le (x .free) (x .own) σ, d .variables)) (d .constantCounted) its-terms p;
-    }
+            ∙ ap (map readAs) (sym (o .kept q (atomOf t a b c)))
 
     -- what is stored after the clause
     abbrev after : Stored
     after = stored clauses′ counts′ (x .constants) (x .defined) (x .free) (x .own)
 
     new-stored : StoredAt after σ (nextSlot (x .counts) σ)
-    unfolding clauses′
-    new-stored =
-        let l = x .clauses in
-        let i = nextSlot (x .counts) σ in
-        let n = testNumber t in
-        let h : i + 4 ≤ length l = omega (arith, clause-slot, d .sizes .1) in
-        rw (byte-0 l i n a b c h, byte-1 l i n a b c h, byte-2 l i n a b c h, byte-3 l i n a b c h) the-clause
+    new-stored = subst (StoredClause _ _) (sym its-bytes) (join-stored _ _ t a b c its-terms)
 
     all-stored : (τ : Section) (i : ℕ) → i < countOf counts′ τ → StoredAt after τ (sectionStart τ + 4 * i)
     unfolding clauses′
     all-stored τ i h = pick (alike σ τ) before-it new-stored count-more elsewhere count-other h
       where
         old : (υ : Section) → Agrees (x .clauses) clauses′ (sectionStart υ) (nextSlot (x .counts) υ) → i < countOf (x .counts) υ → StoredAt after υ (sectionStart υ + 4 * i)
-        old υ g l = clause-agrees (x .clauses) clauses′ _ _ (sectionStart υ + 4 * i) (λ j from to. g j (omega arith) (omega arith)) (d .clauses υ i l)
+        old υ g l = subst (StoredClause _ _) (sym (four-agrees (x .clauses) clauses′ (sectionStart υ + 4 * i) (λ j from to. g j (omega arith) (omega arith)))) (d .clauses υ i l)
 
         ends : (υ : Section) → Agrees (x .clauses) clauses′ (sectionStart υ) (nextSlot (x .counts) υ) → StoredAt after υ (nextSlot (x .counts) υ)
             → (i ≡ countOf (x .counts) υ) ⊎ (i < countOf (x .counts) υ) → StoredAt after υ (sectionStart υ + 4 * i)
@@ -399,7 +453,7 @@ module _ {kind : ℕ} (x : Stored) (q : Question) (d : Stands kind x q) where
           constantCounted = d .constantCounted;
           small = d .small;
           clauses = all-stored;
-          sizes = (d .sizes .0, stored-length (x .clauses) (nextSlot (x .counts) σ) (testNumber t) a b c ∙ d .sizes .1, simp length-set (d .sizes .2));
+          sizes = (d .sizes .0, stored-length (x .clauses) (nextSlot (x .counts) σ) (joinFor t a b c) ∙ d .sizes .1, simp length-set (d .sizes .2));
         }
 
   -- the clause's bytes go where the definition says
@@ -407,7 +461,7 @@ module _ {kind : ℕ} (x : Stored) (q : Question) (d : Stands kind x q) where
   written-same Command.End = refl
   written-same Command.Head = refl
   written-same (Command.Constant v) = refl
-  written-same (Command.Clause σ t a b c) = ap (λ n. clauseWritten (x .clauses) (sectionStart σ + 4 * n) (testNumber t) a b c) (section-count σ)
+  written-same (Command.Clause σ t a b c) = ap (λ n. clauseWritten (x .clauses) (sectionStart σ + 4 * n) (joinFor t a b c)) (section-count σ)
 
   -- there is room for a command with no fault
   pub room-constant : (c : Command) → fault q c ≡ 0 → constantCount (x .defined) c ≤ length (x .constants)
@@ -428,7 +482,7 @@ module _ {kind : ℕ} (x : Stored) (q : Question) (d : Stands kind x q) where
   stands-taken Command.End e p = d
   stands-taken Command.Head e p = d
   stands-taken (Command.Constant v) e p = stands-constant v p (constant-fits q v e)
-  stands-taken (Command.Clause σ t a b c) e p = stands-clause σ t a b c (clause-fits q σ t a b c e) p
+  stands-taken (Command.Clause σ t a b c) e p = stands-clause σ t a b c (clause-fits q σ t a b c e)
 
   -- ---- the struct that holds the question
 

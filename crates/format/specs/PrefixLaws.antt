@@ -4,14 +4,13 @@ use mathlib.Core.Bool.{Bool, true, false, cond, _&&_}
 use mathlib.Core.List.{List, [], _∷_}
 use Prim.Native.Nat.{ℕ, zero, suc, _+_, _-_, _≤_, _<_, min}
 use native.Mathlib.Omega.{arith}
-use borrow.Author.Tests.{eqb-true, eqb-false, ne-eqb}
+use borrow.Author.Tests.{ltb-true, eqb-true, eqb-false, ne-eqb}
 use lib.Dec.{eqb, ltb, ltb→lt, lt→ltb}
 use lib.ListN.{length, getD, take, drop, length-take}
 use lib.Seq.{getD-take, take-take, take-all}
 use Rattle.shares.specs.Constant.{number}
 use Rattle.shares.specs.Test.{same-test}
 use Rattle.systems.specs.Questions.{Question}
-use Rattle.format.specs.declared.Test.the-variants.{Join, Equality}
 use Rattle.format.specs.declared.Shape.{Shape}
 use Rattle.format.specs.declared.Entry.{Entry}
 use Rattle.format.specs.declared.Entry.the-variants.{Known, Unknown}
@@ -20,8 +19,8 @@ use Rattle.format.specs.declared.Head.{Head}
 use Rattle.format.specs.declared.Head.the-variants.{Opens, Wrong}
 use Rattle.format.specs.declared.Step.{Step}
 use Rattle.format.specs.declared.Step.the-variants.{Take, Refused}
-use Rattle.format.specs.Format.{Result, refused, accepted, constantBytes, entryOf, operands, commandOf, wholeAt, readAt, fault, judged, taken, ended, go, onward, turn, following, run, headFits, opened, headOf, afterHead, read}
-use Rattle.format.specs.FormatLaws.{longest, branch, size-some, Whole, read-whole, judged-take, Stay, run-law, HeadRight, head-right, accepted-short, refusal-place}
+use Rattle.format.specs.Format.{Result, refused, accepted, constantBytes, entryOf, termCount, operands, termByte, commandOf, wholeAt, readAt, fault, judged, taken, ended, go, onward, turn, following, run, headFits, opened, headOf, afterHead, read}
+use Rattle.format.specs.FormatLaws.{longest, branch, term-small, size-some, Whole, read-whole, judged-take, Stay, run-law, HeadRight, head-right, accepted-short, refusal-place}
 
 -- ---- how far a command reaches
 
@@ -37,8 +36,7 @@ width-small : (e : Entry) → width e ≤ 4
 width-small (Known Shape.End) = omega arith
 width-small (Known Shape.Head) = omega arith
 width-small (Known Shape.Constant) = omega arith
-width-small (Known (Shape.Clause σ Join)) = omega arith
-width-small (Known (Shape.Clause σ Equality)) = omega arith
+width-small (Known (Shape.Clause σ t)) = omega (arith, term-small t)
 width-small Unknown = omega arith
 
 pub size-small : (s : List ℕ) (at : ℕ) → sizeAt s at ≤ 5
@@ -106,14 +104,21 @@ module _ (s t : List ℕ) (k : ℕ) (e : take k s ≡ take k t) where
   same-length : min k (length s) ≡ min k (length t)
   same-length = sym (length-take k s) ∙ ap length e ∙ length-take k t
 
+  term-byte-same : (i n j : ℕ) → i + n ≤ k → termByte s i n j ≡ termByte t i n j
+  term-byte-same i n j l = go (ltb j n) refl
+    where
+      go : (b : Bool) → ltb j n ≡ b → cond b (getD s (i + j) 0) 0 ≡ cond b (getD t (i + j) 0) 0
+      go true h = let m : j < n = ltb-true j n h in same-byte (i + j) (omega arith)
+      go false h = refl
+
   command-same : (i : ℕ) (h : Shape) → i + operands h ≤ k → commandOf s i h ≡ commandOf t i h
   unfolding commandOf
   command-same i Shape.End l = refl
   command-same i Shape.Head l = refl
   command-same i Shape.Constant l = ap (λ p. Command.Constant (number p)) (part-same i constantBytes k s t l e)
-  command-same i (Shape.Clause σ Join) l =
-      rw (same-byte i (omega arith), same-byte (i + 1) (omega arith), same-byte (i + 2) (omega arith))
-  command-same i (Shape.Clause σ Equality) l = rw (same-byte i (omega arith), same-byte (i + 1) (omega arith))
+  command-same i (Shape.Clause σ u) l =
+      let n = termCount u in
+      rw (term-byte-same i n 0 l, term-byte-same i n 1 l, term-byte-same i n 2 l) refl
 
   whole-same : (at : ℕ) (f : Entry) → at + (1 + width f) ≤ k → wholeAt s at f ≡ wholeAt t at f
   unfolding wholeAt

@@ -1,18 +1,20 @@
 -- A question as it is stored once it is read: the fields of a struct and the clauses' bytes, and when they stand for a question of the
 -- model. Assumes nothing.
 use mathlib.Core.Path.{_≡_}
-use mathlib.Core.Bool.{cond}
-use mathlib.Core.List.{List, [], _∷_, _++_}
+use mathlib.Core.Bool.{Bool, true, false, cond, _||_}
+use mathlib.Core.List.{List, [], _∷_, _++_, map}
 use Prim.Native.Nat.{ℕ, zero, suc, _+_, _-_, _*_, _^_, _≤_, _<_}
 use lib.Dec.{T, eqb}
 use lib.ListN.{length, getD, set, take, replicate}
 use Rattle.shares.specs.Constant.{constantLevels}
-use Rattle.systems.specs.Clauses.{Atom}
+use Rattle.shares.specs.Parts.{emptyPart, fullPart}
 use Rattle.systems.specs.Questions.{Kind, satisfiability, entailment, Question as Asked}
+use Rattle.systems.specs.AtLeaves.{Part, of, always, LeafTest, gives, apart, readAs}
 use Rattle.format.specs.declared.Section.{Section}
 use Rattle.format.specs.declared.Section.the-variants.{FirstPositive, FirstDisequation, SecondPositive, SecondDisequation}
 use Rattle.format.specs.declared.Test.{Test}
-use Rattle.format.specs.declared.Test.the-variants.{Join, Equality}
+use Rattle.format.specs.declared.Test.the-variants.{Join, Equality, Full, Empty, Together}
+use Rattle.format.specs.declared.LeafJoin.{LeafJoin}
 use Rattle.format.specs.declared.Command.{Command}
 use Rattle.format.specs.declared.Step.{Step}
 use Rattle.format.specs.declared.Step.the-variants.{Take, Refused}
@@ -20,7 +22,7 @@ use Rattle.format.specs.declared.Head.{Head}
 use Rattle.format.specs.declared.Head.the-variants.{Opens, Wrong}
 use Rattle.format.specs.declared.Question.{Question}
 use Rattle.format.specs.declared.Reading.{Reading}
-use Rattle.format.specs.Format.{Result, refused, accepted, mostVariables, mostConstants, constantBytes, mostOf, inSection, allNamed, variablesFor, atomOf, readAt, judged, taken, opened, headOf}
+use Rattle.format.specs.Format.{Result, refused, accepted, mostVariables, mostConstants, constantBytes, mostOf, inSection, termOf, names, variablesFor, readAt, judged, taken, opened, headOf}
 
 -- ---- the numbers of the cases
 
@@ -34,14 +36,29 @@ sectionNumber FirstDisequation = 1
 sectionNumber SecondPositive = 2
 sectionNumber SecondDisequation = 3
 
-abbrev pub testNumber : Test → ℕ
-testNumber Join = 0
-testNumber Equality = 1
+-- ---- a clause in four bytes: how it reads as a join at one leaf
 
-abbrev pub testOf : ℕ → Test
-testOf n = cond (eqb n 0) Join Equality
+-- "the first part join the second is the third"
+abbrev pub joined : ℕ → ℕ → ℕ → LeafJoin
+joined p q r = record { form = 0; first = p; second = q; sum = r }
 
--- ---- the clauses' bytes: four a clause, its test and its three terms, section after section
+-- how each test reads, with the bytes of its terms; two shares that may be held together do not overlap, and no sum is asked
+abbrev pub joinFor : Test → ℕ → ℕ → ℕ → LeafJoin
+joinFor Join a b c = joined a b c
+joinFor Equality a b c = joined a emptyPart b
+joinFor Full a b c = joined a emptyPart fullPart
+joinFor Empty a b c = joined a emptyPart emptyPart
+joinFor Together a b c = record { form = 1; first = a; second = b; sum = emptyPart }
+
+-- the part that a byte stands for
+unfoldable pub partOf : ℕ → Part
+partOf t = cond (eqb t emptyPart) (always false) (cond (eqb t fullPart) (always true) (of (termOf t)))
+
+-- the test at a leaf that four bytes stand for
+unfoldable pub testOf : LeafJoin → LeafTest
+testOf j = cond (eqb (j .form) 0) (gives (partOf (j .first)) (partOf (j .second)) (partOf (j .sum))) (apart (partOf (j .first)) (partOf (j .second)))
+
+-- ---- the clauses' bytes, section after section
 
 abbrev pub clauseBytes : ℕ
 clauseBytes = 768
@@ -53,14 +70,14 @@ sectionStart FirstDisequation = 256
 sectionStart SecondPositive = 384
 sectionStart SecondDisequation = 640
 
--- the clause whose four bytes start at an offset
-unfoldable pub storedAtom : List ℕ → ℕ → Atom
-storedAtom l i = atomOf (testOf (getD l i 0)) (getD l (i + 1) 0) (getD l (i + 2) 0) (getD l (i + 3) 0)
+-- the four bytes that start at an offset
+abbrev pub fourAt : List ℕ → ℕ → LeafJoin
+fourAt l i = record { form = getD l i 0; first = getD l (i + 1) 0; second = getD l (i + 2) 0; sum = getD l (i + 3) 0 }
 
--- the n clauses that start at an offset, in order
-unfoldable pub atomsOf : List ℕ → ℕ → ℕ → List Atom
-atomsOf l start zero = []
-atomsOf l start (suc n) = atomsOf l start n ++ (storedAtom l (start + 4 * n) ∷ [])
+-- the tests of the n clauses that start at an offset, in order
+unfoldable pub testsAt : List ℕ → ℕ → ℕ → List LeafTest
+testsAt l start zero = []
+testsAt l start (suc n) = testsAt l start n ++ (testOf (fourAt l (start + 4 * n)) ∷ [])
 
 -- ---- what is stored of a question
 
@@ -89,18 +106,20 @@ countOf counts σ = getD counts (sectionNumber σ) 0
 abbrev pub Counted : List ℕ → Type 0
 Counted counts = (σ : Section) → countOf counts σ ≤ mostOf σ
 
--- a stored clause: a test that there is, terms that each name something defined, and a third byte below 64, also where the test is an equality,
--- which does not read it
-pub record StoredClause (n k t a b c : ℕ) : Type 0 where
-  pub test : t < 2
-  pub named : T (allNamed n k (testOf t) a b c)
-  pub third : c < 64
+-- a part is always empty, or always full, or names something defined
+abbrev pub partNamed : ℕ → ℕ → ℕ → Bool
+partNamed n k t = eqb t emptyPart || (eqb t fullPart || names n k t)
+
+-- a stored clause: a form that there is, and three such parts
+pub record StoredClause (n k : ℕ) (j : LeafJoin) : Type 0 where
+  pub form : j .form < 2
+  pub first : T (partNamed n k (j .first))
+  pub second : T (partNamed n k (j .second))
+  pub sum : T (partNamed n k (j .sum))
 
 -- the four bytes at an offset are such a clause, of a section
 abbrev pub StoredAt : Stored → Section → ℕ → Type 0
-StoredAt x σ i =
-    StoredClause (variablesFor (x .free) (x .own) σ) (x .defined) (getD (x .clauses) i 0) (getD (x .clauses) (i + 1) 0)
-    (getD (x .clauses) (i + 2) 0) (getD (x .clauses) (i + 3) 0)
+StoredAt x σ i = StoredClause (variablesFor (x .free) (x .own) σ) (x .defined) (fourAt (x .clauses) i)
 
 -- a kind and what is stored stand for the question q, and what is safe to rely on in them
 pub record Stands (k : ℕ) (x : Stored) (q : Asked) : Type 0 where
@@ -108,7 +127,7 @@ pub record Stands (k : ℕ) (x : Stored) (q : Asked) : Type 0 where
   pub free : x .free ≡ q .free
   pub own : x .own ≡ q .own
   pub constants : q .constants ≡ record { levels = constantLevels; numbers = take (x .defined) (x .constants) }
-  pub sections : (σ : Section) → atomsOf (x .clauses) (sectionStart σ) (countOf (x .counts) σ) ≡ inSection q σ
+  pub sections : (σ : Section) → testsAt (x .clauses) (sectionStart σ) (countOf (x .counts) σ) ≡ map readAs (inSection q σ)
   pub variables : x .free + x .own ≤ mostVariables
   pub counted : Counted (x .counts)
   pub constantCounted : x .defined ≤ mostConstants
@@ -143,15 +162,15 @@ readingOf (refused n place) = record { refusal = n; place = place; question = no
 readingOf (accepted q) = record { refusal = 0; place = 0; question = heldAs q }
 
 -- four bytes written at an offset
-abbrev pub clauseWritten : List ℕ → ℕ → ℕ → ℕ → ℕ → ℕ → List ℕ
-clauseWritten l i t a b c = set (set (set (set l i t) (i + 1) a) (i + 2) b) (i + 3) c
+abbrev pub clauseWritten : List ℕ → ℕ → LeafJoin → List ℕ
+clauseWritten l i j = set (set (set (set l i (j .form)) (i + 1) (j .first)) (i + 2) (j .second)) (i + 3) (j .sum)
 
 -- the clauses' bytes with one command more, after q was read before it: a clause takes the next four bytes of its section
 abbrev pub commandWritten : Asked → List ℕ → Command → List ℕ
 commandWritten q l Command.End = l
 commandWritten q l Command.Head = l
 commandWritten q l (Command.Constant x) = l
-commandWritten q l (Command.Clause σ t a b c) = clauseWritten l (sectionStart σ + 4 * length (inSection q σ)) (testNumber t) a b c
+commandWritten q l (Command.Clause σ t a b c) = clauseWritten l (sectionStart σ + 4 * length (inSection q σ)) (joinFor t a b c)
 
 -- a refusal and the end leave them; any other command goes on
 abbrev pub writtenOnward : (Command → ℕ → List ℕ) → List ℕ → Step → List ℕ

@@ -183,8 +183,8 @@ pub stored-right : (readingOf (read entails) ≡ record {
       question = record { kind = 0; free = 0; own = 0; constants = replicate 32 0; defined = 0; counts = 0 ∷ 0 ∷ 0 ∷ 0 ∷ [] };
     })
     × (map (λ s. clausesAfter s nines) (entails ∷ second ∷ (0x01 ∷ 0x02 ∷ []) ∷ [])
-    ≡ (replicate 256 9 ++ (0x01 ∷ 0x00 ∷ 0x20 ∷ 0x00 ∷ replicate 124 9) ++ (0x01 ∷ 0x01 ∷ 0x00 ∷ 0x00 ∷ replicate 252 9) ++ (0x00 ∷ 0x00 ∷ 0x01 ∷ 0x20 ∷ replicate 124 9))
-    ∷ (0x01 ∷ 0x00 ∷ 0x00 ∷ 0x00 ∷ replicate 764 9)
+    ≡ (replicate 256 9 ++ (0x00 ∷ 0x00 ∷ 0x0C ∷ 0x20 ∷ replicate 124 9) ++ (0x00 ∷ 0x01 ∷ 0x0C ∷ 0x00 ∷ replicate 252 9) ++ (0x00 ∷ 0x00 ∷ 0x01 ∷ 0x20 ∷ replicate 124 9))
+    ∷ (0x00 ∷ 0x00 ∷ 0x0C ∷ 0x00 ∷ replicate 764 9)
     ∷ nines
     ∷ [])
 unfolding read headOf headFits opened run turn ended taken fault names termOf readAt wholeAt commandOf entryOf number positives disequations writtenBy clausesAfter

@@ -7,10 +7,22 @@ pub enum Section {
     SecondDisequation,
 }
 
-// What a clause says or denies: "a join b is c", or "a is b".
+// What a clause says or denies: "a join b is c", "a is b", "a is full", "a is empty", or "a and b may be held together".
 pub enum Test {
     Join,
     Equality,
+    Full,
+    Empty,
+    Together,
+}
+
+// How a test reads as a join at one leaf. Form 0: the first part join the second is the sum; form 1: the two do not overlap. A part is a
+// term's byte, 0C for one that is always empty, or 0D for one that is always full.
+pub struct LeafJoin {
+    pub form: u8,
+    pub first: u8,
+    pub second: u8,
+    pub sum: u8,
 }
 
 // What a command byte announces.
@@ -52,9 +64,9 @@ pub enum Head {
 }
 
 // A question that was read: its kind (0 satisfiability, 1 entailment), its free and own variables, its constants, of which so many are
-// defined, and how many clauses each section has. The clauses themselves are bytes beside it, four a clause: its test (0 join, 1
-// equality) and its terms (the third is 0 for an equality). Sections: 0 first positive, from byte 0; 1 first disequations, from 256;
-// 2 second positive, from 384; 3 second disequations, from 640.
+// defined, and how many clauses each section has. The clauses themselves are bytes beside it, four a clause: its test at a leaf, as a
+// join. Sections: 0 first positive, from byte 0; 1 first disequations, from 256; 2 second positive, from 384; 3 second disequations,
+// from 640.
 pub struct Question {
     pub kind: u8,
     pub free: usize,

@@ -1,6 +1,8 @@
 // A command that has no fault is kept: a constant, or a clause in its section.
+use commands::table;
 use faults::sections;
 use format::Command;
+use format::LeafJoin;
 ghost use mathlib.Core.Path.{_≡_};
 ghost use Prim.Native.Nat.{_+_, _≤_};
 ghost use lib.ListN.{length};
@@ -28,14 +30,14 @@ pub fn keep_constant(constants: &mut [u64], count: usize, command: Command) -> u
     }
 }
 
-fn store(clauses: &mut [u8], i: usize, t: u8, a: u8, b: u8, c: u8)
+fn store(clauses: &mut [u8], i: usize, join: LeafJoin)
     requires { ⌜ i + 4 ≤ length (now clauses) ⌝ }
-    ensures { λ _. ⌜ now (clauses .exit) ≡ clauseWritten (now (clauses .entry)) i t a b c ⌝ }
+    ensures { λ _. ⌜ now (clauses .exit) ≡ clauseWritten (now (clauses .entry)) i join ⌝ }
 {
-    clauses[i] = t;
-    clauses[i + 1] = a;
-    clauses[i + 2] = b;
-    clauses[i + 3] = c;
+    clauses[i] = join.form;
+    clauses[i + 1] = join.first;
+    clauses[i + 2] = join.second;
+    clauses[i + 3] = join.sum;
 }
 
 pub fn keep_clause(clauses: &mut [u8], counts: &[usize; 4], command: Command)
@@ -55,7 +57,7 @@ pub fn keep_clause(clauses: &mut [u8], counts: &[usize; 4], command: Command)
             c,
         } => {
             let i = sections::section_start(section) + 4 * faults::section_count(counts, section);
-            store(clauses, i, sections::test_number(test), a, b, c)
+            store(clauses, i, table::join_for(test, a, b, c))
         }
     }
 }

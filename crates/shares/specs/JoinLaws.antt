@@ -1,18 +1,18 @@
 -- Laws of the join, each for every height: the join and its negation leaf by leaf, and when it is undefined. Assumes nothing.
 use mathlib.Core.Path.{_≡_, refl, sym, ap, ap₂, _∙_}
-use mathlib.Core.Bool.{Bool, true, false, not, cond, _&&_}
+use mathlib.Core.Bool.{Bool, true, false, not, cond, _&&_, Bool·beq}
 use mathlib.Core.Logic.{_↔_, _⊎_, inl, inr}
 use mathlib.Core.Option.{Option, none, some, Option·getD, Option·some-injective, Option·some-ne-none, Option·none-ne-some}
-use Prim.Native.Nat.{ℕ, _^_, _≤_, _<_, max}
-use native.Mathlib.Nat.{max-le, le-max-left, le-max-right}
+use Prim.Native.Nat.{ℕ, _^_, _≤_, _<_, max, zero-le}
+use native.Mathlib.Nat.{max-le, le-max-left, le-max-right, le-refl}
 use lib.Dec.{T, T-not, not-T}
-use Rattle.shares.specs.Test.{passes, beq-iff, same-test, cond-passed, cond-failed, cond-law}
+use Rattle.shares.specs.Test.{passes, is-false, beq-iff, same-test, cond-passed, cond-failed, cond-law}
 use Rattle.shares.specs.Below.{everyBelow}
 use Rattle.shares.specs.BelowLaws.{Below, every-at, every-intro, every-ext, every-or, fails-iff}
 use Rattle.shares.specs.Blocks.{blockOf, firstOf}
 use Rattle.shares.specs.BlockLaws.{block-lt, first-lt, block-first}
-use Rattle.shares.specs.Tree.{Tree, Folded, height, leafAt, treeOf, joinLeaf, isLeaf, joins, defined, treeIf, joinAt, join}
-use Rattle.shares.specs.TreeLaws.{leafAt-treeOf, treeOf-folded, treeOf-height, treeOf-ext, treeOf-leafAt, treeOf-blocks, blocks}
+use Rattle.shares.specs.Tree.{Tree, leaf, Folded, height, leafAt, treeOf, joinLeaf, isLeaf, joins, defined, treeIf, joinAt, join}
+use Rattle.shares.specs.TreeLaws.{leafAt-leaf, equal-iff, equal-test-iff, leafAt-treeOf, treeOf-folded, treeOf-height, treeOf-ext, treeOf-leafAt, treeOf-blocks, blocks}
 
 -- ---- one leaf
 
@@ -114,6 +114,23 @@ joinAt-join k a b ha hb =
     le : h ≤ k
     le = max-le ha hb
 
+-- ---- and neither does their order
+
+leaf-comm : (x y : Bool) → joinLeaf x y ≡ joinLeaf y x
+unfolding joinLeaf
+leaf-comm true true = refl
+leaf-comm true false = refl
+leaf-comm false true = refl
+leaf-comm false false = refl
+
+pub join-comm : (a b : Tree) → join a b ≡ join b a
+unfolding joinAt join
+join-comm a b =
+    sym (joinAt-join k a b (le-max-right (height b) _) (le-max-left _ _)) ∙ treeIf-ext k _ _ (λ i l. leaf-comm (leafAt k a i) (leafAt k b i))
+  where
+    k : ℕ
+    k = max (height b) (height a)
+
 -- ---- the join, leaf by leaf
 
 pub join-iff : (k : ℕ) (a b c : Tree) → Folded c → height a ≤ k → height b ≤ k → height c ≤ k
@@ -139,6 +156,49 @@ join-none-iff k a b ha hb =
       λ e. let (i, l, t) = J .0 (joinAt-join k a b ha hb ∙ e) in (i, l, rw (overlap (leafAt k a i) (leafAt k b i)) at t),
       λ (i, l, t). sym (joinAt-join k a b ha hb) ∙ J .1 (i, l, rw (overlap (leafAt k a i) (leafAt k b i)) t),
     )
+
+-- it is defined exactly if no leaf is full in both
+pub join-defined-iff : (k : ℕ) (a b : Tree) → height a ≤ k → height b ≤ k
+    → ((c : Tree) × (join a b ≡ some c)) ↔ ((i : ℕ) → i < 2 ^ k → T (not (leafAt k a i && leafAt k b i)))
+join-defined-iff k a b ha hb = (
+  λ (c, e) i l. not-T (leafAt k a i && leafAt k b i) (λ t. Option·none-ne-some c (sym (join-none-iff k a b ha hb .1 (i, l, t)) ∙ e)),
+  λ f. given (join a b) refl (λ e. let (i, l, t) = join-none-iff k a b ha hb .0 e in T-not (leafAt k a i && leafAt k b i) (f i l) t),
+)
+  where
+    given : (o : Option Tree) → join a b ≡ o → (join a b ≡ none → ⊥) → (c : Tree) × (join a b ≡ some c)
+    given none e f = absurd (f e)
+    given (some c) e f = (c, e)
+
+-- ---- the join with a leaf
+
+empty-beside : (x z : Bool) → joins x false z ≡ Bool·beq x z
+unfolding joins joinLeaf
+empty-beside true z = refl
+empty-beside false z = refl
+
+-- with the empty share it is the other one
+pub join-empty-iff : (a b : Tree) → Folded a → Folded b → (join a (leaf false) ≡ some b) ↔ (a ≡ b)
+unfolding height
+join-empty-iff a b fa fb =
+    let J = join-iff k a (leaf false) b fb (le-max-left _ _) zero-le (le-max-right (height a) _) in
+    let E = equal-test-iff k a b fa fb (le-max-left _ _) (le-max-right (height a) _) in (
+      λ e. E .1 (λ i l. rw (same i) at (J .0 e i l)),
+      λ e. J .1 (λ i l. rw (same i) (E .0 e i l)),
+    )
+  where
+    k : ℕ
+    k = max (height a) (height b)
+
+    same : (i : ℕ) → joins (leafAt k a i) (leafAt k (leaf false) i) (leafAt k b i) ≡ Bool·beq (leafAt k a i) (leafAt k b i)
+    same i = ap (λ x. joins (leafAt k a i) x (leafAt k b i)) (leafAt-leaf k false i) ∙ empty-beside (leafAt k a i) (leafAt k b i)
+
+-- with the full share only the empty one can be joined
+pub join-full : (b c : Tree) → Folded b → join (leaf true) b ≡ some c → b ≡ leaf false
+unfolding height
+join-full b c fb e =
+    let f = join-defined-iff (height b) (leaf true) b zero-le (le-refl _) .0 (c, e) in
+    equal-iff (height b) b (leaf false) fb tt (le-refl _) zero-le .1 (λ i l.
+    is-false (leafAt (height b) b i) (rw (leafAt-leaf (height b) true i) at (f i l)) ∙ sym (leafAt-leaf (height b) false i))
 
 -- a join that is defined is folded, and no taller than the two
 pub join-folded : (a b c : Tree) → join a b ≡ some c → Folded c × (height c ≤ max (height a) (height b))

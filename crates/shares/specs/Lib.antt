@@ -1,6 +1,7 @@
 pub mod Below
 pub mod Tree
 pub mod Constant
+pub mod Parts
 pub mod Answer
 pub mod Text
 pub mod Examples

@@ -1,5 +1,5 @@
--- A question at the leaves: the test of an atom at one leaf, and the problems that the two systems pose there. Assumes nothing.
-use mathlib.Core.Bool.{Bool, true, false, not, cond, _&&_, Bool·beq}
+-- A question at the leaves: how an atom reads there as a join, and the problems that the two systems pose. Assumes nothing.
+use mathlib.Core.Bool.{Bool, true, false, not, cond, _&&_}
 use mathlib.Core.List.{List, [], _∷_}
 use Prim.Native.Nat.{ℕ, _-_, _*_, _^_}
 use lib.Dec.{ltb}
@@ -9,18 +9,49 @@ use Rattle.shares.specs.Tree.{joins}
 use Rattle.leaves.specs.Choices.{Row, at}
 use Rattle.leaves.specs.Problem.{Problem}
 use Rattle.leaves.specs.Second.{Second}
-use Rattle.systems.specs.Clauses.{Constants, Term, variable, constant, Atom, joined, equal, positives, disequations, disequation}
+use Rattle.systems.specs.Clauses.{Constants, Term, variable, constant, Atom, joined, equal, isFull, isEmpty, together, positives, disequations, disequation}
 use Rattle.systems.specs.Questions.{Question}
+
+-- ---- the reading of an atom as a join
+
+-- a part of a join at one leaf: a term, or a leaf that is always empty or always full
+pub data Part : Type 0 where
+  of : Term → Part
+  always : Bool → Part
+
+-- the test of a join: "the first part join the second is the third"; or that the two do not overlap, whatever they give
+pub data LeafTest : Type 0 where
+  gives : Part → Part → Part → LeafTest
+  apart : Part → Part → LeafTest
+
+-- how each atom reads
+abbrev pub readAs : Atom → LeafTest
+readAs (joined a b c) = gives (of a) (of b) (of c)
+readAs (equal a b) = gives (of a) (always false) (of b)
+readAs (isFull a) = gives (of a) (always false) (always true)
+readAs (isEmpty a) = gives (of a) (always false) (always false)
+readAs (together a b) = apart (of a) (of b)
+
+-- ---- at one leaf
 
 -- a term at leaf b of 2 ^ h, where variable v is x v; a constant has there the first of its own leaves below it
 unfoldable pub termAt : ℕ → Constants → ℕ → (ℕ → Bool) → Term → Bool
 termAt h cs b x (variable v) = x v
 termAt h cs b x (constant i) = bit (getD (cs .numbers) i 0) (b * 2 ^ (cs .levels - h))
 
+-- a part there
+unfoldable pub partAt : ℕ → Constants → ℕ → (ℕ → Bool) → Part → Bool
+partAt h cs b x (of t) = termAt h cs b x t
+partAt h cs b x (always v) = v
+
+-- a test there
+unfoldable pub testAt : ℕ → Constants → ℕ → (ℕ → Bool) → LeafTest → Bool
+testAt h cs b x (gives u v w) = joins (partAt h cs b x u) (partAt h cs b x v) (partAt h cs b x w)
+testAt h cs b x (apart u v) = not (partAt h cs b x u && partAt h cs b x v)
+
 -- an atom there
-unfoldable pub atomAt : ℕ → Constants → ℕ → (ℕ → Bool) → Atom → Bool
-atomAt h cs b x (joined u v w) = joins (termAt h cs b x u) (termAt h cs b x v) (termAt h cs b x w)
-atomAt h cs b x (equal u v) = Bool·beq (termAt h cs b x u) (termAt h cs b x v)
+abbrev pub atomAt : ℕ → Constants → ℕ → (ℕ → Bool) → Atom → Bool
+atomAt h cs b x a = testAt h cs b x (readAs a)
 
 -- all of some atoms
 unfoldable pub allAt : ℕ → Constants → ℕ → (ℕ → Bool) → List Atom → Bool

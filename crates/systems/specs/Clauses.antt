@@ -1,10 +1,11 @@
 -- Terms, clauses and systems, and when they hold: over trees of every height. Assumes nothing.
 use mathlib.Core.Path.{_≡_}
+use mathlib.Core.Bool.{true, false}
 use mathlib.Core.List.{List, [], _∷_}
 use mathlib.Core.Option.{some}
 use Prim.Native.Nat.{ℕ}
 use lib.ListN.{getD}
-use Rattle.shares.specs.Tree.{Tree, Share, join}
+use Rattle.shares.specs.Tree.{Tree, leaf, Share, join}
 use Rattle.shares.specs.Constant.{numberTree}
 
 -- a term: variable number v, or constant number i, both from 0
@@ -12,10 +13,13 @@ pub data Term : Type 0 where
   variable : ℕ → Term
   constant : ℕ → Term
 
--- what a clause says or denies: "a join b is c"; "a is b"
+-- what a clause says or denies: "a join b is c"; "a is b"; "a is full"; "a is empty"; "a and b may be held together"
 pub data Atom : Type 0 where
   joined : Term → Term → Term → Atom
   equal : Term → Term → Atom
+  isFull : Term → Atom
+  isEmpty : Term → Atom
+  together : Term → Term → Atom
 
 -- a clause: an atom, or its negation
 pub data Clause : Type 0 where
@@ -62,10 +66,13 @@ abbrev pub valueOf : Constants → Assignment → Term → Tree
 valueOf cs σ (variable v) = σ v .tree
 valueOf cs σ (constant i) = constantTree cs i
 
--- "a join b is c" holds if the join is defined and is c; equality as usual
+-- "a join b is c" holds if the join is defined and is c; equality as usual; two shares may be held together if their join is defined
 abbrev pub Holds : Constants → Assignment → Atom → Type 0
 Holds cs σ (joined a b c) = join (valueOf cs σ a) (valueOf cs σ b) ≡ some (valueOf cs σ c)
 Holds cs σ (equal a b) = valueOf cs σ a ≡ valueOf cs σ b
+Holds cs σ (isFull a) = valueOf cs σ a ≡ leaf true
+Holds cs σ (isEmpty a) = valueOf cs σ a ≡ leaf false
+Holds cs σ (together a b) = (t : Tree) × (join (valueOf cs σ a) (valueOf cs σ b) ≡ some t)
 
 -- a negation holds otherwise, so also where the join is undefined
 abbrev pub ClauseHolds : Constants → Assignment → Clause → Type 0

@@ -6,7 +6,7 @@ use Prim.Native.Nat.{ℕ, _+_}
 use lib.Dec.{T, ltb, eqb, ltb→lt, eqb→eq}
 use lib.ListN.{length}
 use Rattle.shares.specs.Test.{and-left, and-right}
-use Rattle.systems.specs.Clauses.{Term, variable, constant, Atom, joined, equal, positive, negated, System, Constants}
+use Rattle.systems.specs.Clauses.{Term, variable, constant, Atom, joined, equal, isFull, isEmpty, together, positive, negated, System, Constants}
 use Rattle.systems.specs.Questions.{Kind, satisfiability, entailment, Question, Defined, InAtom, InSystem, Alone, WellFormed}
 
 -- a term names something defined
@@ -18,6 +18,9 @@ definedTest n cs (constant i) = ltb i (length (cs .numbers))
 abbrev atomTest : (Term → Bool) → Atom → Bool
 atomTest p (joined u v w) = p u && (p v && p w)
 atomTest p (equal u v) = p u && p v
+atomTest p (isFull u) = p u
+atomTest p (isEmpty u) = p u
+atomTest p (together u v) = p u && p v
 
 -- every term of a system passes
 abbrev systemTest : (Term → Bool) → System → Bool
@@ -50,6 +53,9 @@ module _ (p : Term → Bool) (P : Term → Type 0) (f : (t : Term) → T (p t) �
       let r = and-right (p u) _ t in
       (f u (and-left (p u) _ t), f v (and-left (p v) _ r), f w (and-right (p v) _ r))
   atom-of (equal u v) t = (f u (and-left (p u) _ t), f v (and-right (p u) _ t))
+  atom-of (isFull u) t = f u t
+  atom-of (isEmpty u) t = f u t
+  atom-of (together u v) t = (f u (and-left (p u) _ t), f v (and-right (p u) _ t))
 
   system-of : (s : System) → T (systemTest p s) → InSystem P s
   system-of [] t = tt

@@ -7,6 +7,8 @@ pub mod AtLeaves
 pub mod Decide
 pub mod ShownWords
 pub mod ShownLaws
+pub mod Policies
+pub mod PolicyLaws
 pub mod SystemLaws
 pub mod AtomLaws
 pub mod Link

@@ -5,7 +5,7 @@ use Prim.Native.Nat.{ℕ, _+_, _<_, max}
 use lib.ListN.{length}
 use Rattle.shares.specs.Tree.{height}
 use Rattle.shares.specs.Constant.{numberTree}
-use Rattle.systems.specs.Clauses.{Constants, Term, variable, constant, Atom, joined, equal, positive, negated, System, disequations}
+use Rattle.systems.specs.Clauses.{Constants, Term, variable, constant, Atom, joined, equal, isFull, isEmpty, together, positive, negated, System, disequations}
 
 -- kind 0 asks whether the first system is satisfiable, kind 1 whether it entails the second
 pub data Kind : Type 0 where
@@ -32,6 +32,9 @@ Defined n cs (constant i) = i < length (cs .numbers)
 abbrev pub InAtom : (Term → Type 0) → Atom → Type 0
 InAtom P (joined a b c) = P a × P b × P c
 InAtom P (equal a b) = P a × P b
+InAtom P (isFull a) = P a
+InAtom P (isEmpty a) = P a
+InAtom P (together a b) = P a × P b
 
 -- P holds of every term of a system
 abbrev pub InSystem : (Term → Type 0) → System → Type 0

@@ -3,7 +3,7 @@ use mathlib.Core.List.{List, [], _∷_}
 use Prim.Native.Nat.{ℕ, zero, suc, _<_, suc-le-suc, zero-le}
 use native.Mathlib.Nat.{not-suc-le-zero, le-of-suc-le-suc}
 use lib.ListN.{length, getD}
-use Rattle.systems.specs.Clauses.{Term, variable, Atom, joined, equal, positive, negated, System, positives, disequations, disequation, Constants, Assignment, Holds, SystemHolds, AllHold}
+use Rattle.systems.specs.Clauses.{Term, variable, Atom, joined, equal, isFull, isEmpty, together, positive, negated, System, positives, disequations, disequation, Constants, Assignment, Holds, SystemHolds, AllHold}
 use Rattle.systems.specs.Questions.{InAtom, InSystem}
 
 -- ---- a system holds exactly if its positive clauses and each of its disequations do
@@ -40,6 +40,9 @@ module _ (P Q R : Term → Type 0) (f : (t : Term) → P t → Q t → R t) wher
   in-atom : (a : Atom) → InAtom P a → InAtom Q a → InAtom R a
   in-atom (joined u v w) p q = (f u (p .0) (q .0), f v (p .1) (q .1), f w (p .2) (q .2))
   in-atom (equal u v) p q = (f u (p .0) (q .0), f v (p .1) (q .1))
+  in-atom (isFull u) p q = f u p q
+  in-atom (isEmpty u) p q = f u p q
+  in-atom (together u v) p q = (f u (p .0) (q .0), f v (p .1) (q .1))
 
   -- what follows of a term follows of every term of a system
   pub in-system : (s : System) → InSystem P s → InSystem Q s → InSystem R s
