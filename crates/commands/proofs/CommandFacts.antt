@@ -9,14 +9,8 @@ use borrow.Author.Tests.{lt-ltb, le-ltb, eq-eqb}
 use lib.ListN.{length, getD, take, drop}
 use lib.Seq.{drop-cons}
 use Rattle.shares.specs.Constant.{number}
-use Rattle.format.specs.declared.Test.{Test}
-use Rattle.format.specs.declared.Test.the-variants.{Join, Equality}
 use Rattle.format.specs.declared.Head.the-variants.{Opens, Wrong}
-use Rattle.format.specs.Format.{termCount, headFits, headOf}
-
-pub two-terms : (t : Test) → 2 ≤ termCount t
-two-terms Join = omega arith
-two-terms Equality = omega arith
+use Rattle.format.specs.Format.{headFits, headOf}
 
 -- four bytes of a list, as the number that they make
 pub four-bytes : (s : List ℕ) (i : ℕ) → i + 4 ≤ length s

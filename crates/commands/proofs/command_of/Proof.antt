@@ -3,7 +3,6 @@ use mathlib.Core.Path.{ap}
 use native.Mathlib.Omega.{arith}
 use borrow.Author.Needs.{needs}
 use Rattle.format.specs.Format.{operands, commandOf}
-use Rattle.commands.proofs.CommandFacts.{two-terms}
 use Rattle.commands.proofs.command_of.Statement.{statement}
 use Rattle.commands.proofs.command_of.Tie as tie
 
@@ -23,7 +22,7 @@ enum-known-shape : tie.Need-enum-known-shape
 enum-known-shape c = search needs
 
 clause-at-requires : tie.Need-clause-at-requires
-clause-at-requires c κs = (omega (arith, ap operands (c .before .shape .given .1)), two-terms (c .before .shape .given .0 .1 .0))
+clause-at-requires c κs = omega (arith, ap operands (c .before .shape .given .1))
 
 returns : tie.Need-returns
 unfolding commandOf

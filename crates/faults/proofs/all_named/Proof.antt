@@ -1,49 +1,45 @@
 -- `faults::all_named` meets its contract: term by term. Assumes nothing.
 use borrow.Author.Tests.{not-true, not-false}
 use borrow.Author.Needs.{needs}
+use Rattle.faults.proofs.ClauseFacts.{terms-judged}
 use Rattle.faults.proofs.all_named.Statement.{statement}
 use Rattle.faults.proofs.all_named.Tie as tie
 
-names-it-requires : tie.Need-names-it-requires
-names-it-requires c κs = search needs
+term-count-requires : tie.Need-term-count-requires
+term-count-requires c κs = search needs
+
+term-named-requires : tie.Need-term-named-requires
+term-named-requires c κs = search needs
 
 returns : tie.Need-returns
-returns c = simp (← c .before .names-it .ensures, not-true (c .before .names-it .result) (c .if1 .taken))
+returns c = simp (← c .before .before .term-count .ensures, ← c .before .term-named .ensures, not-true (c .before .term-named .result) (c .if1 .taken))
 
-names-it-requires-2 : tie.Need-names-it-requires-2
-names-it-requires-2 c κs = search needs
+term-named-requires-2 : tie.Need-term-named-requires-2
+term-named-requires-2 c κs = search needs
 
 returns-2 : tie.Need-returns-2
-returns-2 c =
-    simp (← c .before .before .before .names-it .ensures, not-false (c .before .before .before .names-it .result) (c .before .before .if1 .left), ← c .before .names-it2 .ensures, not-true (c .before .names-it2 .result) (c .if2 .taken))
+returns-2 c = 
+    simp (← c .before .before .before .before .term-count .ensures, ← c .before .before .before .term-named .ensures, not-false (c .before .before .before .term-named .result) (c .before .before .if1 .left), ← c .before .term-named2 .ensures, not-true (c .before .term-named2 .result) (c .if2 .taken))
 
-enum-told : tie.Need-enum-told
-enum-told c = search needs
-
-names-it-requires-3 : tie.Need-names-it-requires-3
-names-it-requires-3 c κs = search needs
-
-enum-told-2 : tie.Need-enum-told-2
-enum-told-2 c = search needs
+term-named-requires-3 : tie.Need-term-named-requires-3
+term-named-requires-3 c κs = search needs
 
 returns-3 : tie.Need-returns-3
 returns-3 c =
-    simp (← c .before .before .before .before .before .before .names-it .ensures, not-false (c .before .before .before .before .before .before .names-it .result) (c .before .before .before .before .before .if1 .left), ← c .before .before .before .before .names-it2 .ensures, not-false (c .before .before .before .before .names-it2 .result) (c .before .before .before .if2 .left), c .before .enum-told .given .1, c .names-it3 .ensures)
-
-returns-4 : tie.Need-returns-4
-returns-4 c =
-    simp (← c .before .before .before .before .before .names-it .ensures, not-false (c .before .before .before .before .before .names-it .result) (c .before .before .before .before .if1 .left), ← c .before .before .before .names-it2 .ensures, not-false (c .before .before .before .names-it2 .result) (c .before .before .if2 .left), c .enum-told2 .given .1)
+    let b = c .before .before in
+    let a = b .before .before in
+    let s = a .before .before in
+    rw (not-false (a .term-named .result) (b .before .if1 .left), not-false (b .term-named2 .result) (c .before .if2 .left)) at
+    (terms-judged (s .args .variables) (s .args .constants) (s .args .test) (s .args .a) (s .args .b) (s .args .c) (a .before .term-count .ensures) (a .term-named .ensures) (b .term-named2 .ensures) (c .term-named3 .ensures))
 
 pub all-named-spec : {M : Type 1} → statement M
 all-named-spec =
     tie.close
     (tie.spec
-    names-it-requires
+    term-count-requires
+    term-named-requires
     returns
-    names-it-requires-2
+    term-named-requires-2
     returns-2
-    enum-told
-    names-it-requires-3
-    enum-told-2
-    returns-3
-    returns-4)
+    term-named-requires-3
+    returns-3)

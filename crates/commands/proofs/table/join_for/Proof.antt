@@ -1,0 +1,65 @@
+-- `commands::table::join_for` meets its contract: the table, test by test. Assumes nothing.
+use borrow.Author.Needs.{needs}
+use Rattle.commands.proofs.table.join_for.Statement.{statement}
+use Rattle.commands.proofs.table.join_for.Tie as tie
+
+enum-told : tie.Need-enum-told
+enum-told c = search needs
+
+joined-requires : tie.Need-joined-requires
+joined-requires c κs = search needs
+
+enum-told-2 : tie.Need-enum-told-2
+enum-told-2 c = search needs
+
+joined-requires-2 : tie.Need-joined-requires-2
+joined-requires-2 c κs = search needs
+
+enum-told-3 : tie.Need-enum-told-3
+enum-told-3 c = search needs
+
+joined-requires-3 : tie.Need-joined-requires-3
+joined-requires-3 c κs = search needs
+
+enum-told-4 : tie.Need-enum-told-4
+enum-told-4 c = search needs
+
+joined-requires-4 : tie.Need-joined-requires-4
+joined-requires-4 c κs = search needs
+
+enum-told-5 : tie.Need-enum-told-5
+enum-told-5 c = search needs
+
+returns : tie.Need-returns
+returns c = simp (c .before .enum-told .given .1, c .joined .ensures)
+
+returns-2 : tie.Need-returns-2
+returns-2 c = simp (c .before .enum-told2 .given .1, c .joined2 .ensures)
+
+returns-3 : tie.Need-returns-3
+returns-3 c = simp (c .before .enum-told3 .given .1, c .joined3 .ensures)
+
+returns-4 : tie.Need-returns-4
+returns-4 c = simp (c .before .enum-told4 .given .1, c .joined4 .ensures)
+
+returns-5 : tie.Need-returns-5
+returns-5 c = simp (c .enum-told5 .given .1)
+
+pub join-for-spec : {M : Type 1} → statement M
+join-for-spec =
+    tie.close
+    (tie.spec
+    enum-told
+    joined-requires
+    enum-told-2
+    joined-requires-2
+    enum-told-3
+    joined-requires-3
+    enum-told-4
+    joined-requires-4
+    enum-told-5
+    returns
+    returns-2
+    returns-3
+    returns-4
+    returns-5)
