@@ -34,8 +34,8 @@ add-i c =
     let start = c .before .before .before .before .before .before in
     omega (arith, subst (Slot (start .args .counts .now)) (c .before .before .before .command .given .1) (start .pre .1), c .section-count .ensures, c .before .section-start .ensures)
 
-test-number-requires : tie.Need-test-number-requires
-test-number-requires c κs = search needs
+join-for-requires : tie.Need-join-for-requires
+join-for-requires c κs = search needs
 
 store-requires : tie.Need-store-requires
 store-requires c κs =
@@ -56,7 +56,7 @@ same-length c = search needs
 
 returns-4 : tie.Need-returns-4
 returns-4 c =
-    simp (c .before .before .before .before .before .before .before .before .command .given .1, c .before .before .store .ensures, c .before .before .before .test-number .ensures, c .before .before .before .before .before .section-count .ensures, c .before .before .before .before .before .before .section-start .ensures)
+    simp (c .before .before .before .before .before .before .before .before .command .given .1, c .before .before .store .ensures, c .before .before .before .join-for .ensures, c .before .before .before .before .before .section-count .ensures, c .before .before .before .before .before .before .section-start .ensures)
 
 pub keep-clause-spec : {M : Type 1} → statement M
 keep-clause-spec =
@@ -70,7 +70,7 @@ keep-clause-spec =
     section-count-requires
     mul-i
     add-i
-    test-number-requires
+    join-for-requires
     store-requires
     returns
     returns-2
