@@ -14,6 +14,11 @@ pub const SECOND_POSITIVES: usize = 384;
 
 pub const SECOND_DISEQUATIONS: usize = 640;
 
+// The numbers of two parts of a join that are no term's: always empty, and always full.
+pub const EMPTY_PART: u8 = 0x0C;
+
+pub const FULL_PART: u8 = 0x0D;
+
 // Two to the power k.
 pub fn power(k: usize) -> usize
     requires { ⌜ k < 64 ⌝ }

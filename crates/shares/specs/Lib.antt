@@ -2,6 +2,7 @@ pub mod Below
 pub mod Tree
 pub mod Constant
 pub mod Answer
+pub mod Parts
 pub mod Text
 pub mod Examples
 pub mod Test
