@@ -13,10 +13,11 @@ use Rattle.words.specs.Table.{Terms}
 
 -- ---- what can be read
 
--- a clause reads no own variable: only the first n terms and the constants count
+-- a clause reads no own variable: only the first n terms, the constants and the two parts that are no term's count. There are at most 12 variables,
+-- so none is among those from 12 on
 abbrev pub ReadsFree : List ℕ → ℕ → ℕ → Type 0
 ReadsFree clauses n at =
-    (x y : ℕ → Bool) → ((t : ℕ) → t < n → x t ≡ y t) → ((t : ℕ) → 32 ≤ t → x t ≡ y t) → clauseTest clauses x at ≡ clauseTest clauses y at
+    (x y : ℕ → Bool) → ((t : ℕ) → t < n → x t ≡ y t) → ((t : ℕ) → 12 ≤ t → x t ≡ y t) → clauseTest clauses x at ≡ clauseTest clauses y at
 
 -- the clauses of a stored question can be read, and those of the first system read no own variable
 pub record Readable (clauses counts : List ℕ) (n m : ℕ) : Type 0 where

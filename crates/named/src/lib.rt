@@ -23,7 +23,7 @@ fn with_bit(x: u64, t: usize) -> u64
     x | (1 << t)
 }
 
-// Sets bit t of `named` for each byte t of a section. The first byte of a clause is its test, 0 or 1, which is no constant.
+// Sets bit t of `named` for each byte t of a section. The first byte of a clause is its form, 0 or 1, which is no constant.
 fn name_terms(clauses: &[u8; CLAUSE_BYTES], start: usize, count: usize, named: u64) -> u64
     requires { ⌜ Clauses (now clauses) start count ⌝ }
     ensures { λ r. ⌜ ((t : ℕ) → bit r t ≡ (bit named t || namedIn (now (clauses .entry)) start count t)) ⌝ }

@@ -14,7 +14,7 @@ use Rattle.words.specs.ClauseLaws.{clauses-at}
 use Rattle.words.specs.Choices.{wordCount, allPass, clauseFails, someOwn, Periodic}
 use Rattle.words.specs.Table.{Terms}
 use Rattle.words.specs.TableLaws.{table-section, table-clause}
-use Rattle.words.specs.TermLaws.{position-free, value-variable, value-constant, pass-mod, fails-mod}
+use Rattle.words.specs.TermLaws.{position-free, value-variable, value-fixed, pass-mod, fails-mod}
 use Rattle.beside.specs.declared.Sizes.{Sizes}
 use Rattle.beside.specs.Beside.{Readable, SameFree}
 use Rattle.beside.specs.GatherLaws.{same-free}
@@ -61,8 +61,8 @@ free-same n m values z t l =
     value-variable n m values z t (omega arith) ∙ ap (bit z) (position-free n m t l ∙ sym (position-free n 0 t l))
     ∙ sym (value-variable n 0 values z t (omega arith))
 
-constant-same : (n m values z t : ℕ) → n + m ≤ 12 → 32 ≤ t → termValue n m values z t ≡ termValue n 0 values z t
-constant-same n m values z t h l = value-constant n m values z t (omega arith) l ∙ sym (value-constant n 0 values z t (omega arith) l)
+fixed-same : (n m values z t : ℕ) → n + m ≤ 12 → 12 ≤ t → termValue n m values z t ≡ termValue n 0 values z t
+fixed-same n m values z t h l = value-fixed n m n 0 values z z t (omega arith) (omega arith)
 
 module _ (sizes : Sizes) (clauses : List ℕ) (R : Readable clauses (sizes .counts) (sizes .free) (sizes .own)) (values w : ℕ) (terms : List ℕ)
     (table : Terms (sizes .free) (sizes .own) values w terms) where
@@ -75,7 +75,7 @@ module _ (sizes : Sizes) (clauses : List ℕ) (R : Readable clauses (sizes .coun
       ∙ every-ext (getD (sizes .counts) 0 0) _ _ (λ k m.
       R .positive-free k m (termValue (sizes .free) (sizes .own) values (64 * w + i)) (termValue (sizes .free) 0 values (64 * w + i))
       (λ t. free-same (sizes .free) (sizes .own) values (64 * w + i) t)
-      (λ t. constant-same (sizes .free) (sizes .own) values (64 * w + i) t (R .variables)))
+      (λ t. fixed-same (sizes .free) (sizes .own) values (64 * w + i) t (R .variables)))
 
   -- the word of its disequation j
   pub differs-bits : (j : ℕ) → j < getD (sizes .counts) 1 0 → (i : ℕ) → i < 64
@@ -86,7 +86,7 @@ module _ (sizes : Sizes) (clauses : List ℕ) (R : Readable clauses (sizes .coun
       (table-clause (sizes .free) (sizes .own) values w terms clauses table (256 + 4 * j) (clauses-at (R .first-disequation) j k) i l
       ∙ R .disequation-free j k (termValue (sizes .free) (sizes .own) values (64 * w + i)) (termValue (sizes .free) 0 values (64 * w + i))
       (λ t. free-same (sizes .free) (sizes .own) values (64 * w + i) t)
-      (λ t. constant-same (sizes .free) (sizes .own) values (64 * w + i) t (R .variables)))
+      (λ t. fixed-same (sizes .free) (sizes .own) values (64 * w + i) t (R .variables)))
 
 -- ---- the searches are apart
 

@@ -1,18 +1,19 @@
 -- Clauses as bytes, and their tests at one leaf under a choice of Boolean values. Assumes nothing.
-use mathlib.Core.Bool.{Bool, false, cond, Bool·beq}
+use mathlib.Core.Bool.{Bool, cond, not, _&&_}
 use mathlib.Core.List.{List}
 use Prim.Native.Nat.{ℕ, _+_, _-_, _*_, _<_, _≤_}
 use lib.Dec.{ltb, eqb}
 use lib.ListN.{getD}
 use Rattle.shares.specs.Below.{everyBelow}
 use Rattle.shares.specs.Constant.{bit}
+use Rattle.shares.specs.Parts.{fullPart}
 use Rattle.shares.specs.Tree.{joins}
 
--- the test with number n of three values: 0 is a join, any other an equality
+-- the test with form n of three values: 0, the first join the second is the third; any other, the first and the second do not overlap
 unfoldable pub testValue : ℕ → Bool → Bool → Bool → Bool
-testValue n a b c = cond (eqb n 0) (joins a b c) (Bool·beq a b)
+testValue n a b c = cond (eqb n 0) (joins a b c) (not (a && b))
 
--- the test of the clause at byte `at`, where term t has the value x t: its number and its three terms are four bytes
+-- the test of the clause at byte `at`, where part t has the value x t: its form and its three parts are four bytes
 unfoldable pub clauseTest : List ℕ → (ℕ → Bool) → ℕ → Bool
 clauseTest clauses x at =
     testValue (getD clauses at 0) (x (getD clauses (at + 1) 0)) (x (getD clauses (at + 2) 0)) (x (getD clauses (at + 3) 0))
@@ -26,10 +27,11 @@ allClauses clauses x start count = everyBelow count (λ k. clauseTest clauses x 
 unfoldable pub position : ℕ → ℕ → ℕ → ℕ
 position n m t = cond (ltb t n) (n - 1 - t) (2 * n + m - 1 - t)
 
--- the value of term t in choice z, where constant i has bit i of `values`
+-- the value of part t in choice z, where constant i has bit i of `values`. Of the numbers that are neither a variable's nor a constant's, fullPart is
+-- full and every other empty
 unfoldable pub termValue : ℕ → ℕ → ℕ → ℕ → ℕ → Bool
 termValue n m values z t =
-    cond (ltb t (n + m)) (bit z (position n m t)) (cond (ltb t 32) false (bit values (t - 32)))
+    cond (ltb t (n + m)) (bit z (position n m t)) (cond (ltb t 32) (eqb t fullPart) (bit values (t - 32)))
 
 -- a section that can be read: it lies within 768 bytes, and each of its bytes is below 64
 pub record Clauses (clauses : List ℕ) (start count : ℕ) : Type 0 where

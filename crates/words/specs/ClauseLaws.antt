@@ -1,6 +1,6 @@
--- Laws of clauses: the tests by Boolean operations, and the terms that a section reads. Assumes nothing.
+-- Laws of clauses: the tests by Boolean operations, and the parts that a section reads. Assumes nothing.
 use mathlib.Core.Path.{_≡_, refl, sym, ap, ap₂, _∙_}
-use mathlib.Core.Bool.{Bool, true, false, not, xor, _&&_, _||_, Bool·beq}
+use mathlib.Core.Bool.{Bool, true, false, not, xor, _&&_, _||_}
 use mathlib.Core.List.{List}
 use Prim.Native.Nat.{ℕ, _+_, _-_, _*_, _^_, _≤_, _<_}
 use native.Mathlib.Nat.{add-assoc}
@@ -15,7 +15,7 @@ use Rattle.shares.specs.BitParts.{bit-not}
 use Rattle.shares.specs.Tree.{joins, joinLeaf}
 use Rattle.words.specs.Clause.{clauseTest, allClauses, Clauses}
 
--- the test of a join, and of an equality, by operations on bits
+-- the test of a join by operations on bits
 joins-bits : (a b c : Bool) → not ((a && b) || xor (a || b) c) ≡ joins a b c
 unfolding joins joinLeaf xor
 joins-bits false false false = refl
@@ -37,12 +37,9 @@ join-bits a b c i x y z h =
 pub not-bits : (x i : ℕ) (p : Bool) → x < 2 ^ 64 → i < 64 → bit x i ≡ p → bit ((2 ^ 64 - 1) - x) i ≡ not p
 not-bits x i p l h e = bit-not 64 x i l h ∙ ap not e
 
-pub equal-bits : (a b : Bool) → not (xor a b) ≡ Bool·beq a b
-unfolding xor
-equal-bits false false = refl
-equal-bits false true = refl
-equal-bits true false = refl
-equal-bits true true = refl
+-- two words do not overlap, bit by bit
+pub apart-bits : (a b i : ℕ) → a < 2 ^ 64 → b < 2 ^ 64 → i < 64 → bit ((2 ^ 64 - 1) - bitAnd a b) i ≡ not (bit a i && bit b i)
+apart-bits a b i x y h = not-bits (bitAnd a b) i _ (and-lt 64 _ _ x y) h (bit-and a b i)
 
 -- one clause of a section
 pub clauses-at : {clauses : List ℕ} {start count : ℕ} → Clauses clauses start count → (k : ℕ) → k < count → Clauses clauses (start + 4 * k) 1
@@ -53,7 +50,7 @@ clauses-at {clauses} {start} {count} c k h =
           rw (add-assoc start (4 * k) j) (c .terms (4 * k + j) (omega arith));
     }
 
--- a clause reads terms below 64 alone
+-- a clause reads parts below 64 alone
 pub clause-ext : (x y : ℕ → Bool) {clauses : List ℕ} {at : ℕ} → Clauses clauses at 1 → ((t : ℕ) → t < 64 → x t ≡ y t)
     → clauseTest clauses x at ≡ clauseTest clauses y at
 unfolding clauseTest

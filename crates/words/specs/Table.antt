@@ -1,4 +1,5 @@
--- The table of terms: a word for each term, with its values in the 64 choices of one word. Assumes nothing.
+-- The table of terms: a word for each term, and for each part of a join that is no term's, with its values in the 64 choices of one word.
+-- Assumes nothing.
 use mathlib.Core.Path.{_≡_}
 use mathlib.Core.Bool.{false}
 use mathlib.Core.List.{List}
@@ -7,11 +8,11 @@ use lib.ListN.{getD}
 use Rattle.shares.specs.Constant.{bit}
 use Rattle.words.specs.Clause.{position, termValue}
 
--- bit i of the word x is the value of term t in choice 64 * w + i
+-- bit i of the word x is the value of part t in choice 64 * w + i
 abbrev pub TermWord : ℕ → ℕ → ℕ → ℕ → ℕ → ℕ → Type 0
 TermWord n m values w t x = (i : ℕ) → i < 64 → bit x i ≡ termValue n m values (64 * w + i) t
 
--- every term's word is right at word w
+-- every part's word is right at word w
 abbrev pub Terms : ℕ → ℕ → ℕ → ℕ → List ℕ → Type 0
 Terms n m values w terms = (t : ℕ) → t < 64 → TermWord n m values w t (getD terms t 0)
 

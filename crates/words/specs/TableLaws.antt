@@ -1,17 +1,19 @@
 -- Laws of the table of terms: how it is started and moved, and what clauses say of it. Assumes nothing.
 use mathlib.Core.Path.{_≡_, refl, sym, ap, ap₂, _∙_, subst}
-use mathlib.Core.Bool.{false, not, _&&_}
+use mathlib.Core.Bool.{true, false, not, _&&_}
 use mathlib.Core.List.{List}
 use Prim.Native.Nat.{ℕ, _+_, _-_, _*_, _^_, _≤_, _<_}
 use native.Mathlib.Decide.{decLt, decLe}
 use native.Mathlib.Omega.{arith}
 use lib.ListN.{length, getD, set}
+use borrow.Author.Tests.{ne-eqb}
 use Rattle.shares.specs.Constant.{bit}
 use Rattle.shares.specs.BitLaws.{bit-zero}
+use Rattle.shares.specs.Parts.{fullPart}
 use Rattle.words.specs.Clause.{clauseTest, allClauses, position, termValue, Clauses}
 use Rattle.words.specs.ClauseLaws.{clause-ext, section-ext}
 use Rattle.words.specs.Choices.{allPass, clauseFails, allPassBut}
-use Rattle.words.specs.Table.{Terms, Changed, Within, ConstantWords}
+use Rattle.words.specs.Table.{TermWord, Terms, Changed, Within, ConstantWords}
 use Rattle.words.specs.Stores.{store-law}
 use Rattle.words.specs.TermLaws.{value-variable, value-constant, value-none, value-fixed}
 use Rattle.shares.specs.BitParts.{bit-low}
@@ -23,17 +25,22 @@ low-digit w v i p h l = here w ∙ sym (here v)
     here : (u : ℕ) → bit (64 * u + i) p ≡ bit i p
     here u = let e : 64 * u + i ≡ u * 2 ^ 6 + i = omega arith in ap (λ z. bit z p) e ∙ bit-low 6 u i h p l
 
--- a table of zeros, once the variables are set
-pub terms-started : (n m : ℕ) (zero last : List ℕ) → ((t : ℕ) → t < 64 → getD zero t 0 ≡ 0) → Changed n m 0 0 zero last → Terms n m 0 0 last
-terms-started n m zero last none v t l i k = go (decLt t (n + m)) (decLt t 32)
+-- a table of zeros, once the variables and the part that is always full are set
+pub terms-started : (n m x : ℕ) (zero last : List ℕ) → n + m ≤ 12 → length last ≡ 64 → ((t : ℕ) → t < 64 → getD zero t 0 ≡ 0)
+    → Changed n m 0 0 zero last → ((i : ℕ) → i < 64 → bit x i ≡ true) → Terms n m 0 0 (set last fullPart x)
+terms-started n m x zero last few size none v ones =
+    store-law (λ t y. t < 64 → TermWord n m 0 0 t y) last fullPart x (omega arith)
+    (λ t other l i k. go t other l i k (decLt t (n + m)) (decLt t 32))
+    (λ l i k. ones i k ∙ sym (value-none n m 0 (64 * 0 + i) fullPart (omega arith) (omega arith)))
   where
-    blank : n + m ≤ t → bit (getD last t 0) i ≡ false
-    blank g = ap (λ x. bit x i) (v .kept t (λ q. absurd (omega arith)) ∙ none t l) ∙ bit-zero i
+    blank : (t i : ℕ) → t < 64 → n + m ≤ t → bit (getD last t 0) i ≡ false
+    blank t i l g = ap (λ x. bit x i) (v .kept t (λ q. absurd (omega arith)) ∙ none t l) ∙ bit-zero i
 
-    go : Dec (t < n + m) → Dec (t < 32) → bit (getD last t 0) i ≡ termValue n m 0 (64 * 0 + i) t
-    go (yes a) d = v .set t a (omega arith) i k ∙ sym (value-variable n m 0 (64 * 0 + i) t a)
-    go (no a) (yes b) = blank (omega arith) ∙ sym (value-none n m 0 (64 * 0 + i) t (omega arith) b)
-    go (no a) (no b) = blank (omega arith) ∙ sym (value-constant n m 0 (64 * 0 + i) t (omega arith) (omega arith) ∙ bit-zero (t - 32))
+    go : (t : ℕ) → (t ≡ fullPart → ⊥) → t < 64 → (i : ℕ) → i < 64 → Dec (t < n + m) → Dec (t < 32) → bit (getD last t 0) i ≡ termValue n m 0 (64 * 0 + i) t
+    go t other l i k (yes a) d = v .set t a (omega arith) i k ∙ sym (value-variable n m 0 (64 * 0 + i) t a)
+    go t other l i k (no a) (yes b) = blank t i l (omega arith) ∙ sym (value-none n m 0 (64 * 0 + i) t (omega arith) b ∙ ne-eqb t fullPart other)
+    go t other l i k (no a) (no b) =
+        blank t i l (omega arith) ∙ sym (value-constant n m 0 (64 * 0 + i) t (omega arith) (omega arith) ∙ bit-zero (t - 32))
 
 -- the words of constants, one by one
 pub constants-none : (values : ℕ) (old : List ℕ) → ConstantWords 0 values old old
@@ -78,7 +85,7 @@ terms-moved n m w old new c values v r t l i k = go (decLt t (n + m)) (decLe 6 (
         ap (λ x. bit x i) (c .kept t (λ q. omega arith)) ∙ r t l i k ∙ value-variable n m values (64 * v + i) t a
         ∙ low-digit v w i (position n m t) k (omega arith) ∙ sym (value-variable n m values (64 * w + i) t a)
     go (no a) d =
-        ap (λ x. bit x i) (c .kept t (λ q. absurd (a q))) ∙ r t l i k ∙ value-fixed n m values (64 * v + i) (64 * w + i) t (omega arith)
+        ap (λ x. bit x i) (c .kept t (λ q. absurd (a q))) ∙ r t l i k ∙ value-fixed n m n m values (64 * v + i) (64 * w + i) t (omega arith) (omega arith)
 
 -- ---- clauses over a right table
 

@@ -1,17 +1,18 @@
 -- Laws of terms: the digit of a variable, the values of the constants, a term's value by its kind, and the parts of a choice.
 -- Assumes nothing.
 use mathlib.Core.Path.{_≡_, sym, ap, ap₂, _∙_, fun-ext}
-use mathlib.Core.Bool.{false, not, _&&_}
+use mathlib.Core.Bool.{not, _&&_}
 use mathlib.Core.List.{List}
 use Prim.Native.Nat.{ℕ, _+_, _-_, _*_, _%_, _^_, _≤_, _<_}
 use native.Mathlib.Decide.{decLt}
 use native.Mathlib.Omega.{arith}
-use lib.Dec.{ltb}
+use lib.Dec.{ltb, eqb}
 use lib.ListN.{getD}
 use borrow.Author.Tests.{lt-ltb, le-ltb}
 use Rattle.shares.specs.Blocks.{firstOf}
 use Rattle.shares.specs.Constant.{constantLevels, bit}
 use Rattle.shares.specs.BitLaws.{bits-same, number-lt, bit-number}
+use Rattle.shares.specs.Parts.{fullPart}
 use Rattle.words.specs.Clause.{clauseTest, allClauses, position, termValue}
 use Rattle.words.specs.Choices.{valuesAt, allPass, clauseFails, allPassBut}
 use Rattle.shares.specs.BitParts.{bit-mod, bit-low, bit-high}
@@ -64,14 +65,14 @@ module _ (n m values z t : ℕ) where
   unfolding termValue
   value-constant h k = rw (le-ltb t (n + m) h, le-ltb t 32 k)
 
-  pub value-none : n + m ≤ t → t < 32 → termValue n m values z t ≡ false
+  pub value-none : n + m ≤ t → t < 32 → termValue n m values z t ≡ eqb t fullPart
   unfolding termValue
   value-none h k = rw (le-ltb t (n + m) h, lt-ltb t 32 k)
 
--- no constant depends on the choice
-pub value-fixed : (n m values z z′ t : ℕ) → n + m ≤ t → termValue n m values z t ≡ termValue n m values z′ t
+-- what is no variable depends neither on the choice nor on how many variables there are
+pub value-fixed : (n m n′ m′ values z z′ t : ℕ) → n + m ≤ t → n′ + m′ ≤ t → termValue n m values z t ≡ termValue n′ m′ values z′ t
 unfolding termValue
-value-fixed n m values z z′ t h = rw (le-ltb t (n + m) h)
+value-fixed n m n′ m′ values z z′ t h h′ = rw (le-ltb t (n + m) h, le-ltb t (n′ + m′) h′)
 
 -- ---- a choice is a free choice x and an own choice y
 
@@ -97,7 +98,7 @@ module _ (n m values z : ℕ) where
       go (yes l) =
           value-variable n m values z t l ∙ sym (bit-mod z (n + m) (position n m t) (position-lt n m t l))
           ∙ sym (value-variable n m values (z % 2 ^ (n + m)) t l)
-      go (no g) = value-fixed n m values z (z % 2 ^ (n + m)) t (omega arith)
+      go (no g) = value-fixed n m n m values z (z % 2 ^ (n + m)) t (omega arith) (omega arith)
 
   pub values-mod : termValue n m values z ≡ termValue n m values (z % 2 ^ (n + m))
   values-mod = fun-ext value-mod

@@ -1,32 +1,18 @@
 // Clauses at one leaf for 64 choices of Boolean values at a time: bit i of word w is choice 64 * w + i.
 use basics::CLAUSE_BYTES;
+use basics::FULL_PART;
 ghost use mathlib.Core.Path.{_≡_};
-ghost use mathlib.Core.Bool.{Bool·beq, _&&_, not};
+ghost use mathlib.Core.Bool.{_&&_, not};
 ghost use Prim.Native.Nat.{ℕ, _+_, _-_, _*_, _^_, _<_, _≤_};
 ghost use lib.Dec.{ltb};
 ghost use lib.ListN.{length, getD};
 ghost use Rattle.shares.specs.Below.{firstBelow};
 ghost use Rattle.shares.specs.Constant.{bit};
-ghost use Rattle.shares.specs.Tree.{joins};
 ghost use Rattle.words.specs.Clause.{testValue, clauseTest, allClauses, position, Clauses};
 ghost use Rattle.words.specs.Choices.{wordCount, valuesAt};
 ghost use Rattle.words.specs.Table.{Terms, Changed, Within};
 
-// Bit i of the result is the test of a join at the bits i of a, b and c.
-fn join_word(a: u64, b: u64, c: u64) -> u64
-    ensures { λ r. ⌜ ((i : ℕ) → i < 64 → bit r i ≡ joins (bit a i) (bit b i) (bit c i)) ⌝ }
-{
-    !((a & b) | ((a | b) ^ c))
-}
-
-// Bit i of the result says whether the bits i of a and b are equal.
-fn equal_word(a: u64, b: u64) -> u64
-    ensures { λ r. ⌜ ((i : ℕ) → i < 64 → bit r i ≡ Bool·beq (bit a i) (bit b i)) ⌝ }
-{
-    !(a ^ b)
-}
-
-// The word of the term whose number is byte `at`.
+// The word of the part whose number is byte `at`.
 fn term_word(terms: &[u64; 64], clauses: &[u8; CLAUSE_BYTES], at: usize) -> u64
     requires { ⌜ (at < 768) × (getD (now clauses) at 0 < 64) ⌝ }
     ensures { λ r. ⌜ r ≡ getD (now (terms .entry)) (getD (now (clauses .entry)) at 0) 0 ⌝ }
@@ -35,19 +21,19 @@ fn term_word(terms: &[u64; 64], clauses: &[u8; CLAUSE_BYTES], at: usize) -> u64
     terms[t]
 }
 
-// Bit i of the result is the test with this number at the bits i of a, b and c.
-fn test_word(test: u8, a: u64, b: u64, c: u64) -> u64
-    ensures { λ r. ⌜ ((i : ℕ) → i < 64 → bit r i ≡ testValue test (bit a i) (bit b i) (bit c i)) ⌝ }
+// Bit i of the result is the test with this form at the bits i of a, b and c.
+fn test_word(form: u8, a: u64, b: u64, c: u64) -> u64
+    ensures { λ r. ⌜ ((i : ℕ) → i < 64 → bit r i ≡ testValue form (bit a i) (bit b i) (bit c i)) ⌝ }
 {
-    let joined = join_word(a, b, c);
-    let equal = equal_word(a, b);
-    if test == 0 {
-        return joined;
+    let overlap = a & b;
+    let off = overlap | ((a | b) ^ c);
+    if form == 0 {
+        return !off;
     }
-    equal
+    !overlap
 }
 
-// Bit i of the result is the test of the clause at byte `at`, where term t has bit i of terms[t] for its value.
+// Bit i of the result is the test of the clause at byte `at`, where part t has bit i of terms[t] for its value.
 pub fn clause_word(terms: &[u64; 64], clauses: &[u8; CLAUSE_BYTES], at: usize) -> u64
     requires { ⌜ Clauses (now clauses) at 1 ⌝ }
     ensures { λ r. ⌜ ((i : ℕ) → i < 64 → bit r i ≡ clauseTest (now (clauses .entry)) (λ t. bit (getD (now (terms .entry)) t 0) i) at) ⌝ }
@@ -58,7 +44,7 @@ pub fn clause_word(terms: &[u64; 64], clauses: &[u8; CLAUSE_BYTES], at: usize) -
     test_word(clauses[at], a, b, c)
 }
 
-// The bits of x at which the clause at byte `at` fails, where term t has bit i of terms[t] for its value.
+// The bits of x at which the clause at byte `at` fails, where part t has bit i of terms[t] for its value.
 pub fn failing_word(terms: &[u64; 64], clauses: &[u8; CLAUSE_BYTES], at: usize, x: u64) -> u64
     requires { ⌜ Clauses (now clauses) at 1 ⌝ }
     ensures { λ r. ⌜ ((i : ℕ) → i < 64 → bit r i ≡ (bit x i && not (clauseTest (now (clauses .entry)) (λ t. bit (getD (now (terms .entry)) t 0) i) at))) ⌝ }
@@ -66,7 +52,7 @@ pub fn failing_word(terms: &[u64; 64], clauses: &[u8; CLAUSE_BYTES], at: usize, 
     x & !clause_word(terms, clauses, at)
 }
 
-// The bits of x at which all clauses of the section pass, where term t has bit i of terms[t] for its value.
+// The bits of x at which all clauses of the section pass, where part t has bit i of terms[t] for its value.
 pub fn section_word(
     terms: &[u64; 64],
     clauses: &[u8; CLAUSE_BYTES],
@@ -175,12 +161,14 @@ fn set_variables(n: usize, m: usize, from: usize, w: usize, terms: &mut [u64])
     }
 }
 
-// Makes the table of terms at word 0 of a table that is empty, where all constants are 0.
+// Makes the table of terms at word 0 of a table that is empty, where all constants are 0. The part that is always full has its word from here on.
 pub fn start_terms(n: usize, m: usize, terms: &mut [u64])
     requires { ⌜ (n + m ≤ 12) × (length (now terms) ≡ 64) × ((t : ℕ) → t < 64 → getD (now terms) t 0 ≡ 0) ⌝ }
     ensures { λ r. ⌜ Terms n m 0 0 (now (terms .exit)) ⌝ }
 {
     set_variables(n, m, 0, 0, terms);
+    let full = basics::index(FULL_PART);
+    terms[full] = spread(true);
 }
 
 // Takes the table of terms from any word to word w: only the digits above the sixth change.
