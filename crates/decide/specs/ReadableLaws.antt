@@ -1,27 +1,27 @@
 -- What stands for a question can be read, and has the question's height. Assumes nothing.
-use mathlib.Core.Path.{_≡_, refl, sym, ap, ap₂}
-use mathlib.Core.Bool.{Bool, true, false, cond, Bool·beq}
+use mathlib.Core.Path.{_≡_, refl, sym, ap}
+use mathlib.Core.Bool.{Bool, true, false, cond}
 use mathlib.Core.List.{List}
+use mathlib.Core.Logic.{_⊎_, inl, inr}
 use Prim.Native.Nat.{ℕ, _+_, _-_, _*_, _/_, _%_, _≤_, _<_}
 use native.Mathlib.Nat.{mod-lt}
 use native.Mathlib.Decide.{ℕ-discrete}
 use native.Mathlib.Omega.{arith}
-use lib.Dec.{T, ltb, eqb, ltb→lt}
+use lib.Dec.{T, ltb, ltb→lt}
 use lib.ListN.{getD, take}
 use borrow.Author.Tests.{ltb-false}
-use Rattle.shares.specs.Test.{and-left, and-right}
-use Rattle.shares.specs.Tree.{joins}
+use Rattle.shares.specs.Parts.{emptyPart, fullPart}
 use Rattle.shares.specs.Constant.{constantLevels}
 use Rattle.systems.specs.Questions.{Question, questionHeight, tallestConstant}
 use Rattle.systems.specs.Heights.{tallest-low}
-use Rattle.words.specs.Clause.{testValue, clauseTest, Clauses}
-use Rattle.format.specs.Format.{names, allNamed}
-use Rattle.format.specs.Stored.{sectionStart, Stored, countOf, StoredClause, Stands}
+use Rattle.words.specs.Clause.{clauseTest, Clauses}
+use Rattle.format.specs.Format.{names}
+use Rattle.format.specs.Stored.{sectionStart, fourAt, Stored, countOf, partNamed, StoredClause, Stands}
+use Rattle.format.specs.KeepingLaws.{part-cases}
 use Rattle.format.specs.SectionLaws.{section-room, variables-le}
 use Rattle.format.specs.Callers.{bytes-small}
 use Rattle.format.specs.declared.Section.{Section}
 use Rattle.format.specs.declared.Section.the-variants.{FirstPositive, FirstDisequation, SecondPositive, SecondDisequation}
-use Rattle.format.specs.declared.Test.the-variants.{Join, Equality}
 use Rattle.beside.specs.Beside.{ReadsFree, Readable}
 
 -- one of four bytes
@@ -36,7 +36,7 @@ four l p r m b₀ b₁ b₂ b₃ = pick (ℕ-discrete r 0) (ℕ-discrete r 1) (�
 
 -- ---- a clause reads the terms that it names, and no others
 
-module _ (n k : ℕ) (x y : ℕ → Bool) (low : (t : ℕ) → t < n → x t ≡ y t) (high : (t : ℕ) → 32 ≤ t → x t ≡ y t) where
+module _ (n k : ℕ) (x y : ℕ → Bool) (low : (t : ℕ) → t < n → x t ≡ y t) (high : (t : ℕ) → 12 ≤ t → x t ≡ y t) where
   -- one that names one of n variables or a constant
   named-same : (t : ℕ) → T (names n k t) → x t ≡ y t
   unfolding names
@@ -44,21 +44,21 @@ module _ (n k : ℕ) (x y : ℕ → Bool) (low : (t : ℕ) → t < n → x t ≡
     where
       go : (v : Bool) → ltb t 32 ≡ v → T (cond v (ltb t n) (ltb (t - 32) k)) → x t ≡ y t
       go true e d = low t (ltb→lt t n d)
-      go false e d = high t (ltb-false t 32 e)
+      go false e d = high t (omega (arith, ltb-false t 32 e))
 
-  -- the third only of a join
-  test-same : (v : Bool) (a b c : ℕ) → T (allNamed n k (cond v Join Equality) a b c)
-      → cond v (joins (x a) (x b) (x c)) (Bool·beq (x a) (x b)) ≡ cond v (joins (y a) (y b) (y c)) (Bool·beq (y a) (y b))
-  test-same true a b c t =
-      let u = and-right (names n k a) _ t in
-      rw (named-same a (and-left (names n k a) _ t), named-same b (and-left (names n k b) _ u), named-same c (and-right (names n k b) _ u))
-  test-same false a b c t =
-      let u = and-right (names n k a) _ t in
-      ap₂ Bool·beq (named-same a (and-left (names n k a) _ t)) (named-same b (and-left (names n k b) _ u))
+  -- or that is no term's
+  part-same : (t : ℕ) → T (partNamed n k t) → x t ≡ y t
+  part-same t d = go (part-cases n k t d)
+    where
+      go : (t ≡ emptyPart) ⊎ ((t ≡ fullPart) ⊎ T (names n k t)) → x t ≡ y t
+      go (inl e) = high t (omega arith)
+      go (inr (inl e)) = high t (omega arith)
+      go (inr (inr u)) = named-same t u
 
-reads-free : (l : List ℕ) (n k at : ℕ) → StoredClause n k (getD l at 0) (getD l (at + 1) 0) (getD l (at + 2) 0) (getD l (at + 3) 0) → ReadsFree l n at
-unfolding clauseTest testValue
-reads-free l n k at C x y low high = test-same n k x y low high (eqb (getD l at 0) 0) _ _ _ (C .named)
+reads-free : (l : List ℕ) (n k at : ℕ) → StoredClause n k (fourAt l at) → ReadsFree l n at
+unfolding clauseTest
+reads-free l n k at C x y low high =
+    rw (part-same n k x y low high _ (C .first), part-same n k x y low high _ (C .second), part-same n k x y low high _ (C .sum)) refl
 
 -- ---- what stands for a question
 
@@ -69,9 +69,9 @@ module _ {kind : ℕ} (x : Stored) (q : Question) (St : Stands kind x q) where
       small : (k : ℕ) → k < 4 * countOf (x .counts) σ → getD (x .clauses) (sectionStart σ + k) 0 < 64
       small k l =
           let C = St .clauses σ (k / 4) (omega arith) in
-          let B = bytes-small _ _ _ _ _ _ C (omega (arith, variables-le (x .free) (x .own) σ, St .variables)) (omega (arith, St .constantCounted)) in
+          let B = bytes-small _ _ _ C (omega (arith, variables-le (x .free) (x .own) σ, St .variables)) (omega (arith, St .constantCounted)) in
           let e : sectionStart σ + k ≡ sectionStart σ + 4 * (k / 4) + k % 4 = omega arith in
-          rw e (four (x .clauses) (sectionStart σ + 4 * (k / 4)) (k % 4) (mod-lt k (omega arith)) (omega (arith, C .test)) (B .0) (B .1) (B .2))
+          rw e (four (x .clauses) (sectionStart σ + 4 * (k / 4)) (k % 4) (mod-lt k (omega arith)) (omega (arith, C .form)) (B .0) (B .1) (B .2))
 
   pub readable : Readable (x .clauses) (x .counts) (x .free) (x .own)
   readable = record {

@@ -5,7 +5,7 @@ use Prim.Native.Nat.{ℕ, zero, suc, _+_, _-_, _*_, _^_, _≤_, _<_}
 use native.Mathlib.Nat.{le-of-suc-le-suc, mod-eq-of-lt}
 use native.Mathlib.Omega.{arith}
 use lib.Dec.{ltb}
-use lib.ListN.{getD}
+use lib.ListN.{getD, List·getD-map}
 use borrow.Author.Tests.{ltb-true, ltb-false, le-ltb}
 use Rattle.shares.specs.Constant.{bit}
 use Rattle.leaves.specs.Choices.{Row, at, least, someChoice}
@@ -16,20 +16,21 @@ use Rattle.leaves.specs.Fixed.{fixedAt, withUnmet, withMissed}
 use Rattle.leaves.specs.Second as leaf
 use Rattle.systems.specs.Clauses.{Atom}
 use Rattle.systems.specs.Questions.{Question}
-use Rattle.systems.specs.AtLeaves.{atomAt, allAt, bothAt, firstAt, secondAt}
+use Rattle.systems.specs.AtLeaves.{readAs, testAt, atomAt, allAt, bothAt, firstAt, secondAt}
 use Rattle.words.specs.Clause.{termValue}
 use Rattle.words.specs.Choices.{allPass, clauseFails, allPassBut, someOwn}
 use Rattle.words.specs.TermLaws.{position-free, value-variable, value-free, value-own}
 use Rattle.format.specs.Format.{inSection, variablesFor}
-use Rattle.format.specs.Stored.{sectionStart, Stored, countOf, StoredClause, Stands}
+use Rattle.format.specs.Stored.{sectionStart, fourAt, Stored, countOf, StoredClause, Stands}
+use Rattle.format.specs.SectionLaws.{variables-le}
 use Rattle.format.specs.KeepingLaws.{section-count}
-use Rattle.format.specs.Callers.{atoms-at}
+use Rattle.format.specs.Callers.{tests-at}
 use Rattle.format.specs.declared.Section.{Section}
 use Rattle.format.specs.declared.Section.the-variants.{FirstPositive, FirstDisequation, SecondPositive, SecondDisequation}
 use Rattle.leaves.specs.Numbers.{numbered}
 use Rattle.leaves.specs.SameLaws.{solvable-same, fixed-same}
 use Rattle.steps.specs.Tests.{leafValues, firstMeets, firstDiffers, secondMeets, secondDiffers, specialIn, testsOf}
-use Rattle.decide.specs.StoredLaws.{row-digit, atom-same, section-same}
+use Rattle.decide.specs.StoredLaws.{row-digit, allTests, all-read, test-same, section-same}
 use Rattle.steps.specs.declared.Search.the-variants.{First, Unmet, Missed}
 
 -- what is stored, with n free and m own variables
@@ -45,19 +46,22 @@ module _ {kind : ℕ} (x : Stored) (q : Question) (St : Stands kind x q) (h : �
 
   -- the stored clauses of a section, with the question's own numbers of variables
   clause-at : (σ : Section) (i : ℕ) → i < countOf (x .counts) σ
-      → StoredClause (variablesFor (q .free) (q .own) σ) (x .defined) (getD (x .clauses) (sectionStart σ + 4 * i) 0)
-      (getD (x .clauses) (sectionStart σ + 4 * i + 1) 0) (getD (x .clauses) (sectionStart σ + 4 * i + 2) 0) (getD (x .clauses) (sectionStart σ + 4 * i + 3) 0)
+      → StoredClause (variablesFor (q .free) (q .own) σ) (x .defined) (fourAt (x .clauses) (sectionStart σ + 4 * i))
   clause-at σ i l = rw (← (St .free), ← (St .own)) (St .clauses σ i l)
 
   -- a section of the question, where variables have values X and choice z has them as digits
   module _ (b m : ℕ) (few-m : q .free + m ≤ 12) (σ : Section) (X : ℕ → Bool) (z : ℕ)
       (values : (t : ℕ) → t < variablesFor (q .free) (q .own) σ → X t ≡ termValue (q .free) m (leafValues S h b) z t) where
+    few-named : variablesFor (q .free) (q .own) σ ≤ 12
+    few-named = omega (arith, variables-le (q .free) (q .own) σ, few)
+
     all-same : allAt h (q .constants) b X (inSection q σ)
         ≡ allPass (x .clauses) (sectionStart σ) (countOf (x .counts) σ) (q .free) m (leafValues S h b) z
     unfolding allPass
     all-same =
-        ap₂ (λ k l. allAt h k b X l) (St .constants) (sym (St .sections σ))
-        ∙ section-same S h b (St .constantCounted) (q .free) m few-m (variablesFor (q .free) (q .own) σ) X z values (sectionStart σ) (countOf (x .counts) σ) (clause-at σ)
+        all-read h (q .constants) b X (inSection q σ)
+        ∙ ap₂ (λ k l. allTests h k b X l) (St .constants) (sym (St .sections σ))
+        ∙ section-same S h b (St .constantCounted) (q .free) m few-m (variablesFor (q .free) (q .own) σ) few-named X z values (sectionStart σ) (countOf (x .counts) σ) (clause-at σ)
 
     one-same : (j : ℕ) (d : Atom) → j < countOf (x .counts) σ
         → not (atomAt h (q .constants) b X (getD (inSection q σ) j d))
@@ -65,9 +69,10 @@ module _ {kind : ℕ} (x : Stored) (q : Question) (St : Stands kind x q) (h : �
     unfolding clauseFails
     one-same j d l =
         ap not
-        (ap₂ (λ k a. atomAt h k b X a) (St .constants)
-        (ap (λ k. getD k j d) (sym (St .sections σ)) ∙ atoms-at (x .clauses) (sectionStart σ) (countOf (x .counts) σ) j d l)
-        ∙ atom-same S h b (St .constantCounted) (q .free) m few-m (variablesFor (q .free) (q .own) σ) X z values (sectionStart σ + 4 * j) (clause-at σ j l))
+        (ap₂ (λ k t. testAt h k b X t) (St .constants)
+        (sym (List·getD-map readAs (inSection q σ) j d) ∙ ap (λ k. getD k j (readAs d)) (sym (St .sections σ))
+        ∙ tests-at (x .clauses) (sectionStart σ) (countOf (x .counts) σ) j (readAs d) l)
+        ∙ test-same S h b (St .constantCounted) (q .free) m few-m (variablesFor (q .free) (q .own) σ) few-named X z values (sectionStart σ + 4 * j) (clause-at σ j l))
 
   module _ (b : ℕ) (v : Row Bool (q .free)) where
     free-values : (t : ℕ) → t < q .free → at false v t ≡ termValue (q .free) 0 (leafValues S h b) (value v) t

@@ -1,15 +1,16 @@
 -- The stored clauses of a question have the tests of its atoms at the leaves. Assumes nothing.
 use mathlib.Core.Path.{_≡_, refl, sym, ap, ap₂, _∙_}
-use mathlib.Core.Bool.{Bool, true, false, cond, _&&_, Bool·beq, and-true, and-assoc}
-use mathlib.Core.List.{List, [], _∷_, _++_}
+use mathlib.Core.Bool.{Bool, true, false, not, cond, _&&_, and-true, and-assoc}
+use mathlib.Core.List.{List, [], _∷_, _++_, map}
+use mathlib.Core.Logic.{_⊎_, inl, inr}
 use Prim.Native.Nat.{ℕ, zero, suc, _+_, _-_, _*_, _^_, _≤_, _<_}
 use native.Mathlib.Nat.{le-of-suc-le-suc, not-suc-le-zero}
 use native.Mathlib.Omega.{arith}
-use lib.Dec.{T, ltb, eqb, ltb→lt}
+use lib.Dec.{T, ltb, eqb, ltb→lt, lit<}
 use lib.ListN.{getD, take}
 use lib.Seq.{getD-take}
 use borrow.Author.Tests.{lt-ltb}
-use Rattle.shares.specs.Test.{and-left, and-right}
+use Rattle.shares.specs.Parts.{emptyPart, fullPart}
 use Rattle.shares.specs.Below.{everyBelow, one}
 use Rattle.shares.specs.Blocks.{firstOf}
 use Rattle.shares.specs.Tree.{joins}
@@ -19,15 +20,16 @@ use Rattle.leaves.specs.Choices.{Row, nil, cons, at}
 use Rattle.leaves.specs.RowNumbers.{value}
 use Rattle.leaves.specs.ChoiceLaws.{value-lt}
 use Rattle.systems.specs.Clauses.{variable, constant, Atom, Constants}
-use Rattle.systems.specs.AtLeaves.{termAt, atomAt, allAt}
+use Rattle.systems.specs.AtLeaves.{LeafTest, gives, apart, readAs, termAt, partAt, testAt, atomAt, allAt}
 use Rattle.words.specs.Clause.{testValue, clauseTest, allClauses, termValue}
 use Rattle.words.specs.Choices.{valuesAt}
 use Rattle.shares.specs.BitParts.{bit-low, bit-high}
 use Rattle.shares.specs.BelowLaws.{every-more}
-use Rattle.words.specs.TermLaws.{value-constant}
-use Rattle.format.specs.Format.{termOf, names, allNamed, atomOf}
-use Rattle.format.specs.declared.Test.the-variants.{Join, Equality}
-use Rattle.format.specs.Stored.{storedAtom, atomsOf, Stored, StoredClause}
+use Rattle.words.specs.TermLaws.{value-constant, value-none}
+use Rattle.format.specs.Format.{termOf, names}
+use Rattle.format.specs.declared.LeafJoin.{LeafJoin}
+use Rattle.format.specs.Stored.{partOf, testOf, fourAt, testsAt, Stored, partNamed, StoredClause}
+use Rattle.format.specs.KeepingLaws.{part-of, empty-part, full-part, part-cases}
 use Rattle.steps.specs.Tests.{leafValues}
 
 -- ---- a row's values are the digits of its number
@@ -45,12 +47,22 @@ row-digit (suc n) (cons b v) zero l =
 row-digit (suc n) (cons b v) (suc t) l =
     row-digit n v t (le-of-suc-le-suc l) ∙ sym (ap (bit (one b * 2 ^ n + value v)) (omega arith) ∙ bit-low n (one b) (value v) (value-lt n v) (n - 1 - t) (omega arith))
 
--- ---- atoms in a list
+-- ---- tests in a list
 
-all-append : (h : ℕ) (cs : Constants) (b : ℕ) (X : ℕ → Bool) (l : List Atom) (a : Atom) → allAt h cs b X (l ++ (a ∷ [])) ≡ (allAt h cs b X l && atomAt h cs b X a)
+-- all of some tests
+abbrev pub allTests : ℕ → Constants → ℕ → (ℕ → Bool) → List LeafTest → Bool
+allTests h cs b X [] = true
+allTests h cs b X (t ∷ l) = testAt h cs b X t && allTests h cs b X l
+
+-- all of some atoms, as they read
+pub all-read : (h : ℕ) (cs : Constants) (b : ℕ) (X : ℕ → Bool) (l : List Atom) → allAt h cs b X l ≡ allTests h cs b X (map readAs l)
 unfolding allAt
-all-append h cs b X [] a = and-true (atomAt h cs b X a)
-all-append h cs b X (x ∷ l) a = ap (λ y. atomAt h cs b X x && y) (all-append h cs b X l a) ∙ sym (and-assoc (atomAt h cs b X x) (allAt h cs b X l) (atomAt h cs b X a))
+all-read h cs b X [] = refl
+all-read h cs b X (a ∷ l) = ap (λ y. atomAt h cs b X a && y) (all-read h cs b X l)
+
+all-append : (h : ℕ) (cs : Constants) (b : ℕ) (X : ℕ → Bool) (l : List LeafTest) (t : LeafTest) → allTests h cs b X (l ++ (t ∷ [])) ≡ (allTests h cs b X l && testAt h cs b X t)
+all-append h cs b X [] t = and-true (testAt h cs b X t)
+all-append h cs b X (x ∷ l) t = ap (λ y. testAt h cs b X x && y) (all-append h cs b X l t) ∙ sym (and-assoc (testAt h cs b X x) (allTests h cs b X l) (testAt h cs b X t))
 
 -- ---- terms
 
@@ -65,7 +77,7 @@ module _ (S : Stored) (h b : ℕ) (few : S .defined ≤ 32) where
   leaf-bit i l = bit-number 64 _ i (omega arith) ∙ rw (lt-ltb i (S .defined) l)
 
   -- variables have the values X in the model, and choice z has them as digits
-  module _ (n m : ℕ) (few-variables : n + m ≤ 12) (k : ℕ) (X : ℕ → Bool) (z : ℕ)
+  module _ (n m : ℕ) (few-variables : n + m ≤ 12) (k : ℕ) (few-named : k ≤ 12) (X : ℕ → Bool) (z : ℕ)
       (values : (t : ℕ) → t < k → X t ≡ termValue n m (leafValues S h b) z t) where
     term-same : (t : ℕ) → T (names k (S .defined) t) → n + m ≤ 32 → termAt h (storedConstants S) b X (termOf t) ≡ termValue n m (leafValues S h b) z t
     unfolding termOf names termAt
@@ -81,46 +93,39 @@ module _ (S : Stored) (h b : ℕ) (few : S .defined ≤ 32) where
             ∙ sym (leaf-bit (t - 32) l)
             ∙ sym (value-constant n m (leafValues S h b) z t (omega arith) g)
 
-    -- a stored clause has the test of its atom
-    pub atom-same : (at : ℕ) → StoredClause k (S .defined) (getD (S .clauses) at 0) (getD (S .clauses) (at + 1) 0) (getD (S .clauses) (at + 2) 0) (getD (S .clauses) (at + 3) 0)
-        → atomAt h (storedConstants S) b X (storedAtom (S .clauses) at) ≡ clauseTest (S .clauses) (termValue n m (leafValues S h b) z) at
-    unfolding storedAtom clauseTest testValue atomAt
-    atom-same at C = go (eqb (getD (S .clauses) at 0) 0) refl (C .named)
+    -- a part's byte has the part's value
+    part-same : (t : ℕ) → T (partNamed k (S .defined) t) → partAt h (storedConstants S) b X (partOf t) ≡ termValue n m (leafValues S h b) z t
+    unfolding partAt
+    part-same t d = go (part-cases k (S .defined) t d)
       where
-        A : ℕ
-        A = getD (S .clauses) (at + 1) 0
+        go : (t ≡ emptyPart) ⊎ ((t ≡ fullPart) ⊎ T (names k (S .defined) t)) → partAt h (storedConstants S) b X (partOf t) ≡ termValue n m (leafValues S h b) z t
+        go (inl e) = rw (e, empty-part) (sym (value-none n m (leafValues S h b) z emptyPart (omega arith) (lit< tt)))
+        go (inr (inl e)) = rw (e, full-part) (sym (value-none n m (leafValues S h b) z fullPart (omega arith) (lit< tt)))
+        go (inr (inr u)) = rw (part-of k (S .defined) t few-named u) (term-same t u (omega arith))
 
-        A′ : ℕ
-        A′ = getD (S .clauses) (at + 2) 0
-
-        A″ : ℕ
-        A″ = getD (S .clauses) (at + 3) 0
+    -- a stored clause has the test that its bytes stand for
+    pub test-same : (at : ℕ) → StoredClause k (S .defined) (fourAt (S .clauses) at)
+        → testAt h (storedConstants S) b X (testOf (fourAt (S .clauses) at)) ≡ clauseTest (S .clauses) (termValue n m (leafValues S h b) z) at
+    unfolding testOf clauseTest testValue testAt
+    test-same at C = go (eqb (getD (S .clauses) at 0) 0)
+      where
+        j : LeafJoin
+        j = fourAt (S .clauses) at
 
         val : ℕ → Bool
         val = termValue n m (leafValues S h b) z
 
-        go : (v : Bool) → eqb (getD (S .clauses) at 0) 0 ≡ v → T (allNamed k (S .defined) (cond v Join Equality) A A′ A″)
-            → atomAt h (storedConstants S) b X (atomOf (cond v Join Equality) A A′ A″) ≡ cond v (joins (val A) (val A′) (val A″)) (Bool·beq (val A) (val A′))
-        go true e t =
-            let u = and-right (names k (S .defined) A) _ t in
-            rw (
-              term-same A (and-left (names k (S .defined) A) _ t) (omega arith),
-              term-same A′ (and-left (names k (S .defined) A′) _ u) (omega arith),
-              term-same A″ (and-right (names k (S .defined) A′) _ u) (omega arith),
-            )
-        go false e t =
-            let u = and-right (names k (S .defined) A) _ t in
-            rw (term-same A (and-left (names k (S .defined) A) _ t) (omega arith), term-same A′ (and-left (names k (S .defined) A′) _ u) (omega arith))
+        go : (v : Bool) → testAt h (storedConstants S) b X (cond v (gives (partOf (j .first)) (partOf (j .second)) (partOf (j .sum))) (apart (partOf (j .first)) (partOf (j .second))))
+            ≡ cond v (joins (val (j .first)) (val (j .second)) (val (j .sum))) (not (val (j .first) && val (j .second)))
+        go true = rw (part-same (j .first) (C .first), part-same (j .second) (C .second), part-same (j .sum) (C .sum)) refl
+        go false = rw (part-same (j .first) (C .first), part-same (j .second) (C .second)) refl
 
     -- and so does a section
-    pub section-same : (start count : ℕ)
-        → ((i : ℕ) → i < count
-        → StoredClause k (S .defined) (getD (S .clauses) (start + 4 * i) 0) (getD (S .clauses) (start + 4 * i + 1) 0)
-        (getD (S .clauses) (start + 4 * i + 2) 0) (getD (S .clauses) (start + 4 * i + 3) 0))
-        → allAt h (storedConstants S) b X (atomsOf (S .clauses) start count) ≡ allClauses (S .clauses) (termValue n m (leafValues S h b) z) start count
-    unfolding atomsOf allClauses allAt everyBelow
+    pub section-same : (start count : ℕ) → ((i : ℕ) → i < count → StoredClause k (S .defined) (fourAt (S .clauses) (start + 4 * i)))
+        → allTests h (storedConstants S) b X (testsAt (S .clauses) start count) ≡ allClauses (S .clauses) (termValue n m (leafValues S h b) z) start count
+    unfolding testsAt allClauses everyBelow
     section-same start zero C = refl
     section-same start (suc count) C =
-        all-append h (storedConstants S) b X (atomsOf (S .clauses) start count) (storedAtom (S .clauses) (start + 4 * count))
-        ∙ ap₂ _&&_ (section-same start count (λ i l. C i (omega arith))) (atom-same (start + 4 * count) (C count (omega arith)))
+        all-append h (storedConstants S) b X (testsAt (S .clauses) start count) (testOf (fourAt (S .clauses) (start + 4 * count)))
+        ∙ ap₂ _&&_ (section-same start count (λ i l. C i (omega arith))) (test-same (start + 4 * count) (C count (omega arith)))
         ∙ sym (every-more count (λ i. clauseTest (S .clauses) (termValue n m (leafValues S h b) z) (start + 4 * i)))

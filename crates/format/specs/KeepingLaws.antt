@@ -148,7 +148,7 @@ module _ (l : List ℕ) (i : ℕ) (w : LeafJoin) where
 -- ---- the parts of a stored clause
 
 -- a term that names something defined is no part of its own kind, since there are at most 12 variables
-part-of : (n k t : ℕ) → n ≤ mostVariables → T (names n k t) → partOf t ≡ of (termOf t)
+pub part-of : (n k t : ℕ) → n ≤ mostVariables → T (names n k t) → partOf t ≡ of (termOf t)
 unfolding names partOf
 part-of n k t hn h = pick (ltb t 0x20) refl h
   where
@@ -157,11 +157,11 @@ part-of n k t hn h = pick (ltb t 0x20) refl h
     pick true e u = let l : t < n = ltb→lt t n u in rw (ne-eqb t emptyPart (omega arith), ne-eqb t fullPart (omega arith)) refl
     pick false e u = let l : 0x20 ≤ t = ltb-false t 0x20 e in rw (ne-eqb t emptyPart (omega arith), ne-eqb t fullPart (omega arith)) refl
 
-empty-part : partOf emptyPart ≡ always false
+pub empty-part : partOf emptyPart ≡ always false
 unfolding partOf
 empty-part = refl
 
-full-part : partOf fullPart ≡ always true
+pub full-part : partOf fullPart ≡ always true
 unfolding partOf
 full-part = refl
 
