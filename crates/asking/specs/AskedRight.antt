@@ -9,8 +9,11 @@ use lib.ListN.{length}
 use Rattle.shares.specs.Test.{is-true}
 use Rattle.shares.specs.Tree.{height}
 use Rattle.shares.specs.TreeLaws.{share-path}
-use Rattle.systems.specs.Questions.{Question, WellFormed, questionHeight}
-use Rattle.systems.specs.Answers.{shows, heightGiven}
+use Rattle.leaves.specs.Heights.{anyHeight}
+use Rattle.systems.specs.Questions.{Kind, satisfiability, entailment, Question, WellFormed, questionHeight}
+use Rattle.systems.specs.Solutions.{Solution}
+use Rattle.systems.specs.Answers.{unsatisfied, vacuous, verdict, reason, shows, heightGiven}
+use Rattle.systems.specs.PolicyLaws.{no-solution}
 use Rattle.systems.specs.Decide.{decide, shownAt}
 use Rattle.systems.specs.ShownLaws.{shown-past, shown-low, shown-fixed}
 use Rattle.systems.specs.Heights.{height-rule, exact, verdict-exact}
@@ -20,7 +23,7 @@ use Rattle.rows.specs.RowLaws.{filled-tree, filled-zero}
 use Rattle.asking.specs.Asking.{Asked, turnedAway, answered, askedWith, refusalOutcome, outcomeOf, shownTrees, answerAfter, workAfter}
 use Rattle.asking.specs.AskingLaws.{granted, height-low}
 use Rattle.asking.specs.declared.Outcome.{Outcome}
-use Rattle.asking.specs.Exact.{Exact}
+use Rattle.asking.specs.Exact.{WithoutSolution, Exact}
 use Rattle.asking.specs.Demand3.{rowShares, RowsShow, Demand3}
 use Rattle.asking.specs.Given.{Given}
 
@@ -65,7 +68,12 @@ module _ (s answer work : List ℕ) (q : Question) (e : askedWith s answer work 
     not-refused = (refl, refl);
     yes-exact = verdict-exact q formed .0;
     no-exact = verdict-exact q formed .1;
+    never-held = λ a b W. without (q .kind) refl (no-solution anyHeight q a b W);
   }
+    where
+      without : (k : Kind) → k ≡ q .kind → ¬ Solution anyHeight q → WithoutSolution k (outcomeOf (answered q))
+      without satisfiability e n = ap verdict (exact q formed unsatisfied .0 (e, n))
+      without entailment e n = let d = exact q formed vacuous .0 (e, n) in (ap verdict d, ap reason d)
 
   pub demand-3 : Demand3 q (outcomeOf (answered q)) (answerAfter (answered q) answer)
   demand-3 = record {

@@ -2,7 +2,7 @@
 -- for every height from h up. Assumes nothing.
 use mathlib.Core.Path.{_≡_, refl, sym, ap, _∙_}
 use mathlib.Core.Bool.{Bool, true, false, not}
-use mathlib.Core.List.{List, [], _∷_}
+use mathlib.Core.List.{List, [], _∷_, map}
 use mathlib.Core.Logic.{_↔_}
 use mathlib.Core.Option.{some}
 use Prim.Native.Nat.{ℕ, _^_, _≤_, _<_, zero-le}
@@ -40,6 +40,22 @@ fullTwice = record {
 full-twice-denied : firstAt 0 fullTwice .dis 0 0 nil ≡ true
 unfolding disequations termAt partAt testAt joins joinLeaf bit
 full-twice-denied = refl
+
+-- ---- another: at one leaf, of a full and of an empty share, what each of the atoms without a third term reads as
+
+abbrev fullAndEmpty : Constants
+fullAndEmpty = record { levels = 0; numbers = 1 ∷ 0 ∷ [] }
+
+abbrev passesThere : Atom → Bool
+passesThere = atomAt 0 fullAndEmpty 0 (λ v. false)
+
+read-at-a-leaf : (map (λ a. passesThere (isFull (constant a))) (0 ∷ 1 ∷ []) ≡ true ∷ false ∷ [])
+    × (map (λ a. passesThere (isEmpty (constant a))) (0 ∷ 1 ∷ []) ≡ false ∷ true ∷ [])
+    × (map (λ a. passesThere (equal (constant 0) (constant a))) (0 ∷ 1 ∷ []) ≡ true ∷ false ∷ [])
+    × (map (λ a. passesThere (together (constant 0) (constant a))) (0 ∷ 1 ∷ []) ≡ false ∷ true ∷ [])
+    × (map (λ a. passesThere (together (constant 1) (constant a))) (0 ∷ 1 ∷ []) ≡ true ∷ true ∷ [])
+unfolding termAt partAt testAt joins joinLeaf bit
+read-at-a-leaf = (refl, refl, refl, refl, refl)
 
 -- ---- what a test says of trees
 
