@@ -8,7 +8,7 @@ use format::Shape;
 use format::Test;
 ghost use mathlib.Core.Path.{_≡_};
 ghost use Rattle.format.specs.Format.{entryOf, termCount, operands};
-ghost use Rattle.format.specs.Stored.{joined, joinFor};
+ghost use Rattle.format.specs.Stored.{four, joinFor};
 
 pub fn entry_of(byte: u8) -> Entry
     ensures { λ r. ⌜ r ≡ entryOf byte ⌝ }
@@ -59,11 +59,11 @@ pub fn operand_count(shape: Shape) -> usize
     }
 }
 
-fn joined(first: u8, second: u8, sum: u8) -> LeafJoin
-    ensures { λ r. ⌜ r ≡ joined first second sum ⌝ }
+fn four(form: u8, first: u8, second: u8, sum: u8) -> LeafJoin
+    ensures { λ r. ⌜ r ≡ four form first second sum ⌝ }
 {
     LeafJoin {
-        form: 0,
+        form,
         first,
         second,
         sum,
@@ -75,15 +75,10 @@ pub fn join_for(test: Test, a: u8, b: u8, c: u8) -> LeafJoin
     ensures { λ r. ⌜ r ≡ joinFor test a b c ⌝ }
 {
     match test {
-        Test::Join => joined(a, b, c),
-        Test::Equality => joined(a, EMPTY_PART, b),
-        Test::Full => joined(a, EMPTY_PART, FULL_PART),
-        Test::Empty => joined(a, EMPTY_PART, EMPTY_PART),
-        Test::Together => LeafJoin {
-            form: 1,
-            first: a,
-            second: b,
-            sum: EMPTY_PART,
-        },
+        Test::Join => four(0, a, b, c),
+        Test::Equality => four(0, a, EMPTY_PART, b),
+        Test::Full => four(0, a, EMPTY_PART, FULL_PART),
+        Test::Empty => four(0, a, EMPTY_PART, EMPTY_PART),
+        Test::Together => four(1, a, b, EMPTY_PART),
     }
 }

@@ -38,17 +38,17 @@ sectionNumber SecondDisequation = 3
 
 -- ---- a clause in four bytes: how it reads as a join at one leaf
 
--- "the first part join the second is the third"
-abbrev pub joined : ℕ → ℕ → ℕ → LeafJoin
-joined p q r = record { form = 0; first = p; second = q; sum = r }
+-- its form, its two parts and their sum; form 0: "the first part join the second is the sum"; form 1: the two do not overlap, and no sum is asked
+abbrev pub four : ℕ → ℕ → ℕ → ℕ → LeafJoin
+four f p q r = record { form = f; first = p; second = q; sum = r }
 
--- how each test reads, with the bytes of its terms; two shares that may be held together do not overlap, and no sum is asked
+-- how each test reads, with the bytes of its terms
 abbrev pub joinFor : Test → ℕ → ℕ → ℕ → LeafJoin
-joinFor Join a b c = joined a b c
-joinFor Equality a b c = joined a emptyPart b
-joinFor Full a b c = joined a emptyPart fullPart
-joinFor Empty a b c = joined a emptyPart emptyPart
-joinFor Together a b c = record { form = 1; first = a; second = b; sum = emptyPart }
+joinFor Join a b c = four 0 a b c
+joinFor Equality a b c = four 0 a emptyPart b
+joinFor Full a b c = four 0 a emptyPart fullPart
+joinFor Empty a b c = four 0 a emptyPart emptyPart
+joinFor Together a b c = four 1 a b emptyPart
 
 -- the part that a byte stands for
 unfoldable pub partOf : ℕ → Part
@@ -72,7 +72,7 @@ sectionStart SecondDisequation = 640
 
 -- the four bytes that start at an offset
 abbrev pub fourAt : List ℕ → ℕ → LeafJoin
-fourAt l i = record { form = getD l i 0; first = getD l (i + 1) 0; second = getD l (i + 2) 0; sum = getD l (i + 3) 0 }
+fourAt l i = four (getD l i 0) (getD l (i + 1) 0) (getD l (i + 2) 0) (getD l (i + 3) 0)
 
 -- the tests of the n clauses that start at an offset, in order
 unfoldable pub testsAt : List ℕ → ℕ → ℕ → List LeafTest

@@ -4,7 +4,7 @@ use mathlib.Core.List.{List, [], _∷_, _++_, map}
 use Prim.Native.Nat.{ℕ, zero, suc}
 use lib.ListN.{replicate}
 use Rattle.shares.specs.Constant.{constantLevels, number}
-use Rattle.systems.specs.Clauses.{variable, constant, joined, equal, positive, negated, positives, disequations}
+use Rattle.systems.specs.Clauses.{variable, constant, joined, equal, isFull, isEmpty, together, positive, negated, positives, disequations}
 use Rattle.systems.specs.Questions.{Question, satisfiability, entailment}
 use Rattle.format.specs.Format.{Result, refused, accepted, entryOf, commandOf, wholeAt, readAt, termOf, names, fault, taken, ended, turn, run, headFits, opened, headOf, read}
 use Rattle.format.specs.Stored.{clauseBytes, readingOf, writtenBy, clausesAfter}
@@ -55,10 +55,25 @@ entailsQuestion = record {
   second = positive (equal (variable 1) (variable 0)) ∷ negated (joined (variable 0) (variable 1) (constant 0)) ∷ [];
 }
 
+-- a writer, a reader, and the two held together, in each system
+abbrev policies : List ℕ
+policies = both ++ (0x30 ∷ 0x00 ∷ 0x31 ∷ 0x00 ∷ 0x32 ∷ 0x00 ∷ 0x00 ∷ 0x38 ∷ 0x01 ∷ 0x39 ∷ 0x00 ∷ 0x3A ∷ 0x00 ∷ 0x01 ∷ 0x00 ∷ [])
+
+abbrev policiesQuestion : Question
+policiesQuestion = record {
+  kind = entailment;
+  free = 1;
+  own = 1;
+  constants = record { levels = constantLevels; numbers = [] };
+  first = positive (isFull (variable 0)) ∷ negated (isEmpty (variable 0)) ∷ positive (together (variable 0) (variable 0)) ∷ [];
+  second = positive (isFull (variable 1)) ∷ negated (isEmpty (variable 0)) ∷ positive (together (variable 0) (variable 1)) ∷ [];
+}
+
 pub table : List Worked
 table =
     gives example (accepted exampleQuestion)
     ∷ gives entails (accepted entailsQuestion)
+    ∷ gives policies (accepted policiesQuestion)
     -- 1: no first byte; not 01, though its operands are cut short
     ∷ gives [] (refused 1 0)
     ∷ gives (0x03 ∷ 0x00 ∷ []) (refused 1 0)
@@ -68,12 +83,18 @@ table =
     -- 3: an unknown byte, whatever follows it
     ∷ gives (alone ++ (0x02 ∷ [])) (refused 3 4)
     ∷ gives (alone ++ (0x14 ∷ 0x00 ∷ 0x00 ∷ 0x00 ∷ [])) (refused 3 4)
+    ∷ gives (alone ++ (0x33 ∷ 0x00 ∷ [])) (refused 3 4)
+    ∷ gives (both ++ (0x3B ∷ 0x00 ∷ 0x00 ∷ [])) (refused 3 4)
     -- 2, cut short: before 5, 4 (twice), 9 and 8
     ∷ gives (0x01 ∷ 0x02 ∷ 0x0D ∷ []) (refused 2 0)
     ∷ gives (alone ++ (0x01 ∷ 0x00 ∷ 0x01 ∷ [])) (refused 2 4)
     ∷ gives (alone ++ itself ++ (0x03 ∷ 0x00 ∷ 0x00 ∷ 0x00 ∷ [])) (refused 2 7)
     ∷ gives (alone ++ (0x20 ∷ 0x00 ∷ 0x00 ∷ [])) (refused 2 4)
     ∷ gives (alone ++ (0x10 ∷ 0x0C ∷ 0x0C ∷ [])) (refused 2 4)
+    ∷ gives (alone ++ (0x30 ∷ [])) (refused 2 4)
+    ∷ gives (alone ++ (0x31 ∷ [])) (refused 2 4)
+    ∷ gives (alone ++ (0x32 ∷ 0x0C ∷ [])) (refused 2 4)
+    ∷ gives (alone ++ (0x3A ∷ 0x0C ∷ [])) (refused 2 4)
     -- 4: a second head, before 5; a constant after a clause of either system
     ∷ gives (alone ++ (0x01 ∷ 0x02 ∷ 0x0D ∷ 0x00 ∷ [])) (refused 4 4)
     ∷ gives (alone ++ itself ++ (0x03 ∷ 0x00 ∷ 0x00 ∷ 0x00 ∷ 0x00 ∷ [])) (refused 4 7)
@@ -86,6 +107,9 @@ table =
     -- 9: a second-system clause with kind 0, before 8
     ∷ gives (alone ++ (0x22 ∷ 0x00 ∷ 0x00 ∷ 0x00 ∷ [])) (refused 9 4)
     ∷ gives (alone ++ (0x21 ∷ 0x0C ∷ 0x40 ∷ 0xFF ∷ [])) (refused 9 4)
+    ∷ gives (alone ++ (0x38 ∷ 0x00 ∷ 0x00 ∷ [])) (refused 9 4)
+    ∷ gives (alone ++ (0x39 ∷ 0x0C ∷ [])) (refused 9 4)
+    ∷ gives (alone ++ (0x3A ∷ 0x00 ∷ 0x0C ∷ [])) (refused 9 4)
     -- 8: an absent variable; bytes that are no term; a constant not defined so far; an own variable in the first system
     ∷ gives (alone ++ (0x12 ∷ 0x00 ∷ 0x01 ∷ [])) (refused 8 4)
     ∷ gives (alone ++ (0x10 ∷ 0x00 ∷ 0x00 ∷ 0x0C ∷ [])) (refused 8 4)
@@ -93,6 +117,9 @@ table =
     ∷ gives (alone ++ (0x12 ∷ 0x40 ∷ 0x00 ∷ [])) (refused 8 4)
     ∷ gives (alone ++ (0x03 ∷ 0x00 ∷ 0x00 ∷ 0x00 ∷ 0x00 ∷ 0x12 ∷ 0x20 ∷ 0x21 ∷ [])) (refused 8 9)
     ∷ gives (both ++ (0x22 ∷ 0x01 ∷ 0x00 ∷ 0x12 ∷ 0x01 ∷ 0x00 ∷ [])) (refused 8 7)
+    ∷ gives (both ++ (0x38 ∷ 0x01 ∷ 0x30 ∷ 0x01 ∷ [])) (refused 8 6)
+    ∷ gives (both ++ (0x31 ∷ 0x0C ∷ [])) (refused 8 4)
+    ∷ gives (both ++ (0x3A ∷ 0x01 ∷ 0x0D ∷ [])) (refused 8 4)
     -- 10: bytes after the end, at the first of them
     ∷ gives (example ++ (0x00 ∷ [])) (refused 10 19)
     ∷ gives (0x01 ∷ 0x00 ∷ 0x00 ∷ 0x00 ∷ 0x00 ∷ 0x99 ∷ 0x99 ∷ []) (refused 10 5)
@@ -144,6 +171,9 @@ limits =
     ∷ clauses 32 0x13
     ∷ clauses 65 0x22
     ∷ clauses 32 0x23
+    -- old and new clauses counted together
+    ∷ (clauses 64 0x32 ++ (0x30 ∷ 0x00 ∷ []))
+    ∷ (clauses 31 0x23 ++ (0x39 ∷ 0x00 ∷ []))
     -- a 33rd constant and a 65th clause that are cut short: 2 before 6 and 7
     ∷ (constants 32 ++ (0x03 ∷ 0x01 ∷ 0x02 ∷ 0x03 ∷ []))
     ∷ (clauses 64 0x12 ++ (0x12 ∷ 0x00 ∷ []))
@@ -156,6 +186,7 @@ limits =
 pub worked-right : (map (λ w. read (w .bytes)) table ≡ map (λ w. w .result) table)
     × (map (λ s. refusalIn (read s)) limits
     ≡ [] ∷ [] ∷ (5 ∷ 0 ∷ []) ∷ (5 ∷ 0 ∷ []) ∷ [] ∷ (6 ∷ 164 ∷ []) ∷ (4 ∷ 167 ∷ []) ∷ [] ∷ (7 ∷ 196 ∷ []) ∷ (7 ∷ 97 ∷ []) ∷ (7 ∷ 196 ∷ []) ∷ (7 ∷ 97 ∷ [])
+    ∷ (7 ∷ 196 ∷ []) ∷ (7 ∷ 97 ∷ [])
     ∷ (2 ∷ 164 ∷ []) ∷ (2 ∷ 196 ∷ []) ∷ (7 ∷ 97 ∷ []) ∷ [] ∷ [])
 unfolding table limits times read headOf headFits opened run turn ended taken fault names termOf readAt wholeAt commandOf entryOf number positives disequations
 worked-right = (refl, refl)
@@ -171,7 +202,7 @@ abbrev second : List ℕ
 second = alone ++ itself ++ (0x12 ∷ 0x00 ∷ 0x01 ∷ [])
 
 -- the struct of a question, and of a refusal; the clauses' bytes after a question, after a string that is refused at its second clause, and after
--- one whose head is refused
+-- one whose head is refused; and after one with policies in both systems
 pub stored-right : (readingOf (read entails) ≡ record {
   refusal = 0;
   place = 0;
@@ -182,10 +213,14 @@ pub stored-right : (readingOf (read entails) ≡ record {
       place = 7;
       question = record { kind = 0; free = 0; own = 0; constants = replicate 32 0; defined = 0; counts = 0 ∷ 0 ∷ 0 ∷ 0 ∷ [] };
     })
-    × (map (λ s. clausesAfter s nines) (entails ∷ second ∷ (0x01 ∷ 0x02 ∷ []) ∷ [])
+    × (map (λ s. clausesAfter s nines) (entails ∷ second ∷ (0x01 ∷ 0x02 ∷ []) ∷ policies ∷ [])
     ≡ (replicate 256 9 ++ (0x00 ∷ 0x00 ∷ 0x0C ∷ 0x20 ∷ replicate 124 9) ++ (0x00 ∷ 0x01 ∷ 0x0C ∷ 0x00 ∷ replicate 252 9) ++ (0x00 ∷ 0x00 ∷ 0x01 ∷ 0x20 ∷ replicate 124 9))
     ∷ (0x00 ∷ 0x00 ∷ 0x0C ∷ 0x00 ∷ replicate 764 9)
     ∷ nines
+    ∷ (
+    (0x00 ∷ 0x00 ∷ 0x0C ∷ 0x0D ∷ 0x01 ∷ 0x00 ∷ 0x00 ∷ 0x0C ∷ replicate 248 9) ++ (0x00 ∷ 0x00 ∷ 0x0C ∷ 0x0C ∷ replicate 124 9)
+    ++ (0x00 ∷ 0x01 ∷ 0x0C ∷ 0x0D ∷ 0x01 ∷ 0x00 ∷ 0x01 ∷ 0x0C ∷ replicate 248 9) ++ (0x00 ∷ 0x00 ∷ 0x0C ∷ 0x0C ∷ replicate 124 9)
+    )
     ∷ [])
 unfolding read headOf headFits opened run turn ended taken fault names termOf readAt wholeAt commandOf entryOf number positives disequations writtenBy clausesAfter
 stored-right = (refl, refl, refl)

@@ -18,7 +18,7 @@ term-named-requires-2 : tie.Need-term-named-requires-2
 term-named-requires-2 c κs = search needs
 
 returns-2 : tie.Need-returns-2
-returns-2 c = 
+returns-2 c =
     simp (← c .before .before .before .before .term-count .ensures, ← c .before .before .before .term-named .ensures, not-false (c .before .before .before .term-named .result) (c .before .before .if1 .left), ← c .before .term-named2 .ensures, not-true (c .before .term-named2 .result) (c .if2 .taken))
 
 term-named-requires-3 : tie.Need-term-named-requires-3
