@@ -54,6 +54,9 @@ KEPT = "satisfiable, entails, free, own, let, if, then, not, join, is and o have
 UNKNOWN = "a line 'free {0}' before the first clause makes it a variable"
 NOT_INSIDE = "a negated clause has one join, 'not a join b is c': give the join inside it a variable of its own, as in 'a join b is t' and " \
     "'not t join c is d', which also asks that a join b is defined"
+NOT_WITH = "that shares may not be held together cannot be said as one clause: give their common part a variable of its own, as in " \
+    "'p join q is a', 'p join r is b' and 'p may read'"
+VERBS = "'join', 'is', 'may' or 'with'"
 CLAUSE = "satisfiable\nfree a b c\n"
 
 # A text, and where and why it is refused.
@@ -116,22 +119,22 @@ FAULTS = [
     (CLAUSE + "a is ((((((*o)o)o)o)o)o)", "3:11: the tree is too tall: at most 5 pairs may stand one in the other"),
     ("satisfiable\nlet L = (*(o(o(o(o(*(*o)))))))", "2:19: the tree is too tall: at most 5 pairs may stand one in the other"),
     # Clauses.
-    (CLAUSE + "a", "3:2: 'join' or 'is' is due here, and the line ends"),
-    (CLAUSE + "a b", "3:3: 'join' or 'is' is due here, not 'b'"),
+    (CLAUSE + "a", f"3:2: {VERBS} is due here, and the line ends"),
+    (CLAUSE + "a b", f"3:3: {VERBS} is due here, not 'b'"),
     (CLAUSE + "a is", "3:5: a name or a tree is due here, and the line ends"),
     (CLAUSE + "a is not", "3:9: a name or a tree is due here, and the line ends"),
     (CLAUSE + "a is is", "3:6: a name or a tree is due here, not 'is'"),
     (CLAUSE + "a is b!", "3:6: a name or a tree is due here, not 'b!'"),
-    (CLAUSE + "a = b", "3:3: 'join' or 'is' is due here, not '=': write 'is' for it"),
+    (CLAUSE + "a = b", f"3:3: {VERBS} is due here, not '=': write 'is' for it"),
     (CLAUSE + "a join", "3:7: a name or a tree is due here, and the line ends"),
-    (CLAUSE + "a join b", "3:9: 'join' or 'is' is due here, and the line ends"),
-    (CLAUSE + "a join b c", "3:10: 'join' or 'is' is due here, not 'c'"),
+    (CLAUSE + "a join b", f"3:9: {VERBS} is due here, and the line ends"),
+    (CLAUSE + "a join b c", f"3:10: {VERBS} is due here, not 'c'"),
     (CLAUSE + "not a join b c", "3:14: 'is' is due here, not 'c'"),
-    (CLAUSE + "a join b = c", "3:10: 'join' or 'is' is due here, not '=': write 'is' for it"),
+    (CLAUSE + "a join b = c", f"3:10: {VERBS} is due here, not '=': write 'is' for it"),
     # Joins inside a clause.
     (CLAUSE + "a join b join", "3:14: a name or a tree is due here, and the line ends"),
     (CLAUSE + "a join b join is c", "3:15: a name or a tree is due here, not 'is'"),
-    (CLAUSE + "a join b join c", "3:16: 'join' or 'is' is due here, and the line ends"),
+    (CLAUSE + "a join b join c", f"3:16: {VERBS} is due here, and the line ends"),
     (CLAUSE + "a join b is c join", "3:19: a name or a tree is due here, and the line ends"),
     (CLAUSE + "a join b is c join d", "3:20: nothing is named 'd': " + UNKNOWN.format("d")),
     (CLAUSE + "a join b is c join a b", "3:22: the end of the line is due here, not 'b'"),
