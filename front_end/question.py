@@ -168,10 +168,11 @@ def command_end(string, place):
     command = string[place]
     if command not in OPERANDS:
         raise Refusal(3, place, place + 1, f"no command is {command:02X}")
-    end = place + 1 + OPERANDS[command]
+    operands = OPERANDS[command]
+    end = place + 1 + operands
     if end > len(string):
-        there = len(string) - place - 1
-        raise Refusal(2, place, len(string), f"command {command:02X} has {OPERANDS[command]} operand bytes, and {there} of them are there")
+        what = f"command {command:02X} has {operands} operand byte{'s' if operands > 1 else ''}, and {len(string) - place - 1} of them are there"
+        raise Refusal(2, place, len(string), what)
     return end
 
 

@@ -26,6 +26,18 @@ BYTES = [
     ("entails\nfree a\nown b c\nthen\nnot c join b is a", "01 01 01 02 21 02 01 00 00"),
     ("entails\nfree a\nown b\nthen\na is b", "01 01 01 01 22 00 01 00"),
     ("entails\nfree a\nown b\nthen\na is not b", "01 01 01 01 23 00 01 00"),
+    ("satisfiable\nfree a b\nb may write", "01 00 02 00 30 01 00"),
+    ("satisfiable\nfree a b\nb may read", "01 00 02 00 31 01 00"),
+    ("satisfiable\nfree a b\nb with a", "01 00 02 00 32 01 00 00"),
+    ("entails\nfree a\nown b\nthen\nb may write", "01 01 01 01 38 01 00"),
+    ("entails\nfree a\nown b\nthen\nb may read", "01 01 01 01 39 01 00"),
+    ("entails\nfree a\nown b\nthen\nb with a", "01 01 01 01 3A 01 00 00"),
+    ("satisfiable\n(*o) may write\n* may read\n(*o) with (o*)", f"01 00 00 00 {LEFT} {FULL} {RIGHT} 30 20 31 21 32 20 22 00"),
+    # Words that are not reserved: where they stand says whether they are names.
+    ("satisfiable\nfree may with\nlet write = (*o)\nlet read = o\nmay may write\nwith may read\nwith with may\nwrite may write\nread with with\nmay is not with",
+     f"01 00 02 00 {LEFT} {EMPTY} 30 00 31 01 32 01 00 30 20 32 21 01 13 00 01 00"),
+    ("satisfiable\nfree may with write\nmay join with is write\nnot with join may is with\nmay join with with with join may",
+     "01 00 05 00 10 00 01 02 11 01 00 01 10 00 01 03 10 01 00 04 32 03 04 00"),
     # Own variables come after all free ones, in whatever order the lines stand.
     ("entails\nown x\nfree a\nown y\nfree b\nthen\nx join y is b", "01 01 02 02 20 02 03 01 00"),
     # The systems alternate.
@@ -40,6 +52,11 @@ BYTES = [
     ("entails\nfree a b\nown c\nthen\na join b join c is *", f"01 01 02 02 {FULL} 20 00 01 03 20 03 02 20 00"),
     ("entails\nfree a b c\nown d\nthen\nd is a\nif\na join b join c is a\nthen\nd join d is a join b\nif\na join b is c join c\nthen\nd is b",
      "01 01 05 02 22 05 00 10 00 01 03 10 03 02 00 20 05 05 06 20 00 01 06 10 00 01 04 10 02 02 04 22 05 01 00"),
+    ("satisfiable\nfree a b c\na join b may write\na join b join c may read", "01 00 06 00 10 00 01 03 30 03 10 00 01 04 10 04 02 05 31 05 00"),
+    ("satisfiable\nfree a b c\na with b join c\na join b with c", "01 00 05 00 10 01 02 03 32 00 03 10 00 01 04 32 04 02 00"),
+    ("entails\nfree a b\nown c\nthen\na join c may read\na join b with b join c",
+     "01 01 02 04 20 00 02 03 39 03 20 00 01 04 20 01 02 05 3A 04 05 00"),
+    ("entails\nfree a b\nown c\nthen\nc may read\nif\na join b may write\nthen\nc with a", "01 01 03 01 39 03 10 00 01 02 30 02 3A 03 00 00"),
     # Constants: those of 'let' in order, equal ones too, then each new tree of the clauses once.
     ("satisfiable\nlet A=(*o)\nlet B = (*o)\nB is A", f"01 00 00 00 {LEFT} {LEFT} 12 21 20 00"),
     ("satisfiable\nlet B = (*o)\n(*o) is (o*)\n(o*) is not *", f"01 00 00 00 {LEFT} {RIGHT} {FULL} 12 20 21 13 21 22 00"),
@@ -56,6 +73,7 @@ NOT_INSIDE = "a negated clause has one join, 'not a join b is c': give the join 
     "'not t join c is d', which also asks that a join b is defined"
 NOT_WITH = "that shares may not be held together cannot be said as one clause: give their common part a variable of its own, as in " \
     "'p join q is a', 'p join r is b' and 'p may read'"
+OF_A_JOIN = "give the join a variable of its own, as in 'a join b is t', and write"
 VERBS = "'join', 'is', 'may' or 'with'"
 CLAUSE = "satisfiable\nfree a b c\n"
 
@@ -147,6 +165,31 @@ FAULTS = [
     (CLAUSE + "not", "3:4: a name or a tree is due here, and the line ends"),
     (CLAUSE + "not a b", "3:7: 'join' is due here, not 'b'"),
     (CLAUSE + "not a is b", "3:7: the negation of an equality is written 'a is not b'"),
+    # What a share may do, and what it may be held together with.
+    (CLAUSE + "a may", "3:6: 'write' or 'read' is due here, and the line ends"),
+    (CLAUSE + "a may fly", "3:7: 'write' or 'read' is due here, not 'fly'"),
+    (CLAUSE + "a may not fly", "3:7: 'write' or 'read' is due here, not 'not'"),
+    (CLAUSE + "a join b may", "3:13: 'write' or 'read' is due here, and the line ends"),
+    (CLAUSE + "a may write b", "3:13: the end of the line is due here, not 'b'"),
+    (CLAUSE + "a may read is b", "3:12: the end of the line is due here, not 'is'"),
+    (CLAUSE + "a join b is c may write", "3:15: the end of the line is due here, not 'may'"),
+    (CLAUSE + "may write", "3:1: nothing is named 'may': " + UNKNOWN.format("may")),
+    (CLAUSE + "a with", "3:7: a name or a tree is due here, and the line ends"),
+    (CLAUSE + "a with not b", "3:8: a name or a tree is due here, not 'not'"),
+    (CLAUSE + "a with d", "3:8: nothing is named 'd': " + UNKNOWN.format("d")),
+    (CLAUSE + "a with b is c", "3:10: the end of the line is due here, not 'is'"),
+    (CLAUSE + "a with b join c with a", "3:17: 'with' stands once in a clause: of three shares that are held together write 'a join b with c'"),
+    (CLAUSE + "a with (oo)", "3:8: a pair of two equal leaves must be folded: write 'o' for '(oo)'"),
+    (CLAUSE + "a may not write", "3:3: 'may write' has no negation of its own: write 'a is not *'"),
+    (CLAUSE + "not  a may write", "3:8: 'may write' has no negation of its own: write 'a is not *'"),
+    (CLAUSE + "(*o) may not read", "3:6: 'may read' has no negation of its own: write '(*o) is o'"),
+    (CLAUSE + "not c may read", "3:7: 'may read' has no negation of its own: write 'c is o'"),
+    (CLAUSE + "not a may not read", "3:7: 'may read' has no negation of its own: write 'a is o'"),
+    (CLAUSE + "a join b may not write", f"3:10: 'may write' has no negation of its own: {OF_A_JOIN} 't is not *'"),
+    (CLAUSE + "not a join b may read", f"3:14: 'may read' has no negation of its own: {OF_A_JOIN} 't is o'"),
+    (CLAUSE + "not a join b join c may read", "3:14: " + NOT_INSIDE),
+    (CLAUSE + "not a with b", f"3:7: {NOT_WITH}"),
+    (CLAUSE + "not a join b with c", f"3:14: {NOT_WITH}"),
     # A join stands before 'is'.
     (CLAUSE + "c is a join b", "3:8: a join stands before 'is': write 'a join b is c'"),
     (CLAUSE + "c is not  a join b", "3:13: a join stands before 'is': write 'not a join b is c'"),
@@ -161,6 +204,8 @@ FAULTS = [
     ("entails\nown d\nd is d", "3:1: 'd' is an own variable, and they stand in the second system alone: write 'then' before this clause, or make 'd' free"),
     ("entails\nfree a\nown d\nthen\nd is d\nif\na join d is a",
      "7:8: 'd' is an own variable, and they stand in the second system alone: write 'then' before this clause, or make 'd' free"),
+    ("entails\nfree a\nown d\na with d",
+     "4:8: 'd' is an own variable, and they stand in the second system alone: write 'then' before this clause, or make 'd' free"),
     # What an editor shows otherwise than it is read: a clause that seems to stand on a line of its own, and is in a comment.
     ("satisfiable\nfree a\na is o # so\ra is not o", "3:12: a line break (U+000D) stands here that is no line feed: end each line with a line feed"),
     ("satisfiable\nfree a\n# so\x85a is not o", "3:5: a line break (U+0085) stands here that is no line feed: end each line with a line feed"),
@@ -222,6 +267,18 @@ EDGES = [
      "5:2: the joins inside this clause need 2 variables more, which makes 14: there may be 12, free and own together"),
     ("64 joins, the last inside a clause", "satisfiable\nfree a\n" + clauses(62, "a join a is a") + "a join a is a join a\n", "a join a join a is a",
      "66:1: a 65th positive clause in the first system: there may be 64"),
+    ("12 variables with those of 'with'", lines("satisfiable", f"free {names(9)}", "v0 join v1 with v2 join v3", "v1 join v2 may read"), "v1 join v2 may write",
+     "5:1: the joins inside this clause need 1 variable more, which makes 13: there may be 12, free and own together"),
+    ("64 positive clauses, old and new", "entails\nfree a\nthen\n" + clauses(62, "a is a") + "a may write\na with a\n", "a join a may read",
+     "68:1: a 65th positive clause in the second system: there may be 64"),
+    ("64 shares that may write", "satisfiable\nfree a\n" + clauses(64, "a may write"), "a with a",
+     "67:1: a 65th positive clause in the first system: there may be 64"),
+    ("64 that are held together", "satisfiable\nfree a\n" + clauses(64, "a with a"), "a may write",
+     "67:1: a 65th positive clause in the first system: there may be 64"),
+    ("31 disequations, old and new", "entails\nfree a\nthen\n" + clauses(30, "a may read") + "a is not o\n", "a may read",
+     "35:1: a 32nd disequation in the second system: there may be 31"),
+    ("31 shares that may read", "satisfiable\nfree a\n" + clauses(31, "a may read"), "a is not o",
+     "34:1: a 32nd disequation in the first system: there may be 31"),
     ("32 constants", "satisfiable\n" + lets(32), "let more = o", "34:12: a 33rd constant: there may be 32"),
     ("32 constants, one in a clause", "satisfiable\n" + lets(31) + "o is o\n", "o is *", "34:6: a 33rd constant: there may be 32"),
     ("32 constants in clauses", "satisfiable\n" + lines(*(f"{tree} is {tree}" for tree in trees(32))), "not o join o is o",
@@ -267,6 +324,29 @@ REFUSED = [
     ("01 01 01 01 20 01 01 01 10 00 00 01 00", "8 at 8", "an own variable in a clause of the first system",
      "01 01 01 01 20 01 01 01 [10 00 00 01] 00"),
     ("01 00 01 00 22 00 FF 00", "9 at 4", "a second system needs a question that asks 'entails'", "01 00 01 00 [22 00 FF] 00"),
+    # Commands 30 to 32 and 38 to 3A; those beside them are unknown as before.
+    *((f"01 01 01 00 {byte:02X} 00 00 00", "3 at 4", f"no command is {byte:02X}", f"01 01 01 00 [{byte:02X}] 00 00 00")
+      for byte in [0x2F, *range(0x33, 0x38), *range(0x3B, 0x41)]),
+    ("01 00 01 00 30", "2 at 4", "command 30 has 1 operand byte, and 0 of them are there", "01 00 01 00 [30]"),
+    ("01 00 01 00 31", "2 at 4", "command 31 has 1 operand byte, and 0 of them are there", "01 00 01 00 [31]"),
+    ("01 00 01 00 32 00", "2 at 4", "command 32 has 2 operand bytes, and 1 of them are there", "01 00 01 00 [32 00]"),
+    ("01 00 01 00 38", "2 at 4", "command 38 has 1 operand byte, and 0 of them are there", "01 00 01 00 [38]"),
+    ("01 00 01 00 39", "2 at 4", "command 39 has 1 operand byte, and 0 of them are there", "01 00 01 00 [39]"),
+    ("01 00 01 00 3A FF", "2 at 4", "command 3A has 2 operand bytes, and 1 of them are there", "01 00 01 00 [3A FF]"),
+    (f"01 00 01 00 30 00 {FULL} 00", "4 at 6", "constants stand before the first clause", "01 00 01 00 30 00 [03 FF FF FF FF] 00"),
+    ("01 00 01 00 " + "12 00 00 " * 63 + "30 00 32 00 00 00", "7 at 195", "a 65th positive clause in the first system: there may be 64",
+     "... 12 00 00 12 00 00 30 00 [32 00 00] 00"),
+    ("01 01 01 00 " + "39 00 " * 31 + "39 FF 00", "7 at 66", "a 32nd disequation in the second system: there may be 31",
+     "... 39 00 39 00 39 00 39 00 [39 FF] 00"),
+    ("01 00 01 00 30 01 00", "8 at 4", "term 01 names no variable of the head and no constant defined", "01 00 01 00 [30 01] 00"),
+    ("01 00 0C 00 31 0C 00", "8 at 4", "term 0C names no variable of the head and no constant defined", "01 00 0C 00 [31 0C] 00"),
+    ("01 00 0C 00 32 00 0D 00", "8 at 4", "term 0D names no variable of the head and no constant defined", "01 00 0C 00 [32 00 0D] 00"),
+    ("01 00 01 00 32 00 20 00", "8 at 4", "term 20 names no variable of the head and no constant defined", "01 00 01 00 [32 00 20] 00"),
+    ("01 01 01 01 32 01 00 00", "8 at 4", "an own variable in a clause of the first system", "01 01 01 01 [32 01 00] 00"),
+    ("01 01 01 01 39 01 31 01 00", "8 at 6", "an own variable in a clause of the first system", "01 01 01 01 39 01 [31 01] 00"),
+    ("01 00 01 00 38 FF 00", "9 at 4", "a second system needs a question that asks 'entails'", "01 00 01 00 [38 FF] 00"),
+    ("01 00 01 00 39 00 00", "9 at 4", "a second system needs a question that asks 'entails'", "01 00 01 00 [39 00] 00"),
+    ("01 00 01 00 3A 00 00 00", "9 at 4", "a second system needs a question that asks 'entails'", "01 00 01 00 [3A 00 00] 00"),
     ("01 00 00 00 00 00 01", "10 at 5", "the question ends with the byte before", "01 00 00 00 00 [00] 01"),
 ]
 
@@ -285,4 +365,7 @@ EXPLAINED = [
     (f"01 00 01 00 {EMPTY} 12 00 00 00", ["satisfiable", "free v00", "let c00 = o", "v00 is v00"]),
     ("01 01 01 01 22 00 01 11 00 00 00 21 01 00 01 00",
      ["entails", "free v00", "own v01", "then", "v00 is v01", "if", "not v00 join v00 is v00", "then", "not v01 join v00 is v01"]),
+    (f"01 01 01 01 {LEFT} 30 00 3A 01 00 31 20 39 01 32 00 00 38 01 00",
+     ["entails", "free v00", "own v01", "v00 may write", "then", "v01 with v00", "if", "(*o) may read", "then", "v01 may read", "if", "v00 with v00", "then",
+      "v01 may write"]),
 ]
