@@ -74,6 +74,12 @@ OBJECTS = [
     (NO, 1, {"answer": "no", "question": "entails", "reason": 3, "height": 0, "solution": {"left": "o", "right": "*"},
              "disequation": {"number": 1, "line": 8, "text": "left is not o"},
              "meaning": "the positive clauses can always be met; the disequation named is the lowest that some solution cannot have beside them"}),
+    (b"entails\nfree a\na may write\nthen\na  with (*o) # both\na may read", 1,
+     {"answer": "no", "question": "entails", "reason": 2, "height": 1, "solution": {"a": "*"},
+      "meaning": "some solution of the first cannot even meet the second's positive clauses"}),
+    (b"entails\nfree a\nown b\na may write\nthen\nb with a\n  b may   read # more", 1,
+     {"answer": "no", "question": "entails", "reason": 3, "height": 0, "solution": {"a": "*"}, "disequation": {"number": 0, "line": 7, "text": "b may read"},
+      "meaning": "the positive clauses can always be met; the disequation named is the lowest that some solution cannot have beside them"}),
     (b"\x1b\xff", 2, {"error": {"line": 1, "column": 1, "message": "'satisfiable' or 'entails' is due here, not '\\x1b\\xff'"}}),
 ]
 KEYS = ["file", "answer", "question", "reason", "meaning", "disequation", "height", "solution", "error"]
