@@ -2,12 +2,14 @@
 
 import json
 import os
+import re
 import subprocess
 import time
 from pathlib import Path
 from threading import Timer
 
 import cases
+from front_end.question import SORTS
 from harness import FOLDER, TOP, check, command, file, process, surroundings, wrong_program
 
 YES = b"satisfiable\nfree a\na is (*o)\n"
@@ -41,6 +43,8 @@ def test_arguments():
         check(f"ask {arguments}", process("ask", *arguments), (2, b"", f"{due} ('ask --help' says what may be written)\n"))
     status, out, errors = process("ask", "--help")
     check("the help lists the reserved words", cases.KEPT.split(" have")[0] in out.decode(), True)
+    clauses = [words for words, *_ in SORTS if not re.search(f"^ +{words.replace('{}', '[^ ]+')}  ", out.decode(), re.M)]
+    check("the help has each sort of clause", clauses, [])
     check("the help tells the statuses", (status, errors, [line.split() for line in cases.STATUSES if line not in out.decode()]), (0, "", []))
 
 
