@@ -22,7 +22,7 @@ RIGHTS = {"write": (MAY_WRITE, "is not *"), "read": (MAY_READ, "is o")}
 FORM = f"""The text: one thing a line; '#' starts a comment.
 
     satisfiable                    or: entails; the first line
-    free writer reader rest        free variables, by name
+    free writer reader rest owner  free variables, by name
     own part                       own variables of the second system
     let L = (*o)                   a constant, as tree text; these three kinds of line stand before the first clause
     writer join reader is rest     a join
@@ -31,9 +31,9 @@ FORM = f"""The text: one thing a line; '#' starts a comment.
                                    the sides have joins; not with 'not'
     writer is L                    an equality
     reader is not o                its negation
-    writer may write               it is full
+    owner may write                it is full
     reader may read                it is not empty
-    reader with rest               they may be held together: their join is defined
+    writer with reader             they may be held together: their join is defined
     a join b with c                joins inside 'may' and 'with': all are defined; each counts as a variable more
     then                           from here on: the second system
     if                             from here on: the first system again

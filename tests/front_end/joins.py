@@ -49,10 +49,8 @@ class Policy(Clause):
         return f"{' join '.join(self.left)} {self.verb} {' join '.join(self.right)}".rstrip()
 
     def holds(self, shares):
-        whole = total(self.left, shares)
-        if self.verb == "with":
-            return total(self.left + self.right, shares) is not None
-        return whole is not None and (whole == shares["*"] if self.verb == "may write" else whole > 0)
+        whole = total(self.left + self.right, shares)
+        return whole is not None and {"may write": whole == shares["*"], "may read": whole > 0, "with": True}[self.verb]
 
     def met(self, shares):
         return total(self.left, shares) is not None if self.negated else self.holds(shares)

@@ -13,7 +13,7 @@ TREES = ["o", "*", "(*o)", "(o*)", "((o*)(*o))"]
 
 
 def asked(*lines):
-    """What ask says of a text, on one line; it has no error."""
+    """What ask says of a text, errors too, on one line."""
     _, out, errors = command("ask", "-", given="\n".join(lines).encode())
     return " ".join((out.decode() + errors).split())
 
