@@ -3,7 +3,6 @@
 import os
 import re
 
-from front_end.question import NEGATED, is_second
 from front_end.text import KINDS
 from front_end.trees import TreeFault, read_tree
 
@@ -60,8 +59,7 @@ class Answer:
 
     def has_its_reason(self, question):
         """Whether the reason is one of this verdict, and names a disequation exactly where one is due."""
-        disequations = sum(is_second(clause[0]) and clause[0] & NEGATED for clause in question.clauses)
-        named = self.disequation is not None and self.disequation < disequations
+        named = self.disequation is not None and self.disequation < len(question.alike(second=True, disequation=True))
         return (question.kind, self.verdict, self.reason) in MEANINGS and (named if self.reason == 3 else self.disequation is None)
 
 

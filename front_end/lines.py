@@ -57,7 +57,7 @@ class Line:
         return " ".join(word for word, _ in self.words[:-1])
 
     def peek(self, ahead=0):
-        """The next word, or one after it; empty at the end of the line."""
+        """The next word, or one after or before it; empty at the end of the line."""
         return self.words[min(self.at + ahead, len(self.words) - 1)][0]
 
     def column(self):

@@ -1,18 +1,43 @@
 """A question: its limits, and its bytes both ways. docs/FORMAT.md has the format."""
 
+from typing import NamedTuple
+
 MOST_VARIABLES = 12
 MOST_CONSTANTS = 32
 MOST_POSITIVE = 64
 MOST_DISEQUATIONS = 31
 
-# Commands. A clause's command is FIRST or SECOND, and 1 more if it is negated, and 2 more if it is an equality.
-END, HEAD, CONSTANT, FIRST, SECOND = 0x00, 0x01, 0x03, 0x10, 0x20
-NEGATED, EQUALITY = 1, 2
+END, HEAD, CONSTANT = 0x00, 0x01, 0x03  # the commands that are no clauses
+
+
+class ClauseSort(NamedTuple):
+    """A sort of clause in one system."""
+
+    second: bool  # whether that is the second system
+    disequation: bool
+    words: str  # how text writes it, with '{}' for each term
+
+
+# The sorts of clauses, as text writes them.
+JOIN, NO_JOIN, EQUAL, UNEQUAL = "{} join {} is {}", "not {} join {} is {}", "{} is {}", "{} is not {}"
+MAY_WRITE, MAY_READ, WITH = "{} may write", "{} may read", "{} with {}"
+
+# Of each sort its commands in the first and in the second system, and whether it is a disequation.
+SORTS = [
+    (JOIN, 0x10, 0x20, False),
+    (NO_JOIN, 0x11, 0x21, True),
+    (EQUAL, 0x12, 0x22, False),
+    (UNEQUAL, 0x13, 0x23, True),
+    (MAY_WRITE, 0x30, 0x38, False),
+    (MAY_READ, 0x31, 0x39, True),
+    (WITH, 0x32, 0x3A, False),
+]
+SYSTEMS = (False, True)  # whether it is the second
+CLAUSES = {commands[second]: ClauseSort(second, disequation, words) for words, *commands, disequation in SORTS for second in SYSTEMS}
+COMMANDS = {(sort.words, sort.second): command for command, sort in CLAUSES.items()}
 
 # How many operand bytes each command has.
-OPERANDS = {END: 0, HEAD: 3, CONSTANT: 4}
-for system in (FIRST, SECOND):
-    OPERANDS.update({system + shape: 2 if shape & EQUALITY else 3 for shape in range(4)})
+OPERANDS = {END: 0, HEAD: 3, CONSTANT: 4, **{command: sort.words.count("{}") for command, sort in CLAUSES.items()}}
 
 # Terms: a variable is its number, a constant is CONSTANTS and its number.
 CONSTANTS = 0x20
@@ -57,10 +82,6 @@ def ordinal(number):
     return f"{number}{ending}"
 
 
-def is_second(command):
-    return command >= SECOND
-
-
 class Question:
     """Head, constants (as 32 leaves) and clauses (the command, then its terms). Each step breaks no rule or raises a Fault."""
 
@@ -101,13 +122,14 @@ class Question:
         if second and self.kind == 0:
             raise Fault(9, "a second system needs a question that asks 'entails'")
 
-    def check_room(self, command):
-        negated = command & NEGATED
-        most, what = (MOST_DISEQUATIONS, "disequation") if negated else (MOST_POSITIVE, "positive clause")
-        alike = [clause for clause in self.clauses
-                 if is_second(clause[0]) == is_second(command) and clause[0] & NEGATED == negated]
-        if len(alike) == most:
-            system = "second" if is_second(command) else "first"
+    def alike(self, second, disequation):
+        """Which of the clauses are disequations of one system, or its positive clauses."""
+        return [number for number, clause in enumerate(self.clauses) if CLAUSES[clause[0]][:2] == (second, disequation)]
+
+    def check_room(self, second, disequation):
+        most, what = (MOST_DISEQUATIONS, "disequation") if disequation else (MOST_POSITIVE, "positive clause")
+        if len(self.alike(second, disequation)) == most:
+            system = "second" if second else "first"
             raise Fault(7, f"a {ordinal(most + 1)} {what} in the {system} system: there may be {most}")
 
     def check_term(self, term, second):
@@ -119,10 +141,11 @@ class Question:
             raise Fault(8, "an own variable in a clause of the first system")
 
     def add(self, command, terms):
-        self.check_system(is_second(command))
-        self.check_room(command)
+        second, disequation, _ = CLAUSES[command]
+        self.check_system(second)
+        self.check_room(second, disequation)
         for term in terms:
-            self.check_term(term, is_second(command))
+            self.check_term(term, second)
         self.clauses.append((command, *terms))
 
 
@@ -145,10 +168,11 @@ def command_end(string, place):
     command = string[place]
     if command not in OPERANDS:
         raise Refusal(3, place, place + 1, f"no command is {command:02X}")
-    end = place + 1 + OPERANDS[command]
+    operands = OPERANDS[command]
+    end = place + 1 + operands
     if end > len(string):
-        there = len(string) - place - 1
-        raise Refusal(2, place, len(string), f"command {command:02X} has {OPERANDS[command]} operand bytes, and {there} of them are there")
+        what = f"command {command:02X} has {operands} operand byte{'s' if operands > 1 else ''}, and {len(string) - place - 1} of them are there"
+        raise Refusal(2, place, len(string), what)
     return end
 
 

@@ -2,7 +2,8 @@
 
 from front_end.files import LONG_NAME, quote, shown
 from front_end.lines import NAME, NAME_DUE, Line, TextFault, code_lines
-from front_end.question import CONSTANTS, EQUALITY, FIRST, MOST_VARIABLES, NEGATED, SECOND, Fault, Question, is_second
+from front_end.question import (CLAUSES, COMMANDS, CONSTANTS, EQUAL, JOIN, MAY_READ, MAY_WRITE, MOST_VARIABLES, NO_JOIN, UNEQUAL, WITH, Fault,
+                                Question)
 from front_end.trees import write_tree
 
 LONGEST = 255  # characters of a name
@@ -12,11 +13,16 @@ RESERVED = f"{', '.join(KEPT[:-1])} and {KEPT[-1]}"
 
 NOT_INSIDE = ("a negated clause has one join, 'not a join b is c': give the join inside it a variable of its own, as in 'a join b is t' and "
               "'not t join c is d', which also asks that a join b is defined")
+NOT_WITH = ("that shares may not be held together cannot be said as one clause: give their common part a variable of its own, as in "
+            "'p join q is a', 'p join r is b' and 'p may read'")
+
+# What stands behind 'may': the clause, and how to write that it does not hold.
+RIGHTS = {"write": (MAY_WRITE, "is not *"), "read": (MAY_READ, "is o")}
 
 FORM = f"""The text: one thing a line; '#' starts a comment.
 
     satisfiable                    or: entails; the first line
-    free writer reader rest        free variables, by name
+    free writer reader rest owner  free variables, by name
     own part                       own variables of the second system
     let L = (*o)                   a constant, as tree text; these three kinds of line stand before the first clause
     writer join reader is rest     a join
@@ -25,6 +31,10 @@ FORM = f"""The text: one thing a line; '#' starts a comment.
                                    the sides have joins; not with 'not'
     writer is L                    an equality
     reader is not o                its negation
+    owner may write                it is full
+    reader may read                it is not empty
+    writer with reader             they may be held together: their join is defined
+    a join b with c                joins inside 'may' and 'with': all are defined; each counts as a variable more
     then                           from here on: the second system
     if                             from here on: the first system again
 
@@ -45,6 +55,12 @@ def turned(line):
     return shown(" ".join(["not"] * negated + parts + ["is"] + whole))
 
 
+def denial(line, right, joined):
+    """How to write that a share has not that right. The share stands before the next word, or it is a join."""
+    share, first = ("t", "give the join a variable of its own, as in 'a join b is t', and ") if joined else (shown(line.peek(-1)), "")
+    return f"{first}write '{share} {RIGHTS[right][1]}'"
+
+
 class TextReader:
     """Reads a question line by line."""
 
@@ -55,7 +71,7 @@ class TextReader:
         self.clauses = []  # of each clause its line
         self.lets = {}  # the constants that have names
         self.lines = {}  # where each name was defined
-        self.system = FIRST
+        self.second = False  # whether the next clause is one of the second system
 
     def read(self, line):
         word = line.peek()
@@ -122,25 +138,57 @@ class TextReader:
     def read_system(self, line):
         if line.peek() == "then":
             self.need_entails(line, "a second system needs")
-        self.system = SECOND if line.take("the system") == "then" else FIRST
+        self.second = line.take("the system") == "then"
 
     def read_clause(self, line):
-        """A clause: an equality, a join, or a join with joins inside."""
+        """A clause. The word behind its first shares says of which sort it is."""
         with line.here():
             negated = line.skip("not")
             left = self.read_join(line, negated)
-            if len(left) == 1:
+            if line.peek() == "may":
+                self.read_may(line, negated, left)
+            elif line.peek() == "with":
+                self.read_with(line, negated, left)
+            elif len(left) == 1:
                 self.read_equality(line, negated, left)
-                return
-            self.expect_is(line, negated)
-            if line.peek() == "not":
-                raise line.fault("the negation of a join is written 'not a join b is c'" if len(left) == 2 else NOT_INSIDE)
-            right = self.read_join(line, negated, 1)
-            line.finish()
-            if negated:
-                self.add(line, NEGATED, left + right)
             else:
-                self.add_joins(line, left, right)
+                self.read_whole(line, negated, left)
+
+    def read_may(self, line, negated, side):
+        """The rest of 'a may write' or 'a may read'. Where its negation was meant, the message says how to write it."""
+        denied = line.peek(1) == "not"
+        right = line.peek(2 if denied else 1)
+        if (negated or denied) and right in RIGHTS:
+            raise line.fault(f"'may {right}' has no negation of its own: {denial(line, right, len(side) > 1)}")
+        line.expect("may")
+        if right not in RIGHTS:
+            raise line.due("'write' or 'read'")
+        line.take("the right")
+        line.finish()
+        self.add_sides(line, RIGHTS[right][0], side)
+
+    def read_with(self, line, negated, left):
+        """The rest of 'a with b'."""
+        if negated:
+            raise line.fault(NOT_WITH)
+        line.expect("with")
+        right = self.read_join(line, negated)
+        if line.peek() == "with":
+            raise line.fault("'with' stands once in a clause: of three shares that are held together write 'a join b with c'")
+        line.finish()
+        self.add_sides(line, WITH, left, right)
+
+    def read_whole(self, line, negated, left):
+        """The rest of a join, after its parts."""
+        self.expect_is(line, negated)
+        if line.peek() == "not":
+            raise line.fault("the negation of a join is written 'not a join b is c'" if len(left) == 2 else NOT_INSIDE)
+        right = self.read_join(line, negated, 1)
+        line.finish()
+        if negated:
+            self.add(line, NO_JOIN, left + right)
+        else:
+            self.add_joins(line, left, right)
 
     def read_equality(self, line, negated, left):
         """The rest of an equality. Where a join was meant, the message says how to write it."""
@@ -152,11 +200,11 @@ class TextReader:
         if line.peek() == "join":
             raise line.fault(f"a join stands before 'is': write '{turned(line)}'")
         line.finish()
-        self.add(line, EQUALITY + (NEGATED if negated else 0), [*left, right])
+        self.add(line, UNEQUAL if negated else EQUAL, [*left, right])
 
     def expect_is(self, line, negated):
         if not line.skip("is"):
-            raise line.due("'is'" if negated else "'join' or 'is'", ": write 'is' for it" if line.peek() == "=" else "")
+            raise line.due("'is'" if negated else "'join', 'is', 'may' or 'with'", ": write 'is' for it" if line.peek() == "=" else "")
 
     def read_join(self, line, negated, most=2):
         """Takes shares with 'join' between them; of a negated clause not more than so many."""
@@ -168,32 +216,40 @@ class TextReader:
             terms.append(self.read_share(line))
         return terms
 
-    def add(self, line, shape, terms):
-        self.question.add(self.system + shape, terms)
+    def add(self, line, words, terms):
+        self.question.add(COMMANDS[words, self.second], terms)
         self.clauses.append(line)
+
+    def add_sides(self, line, words, *sides):
+        """Adds a clause of that sort over lists of shares that are to be joined. Each join gets a fresh variable."""
+        self.check_fresh(sum(len(side) - 1 for side in sides))
+        self.add(line, words, [self.join(line, side) for side in sides])
 
     def add_joins(self, line, left, right):
         """Adds 'left is right', two lists of shares that are to be joined. Each join inside gets a fresh variable."""
-        fresh = len(left) + len(right) - 3
+        self.check_fresh(len(left) + len(right) - 3)
+        whole = self.join(line, left, right[0] if len(right) == 1 else None)
+        self.join(line, right, whole)
+
+    def check_fresh(self, fresh):
+        """Raises a fault if there is no room for so many fresh variables."""
         variables = self.question.free + self.question.own + fresh
         if fresh > 0 and variables > MOST_VARIABLES:
             raise Fault(5, f"the joins inside this clause need {fresh} variable{'s' if fresh > 1 else ''} more, which makes {variables}: "
                            f"there may be {MOST_VARIABLES}, free and own together")
-        whole = self.join(line, left, right[0] if len(right) == 1 else None)
-        self.join(line, right, whole)
 
-    def join(self, line, terms, whole):
+    def join(self, line, terms, whole=None):
         """Adds clauses that join terms one after the other to a whole, which is a fresh variable if none is given, and gives it."""
         so_far, *others = terms
         for number, term in enumerate(others, 1):
             result = whole if number == len(others) and whole is not None else self.fresh()
-            self.add(line, 0, [so_far, term, result])
+            self.add(line, JOIN, [so_far, term, result])
             so_far = result
         return so_far
 
     def fresh(self):
         """A variable without a name, that stands for a join: free for the first system, own for the second (docs/FORMAT.md)."""
-        return self.question.add_own() if self.system == SECOND else self.question.add_free()
+        return self.question.add_own() if self.second else self.question.add_free()
 
     def read_share(self, line):
         """Takes a name or a tree text, and gives its term."""
@@ -201,7 +257,7 @@ class TextReader:
         if word == "o" or word[:1] in ("(", "*", ")"):
             with line.here():
                 return self.constant(line.take_tree())
-        if word in self.own and self.system == FIRST:
+        if word in self.own and not self.second:
             raise line.fault(f"{quote(word)} is an own variable, and they stand in the second system alone: "
                              f"write 'then' before this clause, or make {quote(word)} free")
         if word not in self.lines:
@@ -253,7 +309,7 @@ class Asked:
 
     def disequation(self, number):
         """The line of a disequation of the second system."""
-        return [line for line, clause in zip(self.clauses, self.question.clauses) if is_second(clause[0]) and clause[0] & NEGATED][number]
+        return self.clauses[self.question.alike(second=True, disequation=True)[number]]
 
 
 def read_text(text):
@@ -296,12 +352,9 @@ def write_text(question):
     lines += [f"let {name} = {tree}" for name, tree in zip(constants[:lets], trees)]
     second = False
     for command, *terms in question.clauses:
-        if is_second(command) != second:
+        sort = CLAUSES[command]
+        if sort.second != second:
             second = not second
             lines.append("then" if second else "if")
-        a, b, *c = (constants[term - CONSTANTS] if term >= CONSTANTS else variables[term] for term in terms)
-        if c:
-            lines.append(("not " if command & NEGATED else "") + f"{a} join {b} is {c[0]}")
-        else:
-            lines.append(f"{a} is " + ("not " if command & NEGATED else "") + b)
+        lines.append(sort.words.format(*(constants[term - CONSTANTS] if term >= CONSTANTS else variables[term] for term in terms)))
     return "".join(line + "\n" for line in lines)

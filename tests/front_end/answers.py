@@ -18,6 +18,9 @@ SHAPES = [
     ("entails\nfree a\na is *\nthen\na is not o", "answer yes\nreason 0\n"),
     ("entails\nfree a\na join a is *\nthen\na is o", "answer yes\nreason 1\n"),
     ("entails\nfree a\na is (*o)\nthen\na is *", "answer no\nheight 1\nv00 (*o)\nreason 2\n"),
+    ("satisfiable\nfree a b\na may read\nb may read\na with b", "answer yes\nheight 1\nv00 (*o)\nv01 (o*)\n"),
+    ("entails\nfree a\na may read\nthen\na may write", "answer no\nheight 1\nv00 (o*)\nreason 2\n"),
+    ("entails\nfree a\nown b c\na may write\nthen\nb may read\na with c\nc may read", "answer no\nheight 0\nv00 *\nreason 3 1\n"),
     ("entails\nfree a b\na is *\nthen\na is not o\nb is not o", "answer no\nheight 0\nv00 *\nv01 o\nreason 3 1\n"),
     ("entails\nthen\no is not o", "answer no\nheight 0\nreason 3 0\n"),
 ]

@@ -2,12 +2,14 @@
 
 import json
 import os
+import re
 import subprocess
 import time
 from pathlib import Path
 from threading import Timer
 
 import cases
+from front_end.question import SORTS
 from harness import FOLDER, TOP, check, command, file, process, surroundings, wrong_program
 
 YES = b"satisfiable\nfree a\na is (*o)\n"
@@ -41,6 +43,8 @@ def test_arguments():
         check(f"ask {arguments}", process("ask", *arguments), (2, b"", f"{due} ('ask --help' says what may be written)\n"))
     status, out, errors = process("ask", "--help")
     check("the help lists the reserved words", cases.KEPT.split(" have")[0] in out.decode(), True)
+    clauses = [words for words, *_ in SORTS if not re.search(f"^ +{words.replace('{}', '[^ ]+')}  ", out.decode(), re.M)]
+    check("the help has each sort of clause", clauses, [])
     check("the help tells the statuses", (status, errors, [line.split() for line in cases.STATUSES if line not in out.decode()]), (0, "", []))
 
 
@@ -74,6 +78,12 @@ OBJECTS = [
     (NO, 1, {"answer": "no", "question": "entails", "reason": 3, "height": 0, "solution": {"left": "o", "right": "*"},
              "disequation": {"number": 1, "line": 8, "text": "left is not o"},
              "meaning": "the positive clauses can always be met; the disequation named is the lowest that some solution cannot have beside them"}),
+    (b"entails\nfree a\na may write\nthen\na  with (*o) # both\na may read", 1,
+     {"answer": "no", "question": "entails", "reason": 2, "height": 1, "solution": {"a": "*"},
+      "meaning": "some solution of the first cannot even meet the second's positive clauses"}),
+    (b"entails\nfree a\nown b\na may write\nthen\nb with a\n  b may   read # more", 1,
+     {"answer": "no", "question": "entails", "reason": 3, "height": 0, "solution": {"a": "*"}, "disequation": {"number": 0, "line": 7, "text": "b may read"},
+      "meaning": "the positive clauses can always be met; the disequation named is the lowest that some solution cannot have beside them"}),
     (b"\x1b\xff", 2, {"error": {"line": 1, "column": 1, "message": "'satisfiable' or 'entails' is due here, not '\\x1b\\xff'"}}),
 ]
 KEYS = ["file", "answer", "question", "reason", "meaning", "disequation", "height", "solution", "error"]

@@ -6,6 +6,7 @@ import re
 import cases
 from commands import KEYS
 from front_end.answer import MEANINGS
+from front_end.question import CLAUSES, OPERANDS, read_question
 from front_end.text import RESERVED, read_text
 from harness import TOP, check, command, program
 from texts import constant_question
@@ -54,22 +55,39 @@ def packed(lines):
     return (1 if said["answer"] == ["yes"] else 2) | int(height[0]) << 32 | int(reason[0]) << 40 | int(disequation) << 48
 
 
+def test_format_commands():
+    """The commands that docs/FORMAT.md has: their operands, which are of the second system, which are disequations."""
+    markdown = (TOP / "docs" / "FORMAT.md").read_text()
+    operands, second = {}, set()
+    for row in tables(markdown):
+        found = re.findall(r"`([0-9A-F]{2})([ a-z]*)`( and four bytes)?", row["command"]) if "where" in row else []
+        operands.update({int(byte, 16): 4 if four else len(names.split()) for byte, names, four in found})
+        second |= {int(byte, 16) for byte, *_ in found if row["meaning"].startswith("second system")}
+    check("FORMAT.md has the commands", operands, OPERANDS)
+    check("FORMAT.md has those of the second system", second, {command for command, sort in CLAUSES.items() if sort.second})
+    sentence = re.search(r"may alternate\.(.*?)are the disequations", markdown, re.S)[1]
+    disequations = {command for command, sort in CLAUSES.items() if sort.disequation}
+    check("FORMAT.md has the disequations", {int(byte, 16) for byte in re.findall(r"`(..)`", sentence)}, disequations)
+
+
 def test_format():
     """Every example of docs/FORMAT.md is run."""
     markdown = (TOP / "docs" / "FORMAT.md").read_text()
     text = "".join(line[4:] for line in markdown.splitlines(True) if line.startswith("    "))
     commands = [f"{clause[0]:02X}" for clause in read_text(text).question.clauses]
-    check("FORMAT.md, the text says its commands", re.findall(r"# ([12][0-3])\b", text), commands)
+    check("FORMAT.md, the text says its commands", re.findall(r"# ([0-9A-F]{2})\b", text), commands)
     seen = []
     for row in tables(markdown):
         name = f"FORMAT.md, {' | '.join(row.values())}"
+        if "prints" in row:
+            due, string = [line.strip("`") for line in row["prints"].split("<br>")], example_bytes(row["bytes"])
+            check(name, program(string), due)
         if "SPEC" in row:
-            due = [line.strip("`") for line in row["prints"].split("<br>")]
-            check(name, program(example_bytes(row["bytes"])), due)
             seen += [row["SPEC"]]
+        elif "prints" in row and "command" in row:
+            check(f"{name}: command", row["command"] in [f"`{clause[0]:02X}`" for clause in read_question(string).clauses], True)
+            seen += [row["command"]]
         elif "prints" in row:
-            due = [line.strip("`") for line in row["prints"].split("<br>")]
-            check(name, program(example_bytes(row["bytes"])), due)
             if row["number"].startswith("`0x"):
                 check(f"{name}: number", int(row["number"].strip("`"), 16), packed(due))
             else:
@@ -91,7 +109,7 @@ def test_format():
             check(name, program(constant_question(int(row["a"].strip("`"), 16)))[1], f"height {row['zimorgal_height(a)']}")
             seen += ["height"]
     due = {"answer no", "v00 (o*)", "reason 0", "reason 1", "reason 2", "reason 3 1", "tree", "join", "height"}
-    due |= {f"4.5.{sentence}" for sentence in range(1, 6)}
+    due |= {f"4.5.{sentence}" for sentence in range(1, 6)} | {f"`{command}`" for command in ("30", "31", "32", "38", "39", "3A")}
     check("FORMAT.md has an example of everything", due | {f"refused {number}" for number in range(1, 11)}, set(seen))
 
 
@@ -101,7 +119,7 @@ def test_format_text():
     check("FORMAT.md lists the reserved words", " ".join(f"reserved words: {RESERVED}.".split()) in " ".join(markdown.split()), True)
     rows = list(tables(markdown))
     joins = [(row["text"], row["in the format"]) for row in rows if "in the format" in row]
-    check("FORMAT.md has joins inside", len(joins), 2)
+    check("FORMAT.md has joins inside", len(joins), 4)
     for text, clauses in joins:
         lines = [re.findall(r"`(.*?)`", cell) for cell in (text, clauses)]
         texts = ["\n".join(["satisfiable", f"free {names}", *part]) for names, part in zip(("a b c d", "a b c d t"), lines)]

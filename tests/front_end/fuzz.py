@@ -13,8 +13,10 @@ from harness import TOP, check, command, program_says
 
 WORDS = ["satisfiable", "entails", "free", "own", "let", "if", "then", "not", "join", "is", "=", "o", "*", "(*o)", "(o*)", "(o *)", "(oo)", "((*o)o)",
          "(" * 7, ")", "(*", "a", "b", "c", "x", "y", "a", "b", "c", "a,", "7a", "0", "1", "#", "# o", "\t", "\r", "\ufeff", "\0", "\x1b[31m", "\u00e4",
-         "\u2028", "\u202e", "\x85", "\xa0", "L", "L", "_", "a" * 300, "join join", "is not", "not a join b is", "a join b join c is"]
-HEADS = ["satisfiable\nfree a b c\n", "entails\nfree a b\nown c x y\nlet L = (*o)\n", "entails\nfree a b c x y\nthen\n", ""]
+         "\u2028", "\u202e", "\x85", "\xa0", "L", "L", "_", "a" * 300, "join join", "is not", "not a join b is", "a join b join c is", "may", "with", "write", "read",
+         "may write", "may read", "may not", "a with b", "a join b with"]
+HEADS = ["satisfiable\nfree a b c\n", "entails\nfree a b\nown c x y\nlet L = (*o)\n", "entails\nfree a b c x y\nthen\n",
+         "entails\nfree a may read\nown with write\nthen\n", ""]
 
 
 def random_words(random):
@@ -28,7 +30,8 @@ def random_clauses(random):
     lines = []
     for _ in range(random.randrange(6)):
         sides = [" join ".join(random.choices(shares, k=random.choice([1, 1, 2, 2, 3]))) for _ in range(2)]
-        lines.append(random.choice(["", "", "not "]) + random.choice([" is ", " is ", " is not "]).join(sides))
+        clause = random.choice(["{} is {}", "{} is {}", "{} is not {}", "{} with {}", "{} may write", "{} may read"])
+        lines.append(random.choice(["", "", "not "]) + clause.format(*sides))
         lines += random.choice([[], [], ["then"], ["if"]])
     return (random.choice(HEADS[:2]) + "\n".join(lines)).encode()
 

@@ -1,4 +1,4 @@
-"""Tests of joins inside a clause: random questions are compared with their meaning, by going through all shares.
+"""Tests of what clauses mean, with joins inside and without: random questions are compared with it, by going through all shares.
 
 Nothing here is taken from front_end. A share is a number with 2^levels bits, one for each leaf. How tall the shares must be that are
 gone through is SPEC 5: h + c(d) and h + c(d+1) for solutions, and c(e) more for own variables.
@@ -28,6 +28,35 @@ class Clause:
     def holds(self, shares):
         left, right = total(self.left, shares), total(self.right, shares)
         return (left is not None and left == right) != self.negated
+
+    def met(self, shares):
+        """Whether what is positive in it holds: nothing of a disequation is."""
+        return self.negated or self.holds(shares)
+
+    def fresh(self):
+        """How many variables more it has in bytes."""
+        return max(len(self.left + self.right) - 3, 0)
+
+
+class Policy(Clause):
+    """'left may write', 'left may read' or 'left with right', as the verb says. That the joins inside are defined is positive, in a disequation too."""
+
+    def __init__(self, left, verb, right=()):
+        super().__init__(list(left), list(right), verb == "may read")
+        self.verb = verb
+
+    def __str__(self):
+        return f"{' join '.join(self.left)} {self.verb} {' join '.join(self.right)}".rstrip()
+
+    def holds(self, shares):
+        whole = total(self.left + self.right, shares)
+        return whole is not None and {"may write": whole == shares["*"], "may read": whole > 0, "with": True}[self.verb]
+
+    def met(self, shares):
+        return total(self.left, shares) is not None if self.negated else self.holds(shares)
+
+    def fresh(self):
+        return len(self.left) - 1 + max(len(self.right) - 1, 0)
 
 
 def total(words, shares):
@@ -82,7 +111,7 @@ class Meaning:
         tallest = max(self.trees.values(), default=0)
         self.height = tallest + log(sum(clause.negated for clause in self.first) + kind)
         self.levels = max(self.height, tallest) + log(len(self.disequations))
-        self.constants = {tree: leaves(tree, self.levels) for tree in self.trees}
+        self.constants = {tree: leaves(tree, self.levels) for tree in ["*", *self.trees]}
 
     def text(self):
         lines = ["entails" if self.kind else "satisfiable"]
@@ -96,9 +125,8 @@ class Meaning:
         return "\n".join(lines)
 
     def variables(self):
-        """How many variables the question has in bytes: each join inside a clause is one."""
-        inside = sum(max(len(clause.left + clause.right) - 3, 0) for _, clause in self.clauses)
-        return len(self.free + self.own) + inside
+        """How many variables the question has in bytes."""
+        return len(self.free + self.own) + sum(clause.fresh() for _, clause in self.clauses)
 
     def cost(self):
         """How many choices of shares there are."""
@@ -115,7 +143,7 @@ class Meaning:
         found = set()
         for values in itertools.product(range(1 << (1 << self.levels)), repeat=len(self.own)):
             all_shares = {**shares, **dict(zip(self.own, values))}
-            if all(clause.negated or clause.holds(all_shares) for clause in self.second):
+            if all(clause.met(all_shares) for clause in self.second):
                 found.add(tuple(clause.holds(all_shares) for clause in self.disequations))
         return found
 
@@ -142,6 +170,10 @@ class Meaning:
 
 def random_clause(random, words):
     """A clause with up to four shares joined on its left, and up to two on its right."""
+    if random.randrange(3) == 0:
+        left, right = (random.choices(words, k=random.choice([1, 1, 2, most])) for most in (3, 2))
+        verb = random.choice(["may write", "may read", "with"])
+        return Policy(left, verb, right if verb == "with" else ())
     if random.randrange(4) == 0:
         return Clause(random.choices(words, k=random.choice([1, 1, 2])), random.choices(words, k=1), True)
     left = random.choice([1, 2, 3, 3, 4])
@@ -172,20 +204,20 @@ def compare(meaning):
         shares = {**meaning.constants, **{name: leaves(tree, meaning.levels) for name, tree in (said["solution"] or {}).items()}}
         check(f"the solution shown for {text!r}", [str(clause) for clause in meaning.first if not clause.holds(shares)], [])
         check(f"it does not extend, for {text!r}", meaning.kind == 0 or (reason, number) in meaning.missed(shares), True)
-    return verdict, reason, any(len(clause.left + clause.right) > 3 for _, clause in meaning.clauses)
+    return verdict, reason, meaning.variables() > len(meaning.free + meaning.own), any(isinstance(clause, Policy) for _, clause in meaning.clauses)
 
 
 def test_meaning():
-    """Random questions with joins inside their clauses."""
+    """Random questions, with joins inside their clauses and without, with the clauses of a policy and without."""
     random = Random(14)
     seen = []
-    while len(seen) < 500:
+    while len(seen) < 700:
         meaning = random_meaning(random)
         if meaning.variables() <= 12 and meaning.cost() <= 1 << 15:
             seen.append(compare(meaning))
-    due = {(verdict, reason, inside) for verdict, reason in [("yes", None), ("no", None), ("yes", 0), ("yes", 1), ("no", 2), ("no", 3)]
-           for inside in (False, True)}
-    check("every kind of answer was seen, with joins inside and without", due - set(seen), set())
+    due = {(*answer, inside, policy) for answer in [("yes", None), ("no", None), ("yes", 0), ("yes", 1), ("no", 2), ("no", 3)]
+           for inside in (False, True) for policy in (False, True)}
+    check("every kind of answer was seen, with joins inside and without, with a policy and without", due - set(seen), set())
 
 
 def test_order():

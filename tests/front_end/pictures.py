@@ -21,6 +21,8 @@ QUESTIONS = [
     ("reason 2", "entails\nfree a\nthen\na is *", "no: this solution of the first system cannot meet the positive clauses of the second"),
     ("reason 3", "entails\nfree a\n\nthen\na is  not o",
      "no: this solution of the first system cannot have 'a is not o' (line 5) beside the positive clauses of the second"),
+    ("reason 3, of a join that may read", "entails\nfree a b\na with b\nthen\na join b may read",
+     "no: this solution of the first system cannot have 'a join b may read' (line 5) beside the positive clauses of the second"),
     ("names that the answer's lines have too", "entails\nfree height answer reason\nheight is (*o)\nthen\nheight is not (*o)",
      "no: this solution of the first system cannot have 'height is not (*o)' (line 5) beside the positive clauses of the second"),
     ("a long name", f"satisfiable\nfree {'n' * 255}", "yes: this is a solution"),
