@@ -184,10 +184,10 @@ void bytes_of_questions() {
 
 // A step that must fail with an error and leave the question as it was.
 template <class Step>
-void refused(Question& question, Error error, const char* what, Step step) {
+void refused(Question& question, Error error, const std::string& what, Step step) {
     const String before = copy(question);
-    check(step() == error, std::string("error: ") + what);
-    check(copy(question) == before && accepted(question), std::string("left as it was: ") + what);
+    check(step() == error, "error: " + what);
+    check(copy(question) == before && accepted(question), "left as it was: " + what);
 }
 
 void errors() {
@@ -243,18 +243,23 @@ void limits() {
     // Of every sort some; one more of any sort is too many, whatever it names.
     const Clause positives[] = {equal(v0, v0), join(v0, v0, v0), may_write(v0), together(v0, v0)};
     const Clause disequations[] = {not_equal(v0, v0), not_join(v0, v0, v0), may_read(v0)};
+    const auto relation = [](const Clause& clause) {
+        return "relation " + std::to_string(static_cast<unsigned>(clause.relation));
+    };
     for (const System system : {System::first, System::second}) {
         Question question = entailment(1, 0);
         for (std::size_t i = 0; i < 64; ++i) take(question.add(system, positives[i % 4]));
         check(accepted(question), "64 positive clauses");
         for (const Clause& clause : positives)
-            refused(question, Error::too_many_positives, "a 65th", [&] { return question.add(system, clause); });
+            refused(question, Error::too_many_positives, "a 65th, " + relation(clause),
+                    [&] { return question.add(system, clause); });
         refused(question, Error::too_many_positives, "before a term that names nothing",
                 [&] { return question.add(system, may_write(v1)); });
         for (std::size_t i = 0; i < 31; ++i) take(question.add(system, disequations[i % 3]));
         check(accepted(question), "31 disequations");
         for (const Clause& clause : disequations)
-            refused(question, Error::too_many_disequations, "a 32nd", [&] { return question.add(system, clause); });
+            refused(question, Error::too_many_disequations, "a 32nd, " + relation(clause),
+                    [&] { return question.add(system, clause); });
         refused(question, Error::too_many_disequations, "before a term that names nothing",
                 [&] { return question.add(system, may_read(v1)); });
     }
