@@ -18,13 +18,12 @@ using zimorgal::Question;
 
 namespace {
 
-// The free variables of every question here.
+// The free variables of the questions here.
 constexpr Free lights{0};    // the part that the thread of the lights holds
 constexpr Free sound{1};     // the part that the thread of the sound holds
 constexpr Free both{2};      // what the two have together
 constexpr Free recorder{3};  // the part that a third thread holds
-constexpr Free all{4};       // what the three have together
-constexpr const char* names[] = {"lights", "sound", "both", "recorder", "all"};
+constexpr const char* names[] = {"lights", "sound", "both", "recorder"};
 
 // No step here can fail; one that does is a mistake in this program.
 void take(Error error) {
@@ -38,11 +37,17 @@ Constant take(zimorgal::NewConstant made) {
     return made.constant;
 }
 
-// The parts of the lights and of the sound join, and neither is empty.
-void two_threads(Question& question, Constant nothing) {
+// The parts of the lights and of the sound join, and both threads may read.
+void two_threads(Question& question) {
     take(question.first(join(lights, sound, both)));
-    take(question.first(not_equal(lights, nothing)));
-    take(question.first(not_equal(sound, nothing)));
+    take(question.first(may_read(lights)));
+    take(question.first(may_read(sound)));
+}
+
+// A third thread may read beside them.
+void third_thread(Question& question) {
+    take(question.first(together(both, recorder)));
+    take(question.first(may_read(recorder)));
 }
 
 // Asks, and writes the verdict and what is shown with it.
@@ -63,47 +68,43 @@ int main() {
     zimorgal::Workspace workspace;
     Question question;
 
-    take(question.start_satisfiability(5));
-    Constant nothing = take(question.constant("o"));
-    two_threads(question, nothing);
-    take(question.first(join(both, recorder, all)));
-    take(question.first(not_equal(recorder, nothing)));
-    report("Two threads hold parts of the cue list. May a third hold a part as well?", question, workspace);
+    take(question.start_satisfiability(4));
+    two_threads(question);
+    third_thread(question);
+    report("Two threads may read the cue list. May a third read it as well?", question, workspace);
 
-    take(question.start_satisfiability(5));
-    nothing = take(question.constant("o"));
-    Constant whole = take(question.constant("*"));
-    two_threads(question, nothing);
-    take(question.first(equal(both, whole)));
-    take(question.first(join(both, recorder, all)));
-    take(question.first(not_equal(recorder, nothing)));
-    report("And if the two together hold the whole list?", question, workspace);
+    take(question.start_satisfiability(4));
+    two_threads(question);
+    third_thread(question);
+    take(question.first(may_write(both)));
+    report("And if the two together may write the list?", question, workspace);
+
+    take(question.start_satisfiability(2));
+    take(question.first(may_write(lights)));
+    take(question.first(may_read(sound)));
+    take(question.first(together(lights, sound)));
+    report("The lights may write the list, and the sound may read it. May their parts be held together?", question,
+           workspace);
 
     take(question.start_entailment(3, 0));
-    nothing = take(question.constant("o"));
-    whole = take(question.constant("*"));
-    two_threads(question, nothing);
-    take(question.second(equal(both, whole)));
+    two_threads(question);
+    take(question.second(may_write(both)));
     report("The sound gives its part to the lights. May the next line of the lights write the list?", question,
            workspace);
 
     take(question.start_entailment(3, 0));
-    nothing = take(question.constant("o"));
-    whole = take(question.constant("*"));
     const Constant left = take(question.constant("(*o)"));
     const Constant right = take(question.constant("(o*)"));
-    two_threads(question, nothing);
+    two_threads(question);
     take(question.first(equal(lights, left)));
     take(question.first(equal(sound, right)));
-    take(question.second(equal(both, whole)));
+    take(question.second(may_write(both)));
     report("And if the list was split between them, left half and right half?", question, workspace);
 
     take(question.start_entailment(3, 1));
-    nothing = take(question.constant("o"));
-    whole = take(question.constant("*"));
     const Own rest{0};
-    two_threads(question, nothing);
-    take(question.second(join(both, rest, whole)));
-    take(question.second(not_equal(rest, nothing)));
-    report("Is there always a part left that would make theirs whole?", question, workspace);
+    two_threads(question);
+    take(question.second(together(both, rest)));
+    take(question.second(may_read(rest)));
+    report("Is there always a part left with which one thread more may read?", question, workspace);
 }

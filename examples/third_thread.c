@@ -9,24 +9,23 @@
 #include "zimorgal.h"
 
 /* The free variables of the questions here. */
-enum { LIGHTS, SOUND, BOTH, RECORDER, ALL };
-static const char *const names[] = {"lights", "sound", "both", "recorder", "all"};
+enum { LIGHTS, SOUND, BOTH, RECORDER };
+static const char *const names[] = {"lights", "sound", "both", "recorder"};
 
 /* Constants are numbered from 20 on, in hexadecimal. */
-enum { NOTHING = 0x20, WHOLE = 0x21 };
+enum { WHOLE = 0x20 };
 
 /* One command a line. */
 /* clang-format off */
 
-/* May a third thread hold a part as well? */
+/* May a third thread read as well? */
 static const uint8_t third_thread[] = {
-    0x01, ZIMORGAL_SATISFIABILITY, 5, 0, /* five free variables */
-    0x03, 0x00, 0x00, 0x00, 0x00,        /* NOTHING */
+    0x01, ZIMORGAL_SATISFIABILITY, 4, 0, /* four free variables */
     0x10, LIGHTS, SOUND, BOTH,           /* lights join sound is both */
-    0x10, BOTH, RECORDER, ALL,           /* both join recorder is all */
-    0x13, LIGHTS, NOTHING,               /* lights is not empty */
-    0x13, SOUND, NOTHING,                /* sound is not empty */
-    0x13, RECORDER, NOTHING,             /* recorder is not empty */
+    0x32, BOTH, RECORDER,                /* both and recorder may be held together */
+    0x31, LIGHTS,                        /* lights may read: it is not empty */
+    0x31, SOUND,                         /* sound may read */
+    0x31, RECORDER,                      /* recorder may read */
     0x00,
 };
 
@@ -34,11 +33,10 @@ static const uint8_t third_thread[] = {
 enum { REST = BOTH + 1 };
 static const uint8_t part_left[] = {
     0x01, ZIMORGAL_ENTAILMENT, 3, 1,     /* three free variables, one own */
-    0x03, 0x00, 0x00, 0x00, 0x00,        /* NOTHING */
     0x03, 0xFF, 0xFF, 0xFF, 0xFF,        /* WHOLE */
     0x10, LIGHTS, SOUND, BOTH,           /* lights join sound is both */
     0x20, BOTH, REST, WHOLE,             /* then: both join rest is the whole */
-    0x23, REST, NOTHING,                 /* and rest is not empty */
+    0x39, REST,                          /* and rest may read */
     0x00,
 };
 /* clang-format on */
@@ -85,8 +83,7 @@ int main(void) {
         fprintf(stderr, "the header and the library are of two versions\n");
         return 1;
     }
-    report("Two threads hold parts of the cue list. May a third hold a part as well?", third_thread,
-           sizeof third_thread);
+    report("Two threads may read the cue list. May a third read it as well?", third_thread, sizeof third_thread);
     report("Is there always a part left that would make theirs whole?", part_left, sizeof part_left);
     report("And a question with a mistake?", mistaken, sizeof mistaken);
 

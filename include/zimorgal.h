@@ -16,11 +16,15 @@
        11 a b c         its negation                              21 a b c
        12 a b           a is b                                    22 a b
        13 a b           its negation                              23 a b
+       30 a             a is full: a may write                    38 a
+       31 a             a is not empty: a may read                39 a
+       32 a b           the join of a and b is defined: they      3A a b
+                        may be held together
        00               the end
 
    A term a, b, c is one byte: 00 to 0B a variable, the free ones first, then the own ones; 20 to 3F constant 0 to 31.
-   Each system has at most 64 positive clauses and 31 disequations (negated clauses). A clause of the first system names
-   no own variable; with kind 0 there is no second system.
+   Each system has at most 64 positive clauses and 31 disequations; 11, 13, 31 and 21, 23, 39 are the disequations. A
+   clause of the first system names no own variable; with kind 0 there is no second system.
 
    What holds of every call:
    - Every argument is allowed: any bytes, any lengths. A pointer may be NULL where its length is 0. Otherwise it must

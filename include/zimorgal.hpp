@@ -13,7 +13,7 @@
 //         draft.start_satisfiability(2);
 //         const Constant whole = draft.constant("*");
 //         draft.first(join(left, right, whole));  // left join right is the whole
-//         draft.first(not_equal(left, whole));
+//         draft.first(may_read(right));           // right is not empty
 //
 //         Question question;
 //         if (const Error error = draft.finish(question); error != Error::none) {
@@ -79,7 +79,7 @@ enum class Error : std::uint8_t {
     too_tall,  // a tree taller than 5
     not_folded,
     foreign_constant,  // of another question, or from before this one was started anew
-    unknown_relation,  // a Relation that is none of the four
+    unknown_relation,  // a Relation that is none of the seven
     unknown_system,    // a System that is none of the two
 };
 
@@ -97,7 +97,7 @@ constexpr std::string_view describe(Error error) noexcept {
         case Error::too_tall: return "a tree taller than 5";
         case Error::not_folded: return "a tree that is not folded";
         case Error::foreign_constant: return "a constant of another question, or from before this one was started anew";
-        case Error::unknown_relation: return "a relation that is none of the four";
+        case Error::unknown_relation: return "a relation that is none of the seven";
         case Error::unknown_system: return "a system that is none of the two";
     }
     return "unknown error";
@@ -181,12 +181,11 @@ class Term {
 
 // ---------------------------------------------------------------- Clauses
 
-// The values are those of the low digit of a command byte.
-enum class Relation : std::uint8_t { join = 0, not_join = 1, equal = 2, not_equal = 3 };
+enum class Relation : std::uint8_t { join, not_join, equal, not_equal, may_write, may_read, together };
 
 struct Clause {
     Relation relation;
-    std::array<Term, 3> terms;  // an equality has the first two
+    std::array<Term, 3> terms;  // of which a relation has the first one, two or three
 };
 
 // A clause whose terms are Free and Constant, which no own variable can be: it may stand in the first system.
@@ -194,10 +193,29 @@ struct FirstClause : Clause {};
 
 namespace detail {
 
+// How a relation is written and counted.
+struct Form {
+    std::uint8_t command[2];  // its byte, by system
+    std::uint8_t terms;       // how many
+    bool disequation;
+    std::string_view words[4];  // as text: before its terms, and after each of them
+};
+
+// By relation, in the order of their values.
+inline constexpr Form forms[] = {
+    {{0x10, 0x20}, 3, false, {"", " join ", " is ", ""}},     // join
+    {{0x11, 0x21}, 3, true, {"not ", " join ", " is ", ""}},  // not_join
+    {{0x12, 0x22}, 2, false, {"", " is ", ""}},               // equal
+    {{0x13, 0x23}, 2, true, {"", " is not ", ""}},            // not_equal
+    {{0x30, 0x38}, 1, false, {"", " may write"}},             // may_write
+    {{0x31, 0x39}, 1, true, {"", " may read"}},               // may_read
+    {{0x32, 0x3A}, 2, false, {"", " with ", ""}},             // together
+};
+
 template <class... Terms>
 using ClauseOf = std::conditional_t<(is_one_of<Terms, Free, Constant> && ...), FirstClause, Clause>;
 
-// The four functions below take terms and nothing else, so that a program's own functions of these names stay its own.
+// The functions below take terms and nothing else, so that a program's own functions of these names stay its own.
 template <class T>
 inline constexpr bool is_term = is_one_of<T, Free, Own, Constant, Term>;
 
@@ -228,6 +246,24 @@ constexpr detail::ClauseOf<A, B> equal(A a, B b) noexcept {
 template <class A, class B, detail::IfTerms<A, B> = 0>
 constexpr detail::ClauseOf<A, B> not_equal(A a, B b) noexcept {
     return {Clause{Relation::not_equal, {a, b, b}}};
+}
+
+// a is full: whoever holds it may write
+template <class A, detail::IfTerms<A> = 0>
+constexpr detail::ClauseOf<A> may_write(A a) noexcept {
+    return {Clause{Relation::may_write, {a, a, a}}};
+}
+
+// a is not empty: whoever holds it may read; a disequation
+template <class A, detail::IfTerms<A> = 0>
+constexpr detail::ClauseOf<A> may_read(A a) noexcept {
+    return {Clause{Relation::may_read, {a, a, a}}};
+}
+
+// the join of a and b is defined: they may be held together; no solution has this with may_write(a) and may_read(b)
+template <class A, class B, detail::IfTerms<A, B> = 0>
+constexpr detail::ClauseOf<A, B> together(A a, B b) noexcept {
+    return {Clause{Relation::together, {a, b, b}}};
 }
 
 // ---------------------------------------------------------------- Tree text of constants
@@ -360,23 +396,22 @@ class Question {
     // The same where system or terms are known only at run time.
     [[nodiscard]] Error add(System system, const Clause& clause) noexcept {
         if (system > System::second) return Error::unknown_system;
-        if (clause.relation > Relation::not_equal) return Error::unknown_relation;
+        const auto relation = static_cast<std::size_t>(clause.relation);
+        if (relation >= std::size(detail::forms)) return Error::unknown_relation;
         const bool second = system == System::second;
         if (second && kind() == Kind::satisfiability) return Error::no_second_system;
 
-        const bool negated = clause.relation == Relation::not_join || clause.relation == Relation::not_equal;
-        std::uint8_t& count = clauses_[second][negated];
-        if (negated && count == most_disequations) return Error::too_many_disequations;
-        if (!negated && count == most_positives) return Error::too_many_positives;
+        const detail::Form& form = detail::forms[relation];
+        std::uint8_t& count = clauses_[second][form.disequation];
+        if (form.disequation && count == most_disequations) return Error::too_many_disequations;
+        if (!form.disequation && count == most_positives) return Error::too_many_positives;
 
-        const bool joins = clause.relation == Relation::join || clause.relation == Relation::not_join;
-        const std::size_t terms = joins ? 3 : 2;
-        for (std::size_t i = 0; i < terms; ++i)
+        for (std::size_t i = 0; i < form.terms; ++i)
             if (const Error error = judge(system, clause.terms[i]); error != Error::none) return error;
 
         std::size_t at = size_ - 1;  // over the end
-        bytes_[at++] = static_cast<std::uint8_t>((second ? 0x20 : 0x10) + static_cast<int>(clause.relation));
-        for (std::size_t i = 0; i < terms; ++i) bytes_[at++] = byte_of(clause.terms[i]);
+        bytes_[at++] = form.command[second];
+        for (std::size_t i = 0; i < form.terms; ++i) bytes_[at++] = byte_of(clause.terms[i]);
         bytes_[at++] = 0x00;
         size_ = at;
         ++count;
@@ -446,7 +481,7 @@ class Question {
     std::array<std::uint8_t, ZIMORGAL_QUESTION_BYTES> bytes_{0x01, 0x00, 0x00, 0x00, 0x00};  // head and end
     std::size_t size_ = 5;
     std::size_t constants_ = 0;
-    std::uint8_t clauses_[2][2] = {};  // by system; positive, then negated
+    std::uint8_t clauses_[2][2] = {};  // by system; positive clauses, then disequations
     std::uint64_t identity_ = 0;       // what its constants carry; 0 before the first of them
 };
 
@@ -683,22 +718,26 @@ class QuestionText : public detail::FixedText<most_question_text> {
             put_name('c', term - std::size_t{0x20});
     }
 
+    // The form with this command, in either system. Every command of a clause has one.
+    static const detail::Form& form_of(std::uint8_t command) noexcept {
+        return *std::find_if(std::begin(detail::forms), std::end(detail::forms), [&](const detail::Form& form) {
+            return form.command[0] == command || form.command[1] == command;
+        });
+    }
+
     // Writes the clause that starts there, after a line that changes the system if it must. Gives the next one's start.
     const std::uint8_t* put_clause(const std::uint8_t* at, bool& second) noexcept {
-        const unsigned command = *at++;
-        if ((command >= 0x20) != second) {
+        const std::uint8_t command = *at++;
+        const detail::Form& form = form_of(command);
+        if ((command == form.command[1]) != second) {
             second = !second;
             put(second ? "then\n" : "if\n");
         }
-        const bool joins = (command & 2) == 0, negated = (command & 1) != 0;
-        if (joins && negated) put("not ");
-        put_term(*at++);
-        if (joins) {
-            put(" join ");
+        put(form.words[0]);
+        for (std::size_t i = 0; i < form.terms; ++i) {
             put_term(*at++);
+            put(form.words[i + 1]);
         }
-        put(!joins && negated ? " is not " : " is ");
-        put_term(*at++);
         put("\n");
         return at;
     }

@@ -80,8 +80,13 @@ static constexpr bool equal(double a, double b) { return a <= b && b <= a; }
 static constexpr int not_equal(const Point&, const Point&) { return 7; }
 static constexpr long join(long a, long b, long c) { return a + b + c; }
 static constexpr double not_join(double a, double b, double c) { return a * b * c; }
+static constexpr int may_write(const Point&) { return 8; }
+static constexpr int may_read(const Point&) { return 9; }
+static constexpr long together(long a, long b) { return a - b; }
 static_assert(equal(1, 1) && !equal(0, 1) && join(1, 2, 3) == 6 && equal(not_join(1, 2, 3), 6), "not captured");
-static_assert(not_equal(Corner(), Corner()) == 7, "not captured");
+static_assert(not_equal(Corner(), Corner()) == 7 && may_write(Corner()) == 8 && may_read(Corner()) == 9 &&
+                  together(5, 3) == 2,
+              "not captured");
 
 namespace {
 
@@ -102,10 +107,15 @@ constexpr Constant c0;
 static_assert(stands_first<decltype(join(v0, c0, v1))> && stands_second<decltype(join(v0, c0, v1))>);
 static_assert(stands_first<decltype(not_join(c0, c0, c0))> && stands_first<decltype(equal(v0, c0))> &&
               stands_first<decltype(not_equal(c0, v0))>);
+static_assert(stands_first<decltype(may_write(v0))> && stands_first<decltype(may_read(c0))> &&
+              stands_first<decltype(together(v0, c0))>);
 static_assert(!stands_first<decltype(join(own0, v0, v0))> && !stands_first<decltype(join(v0, own0, v0))> &&
               !stands_first<decltype(join(v0, v0, own0))> && !stands_first<decltype(not_join(v0, own0, c0))> &&
-              !stands_first<decltype(equal(v0, own0))> && !stands_first<decltype(not_equal(own0, c0))>);
-static_assert(stands_second<decltype(join(own0, v0, c0))> && stands_second<decltype(not_equal(own0, own1))>);
+              !stands_first<decltype(equal(v0, own0))> && !stands_first<decltype(not_equal(own0, c0))> &&
+              !stands_first<decltype(together(own0, v0))>);
+static_assert(stands_second<decltype(join(own0, v0, c0))> && stands_second<decltype(not_equal(own0, own1))> &&
+              stands_second<decltype(may_write(own0))> && stands_second<decltype(may_read(own0))> &&
+              stands_second<decltype(together(v0, own0))>);
 static_assert(!stands_first<decltype(equal(Term(v0), c0))>, "a term known only at run time");
 static_assert(!stands_first<Clause> && !std::is_convertible_v<int, Term> && !std::is_convertible_v<Own, Free>);
 
@@ -146,10 +156,17 @@ void bytes_of_questions() {
     take(every.second(equal(own1, second)));
     take(every.first(not_equal(second, v0)));
     take(every.second(not_equal(first, own1)));
+    take(every.first(may_write(v1)));
+    take(every.second(may_write(own0)));
+    take(every.first(may_read(second)));
+    take(every.second(may_read(own1)));
+    take(every.first(together(v0, second)));
+    take(every.second(together(own1, v1)));
     check(
         copy(every) == String{0x01, 0x01, 0x02, 0x02, 0x03, 0x01, 0x02, 0x03, 0x04, 0x03, 0x00, 0x00, 0x00, 0x80, 0x20,
                               0x01, 0x02, 0x20, 0x10, 0x00, 0x01, 0x20, 0x11, 0x20, 0x00, 0x01, 0x21, 0x03, 0x02, 0x00,
-                              0x12, 0x01, 0x21, 0x22, 0x03, 0x21, 0x13, 0x21, 0x00, 0x23, 0x20, 0x03, 0x00},
+                              0x12, 0x01, 0x21, 0x22, 0x03, 0x21, 0x13, 0x21, 0x00, 0x23, 0x20, 0x03, 0x30, 0x01, 0x38,
+                              0x02, 0x31, 0x21, 0x39, 0x03, 0x32, 0x00, 0x21, 0x3A, 0x03, 0x01, 0x00},
         "bytes of every command");
     check(accepted(every), "every command is accepted");
     Question again = every;
@@ -167,10 +184,10 @@ void bytes_of_questions() {
 
 // A step that must fail with an error and leave the question as it was.
 template <class Step>
-void refused(Question& question, Error error, const char* what, Step step) {
+void refused(Question& question, Error error, const std::string& what, Step step) {
     const String before = copy(question);
-    check(step() == error, std::string("error: ") + what);
-    check(copy(question) == before && accepted(question), std::string("left as it was: ") + what);
+    check(step() == error, "error: " + what);
+    check(copy(question) == before && accepted(question), "left as it was: " + what);
 }
 
 void errors() {
@@ -185,11 +202,15 @@ void errors() {
     refused(sat, Error::names_nothing, "free variable 2 of 2", [&] { return sat.first(equal(v2, v0)); });
     refused(sat, Error::names_nothing, "in the second place", [&] { return sat.first(not_equal(v0, v2)); });
     refused(sat, Error::names_nothing, "in the third place", [&] { return sat.first(join(v0, v1, v2)); });
+    refused(sat, Error::names_nothing, "one that may write", [&] { return sat.first(may_write(v2)); });
+    refused(sat, Error::names_nothing, "one that may read", [&] { return sat.first(may_read(v2)); });
+    refused(sat, Error::names_nothing, "the second held together", [&] { return sat.first(together(v0, v2)); });
     refused(sat, Error::names_nothing, "no constant", [&] { return sat.first(equal(v0, Constant{})); });
     refused(sat, Error::names_nothing, "free variable 32 is no constant",
             [&] { return sat.first(equal(Free{32}, v0)); });
     refused(sat, Error::names_nothing, "free variable 256 is not 0", [&] { return sat.first(equal(Free{256}, v0)); });
     refused(sat, Error::no_second_system, "second system", [&] { return sat.second(equal(v0, empty)); });
+    refused(sat, Error::no_second_system, "before a term that names nothing", [&] { return sat.second(may_read(v2)); });
     refused(sat, Error::not_tree_text, "a constant that is no tree", [&] { return sat.constant("(*").error; });
     refused(sat, Error::too_tall, "a tall constant", [&] { return sat.constant("((((((*o)o)o)o)o)o)").error; });
     refused(sat, Error::not_folded, "a constant not folded", [&] { return sat.constant("(oo)").error; });
@@ -219,21 +240,28 @@ void limits() {
     take(constants.first(equal(last, take(constants.constant(0u)))));
     refused(constants, Error::too_many_constants, "a 33rd by text", [&] { return constants.constant("*").error; });
 
+    // Of every sort some; one more of any sort is too many, whatever it names.
+    const Clause positives[] = {equal(v0, v0), join(v0, v0, v0), may_write(v0), together(v0, v0)};
+    const Clause disequations[] = {not_equal(v0, v0), not_join(v0, v0, v0), may_read(v0)};
+    const auto relation = [](const Clause& clause) {
+        return "relation " + std::to_string(static_cast<unsigned>(clause.relation));
+    };
     for (const System system : {System::first, System::second}) {
         Question question = entailment(1, 0);
-        for (int i = 0; i < 64; ++i) take(question.add(system, i % 2 ? Clause{equal(v0, v0)} : join(v0, v0, v0)));
+        for (std::size_t i = 0; i < 64; ++i) take(question.add(system, positives[i % 4]));
         check(accepted(question), "64 positive clauses");
-        refused(question, Error::too_many_positives, "a 65th equality",
-                [&] { return question.add(system, equal(v0, v0)); });
-        refused(question, Error::too_many_positives, "a 65th join",
-                [&] { return question.add(system, join(v0, v0, v0)); });
-        for (int i = 0; i < 31; ++i)
-            take(question.add(system, i % 2 ? Clause{not_equal(v0, v0)} : not_join(v0, v0, v0)));
+        for (const Clause& clause : positives)
+            refused(question, Error::too_many_positives, "a 65th, " + relation(clause),
+                    [&] { return question.add(system, clause); });
+        refused(question, Error::too_many_positives, "before a term that names nothing",
+                [&] { return question.add(system, may_write(v1)); });
+        for (std::size_t i = 0; i < 31; ++i) take(question.add(system, disequations[i % 3]));
         check(accepted(question), "31 disequations");
-        refused(question, Error::too_many_disequations, "a 32nd inequality",
-                [&] { return question.add(system, not_equal(v0, v0)); });
-        refused(question, Error::too_many_disequations, "a 32nd negated join",
-                [&] { return question.add(system, not_join(v0, v0, v0)); });
+        for (const Clause& clause : disequations)
+            refused(question, Error::too_many_disequations, "a 32nd, " + relation(clause),
+                    [&] { return question.add(system, clause); });
+        refused(question, Error::too_many_disequations, "before a term that names nothing",
+                [&] { return question.add(system, may_read(v1)); });
     }
 
     // Everything at its limit, the longest string, answered.
@@ -281,6 +309,14 @@ struct ByHand {
 };
 
 std::uint8_t byte(unsigned number) { return static_cast<std::uint8_t>(number); }
+
+// The commands of a relation in the first and in the second system, and how many terms it has; in the order of the
+// relations.
+const struct {
+    std::uint8_t commands[2];
+    std::uint8_t terms;
+} relations[] = {{{0x10, 0x20}, 3}, {{0x11, 0x21}, 3}, {{0x12, 0x22}, 2}, {{0x13, 0x23}, 2},
+                 {{0x30, 0x38}, 1}, {{0x31, 0x39}, 1}, {{0x32, 0x3A}, 2}};
 
 // A term of a sort that the system may have, and its byte. Now and then one past the last that is defined, or an own
 // variable in the first system.
@@ -355,13 +391,13 @@ void random_steps() {
                 continue;
             }
             const System system = random.below(2) == 0 ? System::first : System::second;
-            const unsigned relation = random.below(4);
+            const unsigned relation = random.below(std::size(relations));
             std::uint8_t written[3];
             const Term a = random_term(random, hand, system, written[0]);
             const Term b = random_term(random, hand, system, written[1]);
             const Term c = random_term(random, hand, system, written[2]);
-            tried.clauses.push_back(byte((system == System::first ? 0x10 : 0x20) + relation));
-            tried.clauses.insert(tried.clauses.end(), written, written + (relation < 2 ? 3 : 2));
+            tried.clauses.push_back(relations[relation].commands[system == System::second]);
+            tried.clauses.insert(tried.clauses.end(), written, written + relations[relation].terms);
             compare(question.add(system, {static_cast<Relation>(relation), {a, b, c}}), tried);
         }
     }
@@ -373,7 +409,7 @@ void random_steps() {
 
 // ---------------------------------------------------------------- Any value of any enum
 
-// Every byte as a relation and as a system: only the four and the two are taken, and each puts its own command.
+// Every byte as a relation and as a system: only the seven and the two are taken, and each puts its own command.
 void every_enum_value() {
     for (unsigned system = 0; system < 256; ++system) {
         for (unsigned relation = 0; relation < 256; ++relation) {
@@ -381,12 +417,12 @@ void every_enum_value() {
             const String before = copy(question);
             const Error error =
                 question.add(static_cast<System>(system), {static_cast<Relation>(relation), {v0, v1, v0}});
-            const Error due = system > 1 ? Error::unknown_system : relation > 3 ? Error::unknown_relation : Error::none;
+            const Error due = system > 1 ? Error::unknown_system : relation > 6 ? Error::unknown_relation : Error::none;
             String after = before;
             if (due == Error::none) {
-                after.pop_back();
-                after.insert(after.end(), {byte(0x10 + 0x10 * system + relation), 0x00, 0x01});
-                if (relation < 2) after.push_back(0x00);
+                const std::uint8_t written[] = {0x00, 0x01, 0x00};
+                after.back() = relations[relation].commands[system];
+                after.insert(after.end(), written, written + relations[relation].terms);
                 after.push_back(0x00);
             }
             if (error != due || copy(question) != after || !accepted(question))
@@ -606,6 +642,48 @@ void results() {
     check(wild.place == 0xFFFF && wild.height == 0xFF && wild.disequation == 0xFF, "every number is decoded");
 }
 
+// One that may write and one that may read, held together.
+Question writer_and_reader(Question question, Free writer, Free reader) {
+    take(question.first(may_write(writer)));
+    take(question.first(may_read(reader)));
+    take(question.first(together(reader, writer)));
+    return question;
+}
+
+// What may write, what may read and what may be held together, in both systems.
+void policies() {
+    const Result never{Verdict::no, Refusal::none, 0, 0, Reason::none, 0};
+    answers("a writer and a reader", writer_and_reader(satisfiability(2), v0, v1), never, {}, false);
+    answers("who does both", writer_and_reader(satisfiability(1), v0, v0), never, {}, false);
+    answers("from which all follows", writer_and_reader(entailment(2, 0), v1, v0),
+            {Verdict::yes, Refusal::none, 0, 0, Reason::first_unsolvable, 0}, {}, false);
+
+    Question question = satisfiability(2);
+    take(question.first(may_read(v0)));
+    take(question.first(may_read(v1)));
+    take(question.first(together(v0, v1)));
+    answers("two readers", question, {Verdict::yes, Refusal::none, 0, 1, Reason::none, 0}, {"(*o)", "(o*)"}, true);
+
+    question = entailment(1, 0);
+    take(question.first(may_write(v0)));
+    take(question.second(may_read(v0)));
+    answers("a writer may read", question, {Verdict::yes, Refusal::none, 0, 0, Reason::none, 0}, {}, false);
+
+    question = entailment(1, 0);
+    take(question.first(may_read(v0)));
+    take(question.second(may_write(v0)));
+    answers("a reader may write", question, {Verdict::no, Refusal::none, 0, 1, Reason::positives_unmet, 0}, {"(o*)"},
+            true);
+
+    question = entailment(1, 1);
+    take(question.second(not_join(v0, v0, v0)));
+    take(question.second(together(v0, own0)));
+    take(question.second(may_read(own0)));
+    take(question.first(may_read(v0)));
+    answers("a part is left for a reader", question, {Verdict::no, Refusal::none, 0, 1, Reason::disequation_unmet, 1},
+            {"*"}, true);
+}
+
 // ---------------------------------------------------------------- Tree text
 
 void tree_text() {
@@ -722,9 +800,12 @@ void texts() {
     take(question.second(not_join(v0, own0, v1)));
     take(question.second(equal(own0, half)));
     take(question.first(not_equal(v1, take(question.constant("o")))));
+    take(question.first(may_write(half)));
+    take(question.second(may_read(own0)));
+    take(question.second(together(own0, v1)));
     const char* const due =
         "entails\nfree v00 v01\nown v02\nlet c00 = (*o)\nlet c01 = o\nv00 join v01 is c00\nthen\n"
-        "not v00 join v02 is v01\nv02 is c00\nif\nv01 is not c01\n";
+        "not v00 join v02 is v01\nv02 is c00\nif\nv01 is not c01\nc00 may write\nthen\nv02 may read\nv02 with v01\n";
     const QuestionText text = text_of(question);
     check(text.view() == due && text.str() == due, "a question as text");
     const QuestionText nothing = text_of(Question());
@@ -770,6 +851,7 @@ int main() {
     whose_constant();
     drafts();
     results();
+    policies();
     tree_text();
     constants();
     texts();

@@ -109,15 +109,16 @@ Error due_term(const Model& model, bool second, const Put& put, reader::Term& me
 
 Error due_clause(Model& model, const Step& step) {
     if (step.system > 1) return Error::unknown_system;
-    if (step.relation > 3) return Error::unknown_relation;
-    reader::Clause clause{step.system == 1, step.relation == 1 || step.relation == 3, {}};
+    if (step.relation >= std::size(reader::forms)) return Error::unknown_relation;
+    const reader::Form& form = reader::forms[step.relation];  // which stand in the order of the relations
+    reader::Clause clause{step.system == 1, form.negated, form.said, {}};
     if (clause.second && !model.question.entailment) return Error::no_second_system;
     std::size_t alike = 0;
     for (const auto& other : model.question.clauses)
         alike += other.second == clause.second && other.negated == clause.negated;
     if (clause.negated && alike == 31) return Error::too_many_disequations;
     if (!clause.negated && alike == 64) return Error::too_many_positives;
-    for (std::size_t i = 0; i < (step.relation < 2 ? 3u : 2u); ++i) {
+    for (std::size_t i = 0; i < form.terms; ++i) {
         reader::Term means{};
         if (const Error error = due_term(model, clause.second, step.terms[i], means); error != Error::none)
             return error;
@@ -273,7 +274,7 @@ class Program {
         }
         step.system = random_.below(2);
         step.sort = random_.one_in(2) ? Step::Sort::add : step.system == 0 ? Step::Sort::first : Step::Sort::second;
-        step.relation = random_.below(4);
+        step.relation = random_.below(std::size(reader::forms));
         if (random_.one_in(wild_)) step.relation = random_.below(256);
         if (random_.one_in(wild_) && step.sort == Step::Sort::add) step.system = random_.below(256);
         for (int i = 0; i < 3; ++i) step.terms.push_back(term(model, step.system == 1));
@@ -329,6 +330,7 @@ std::string hexadecimal(const std::vector<std::uint8_t>& bytes) {
 
 // What a model means, on a line: kind and variables, the constants, the clauses of the first system, those of the second.
 std::string meaning(const reader::Question& question) {
+    const char* const words[] = {" join", " equal", " full", " empty", " together"};  // for what is said
     std::string text = question.entailment ? "entails " : "satisfiable ";
     text += std::to_string(question.free) + " " + std::to_string(question.own) + " |";
     for (const std::uint32_t leaves : question.constants) text += " " + digits(leaves, 8);
@@ -337,6 +339,7 @@ std::string meaning(const reader::Question& question) {
             if (clause.second != second) continue;
             text += second ? " | 2" : " | 1";
             text += clause.negated ? "-" : "+";
+            text += words[static_cast<std::size_t>(clause.said)];
             for (const reader::Term& term : clause.terms) {
                 const bool share = term.sort == reader::Sort::share;
                 text += term.sort == reader::Sort::free ? " f" : share ? " " : " o";

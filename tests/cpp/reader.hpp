@@ -17,9 +17,12 @@ struct Term {
     std::uint32_t value;
 };
 
-// With three terms a join, with two an equality.
+// What a clause says of its terms. A negated one, a disequation, says that it is not so.
+enum class Said { join, equal, full, empty, together };
+
 struct Clause {
     bool second, negated;
+    Said said;
     std::vector<Term> terms;
 };
 
@@ -32,12 +35,30 @@ struct Question {
 
 inline bool operator==(const Term& a, const Term& b) { return a.sort == b.sort && a.value == b.value; }
 inline bool operator==(const Clause& a, const Clause& b) {
-    return a.second == b.second && a.negated == b.negated && a.terms == b.terms;
+    return a.second == b.second && a.negated == b.negated && a.said == b.said && a.terms == b.terms;
 }
 inline bool operator==(const Question& a, const Question& b) {
     return a.entailment == b.entailment && a.free == b.free && a.own == b.own && a.constants == b.constants &&
            a.clauses == b.clauses;
 }
+
+// A clause of the format: its commands in the first and in the second system, what it says, and how many terms it has.
+struct Form {
+    std::uint8_t commands[2];
+    bool negated;
+    Said said;
+    std::uint8_t terms;
+};
+
+inline constexpr Form forms[] = {
+    {{0x10, 0x20}, false, Said::join, 3},      // a join b is c
+    {{0x11, 0x21}, true, Said::join, 3},       // not (a join b is c)
+    {{0x12, 0x22}, false, Said::equal, 2},     // a is b
+    {{0x13, 0x23}, true, Said::equal, 2},      // a is not b
+    {{0x30, 0x38}, false, Said::full, 1},      // a is full
+    {{0x31, 0x39}, true, Said::empty, 1},      // a is not empty
+    {{0x32, 0x3A}, false, Said::together, 2},  // the join of a and b is defined
+};
 
 // The refusal number, 0 for none, and the place.
 struct Reading {
@@ -48,22 +69,23 @@ struct Reading {
 
 namespace parts {
 
+// The form of a clause with that command, in either system; none if it is not the command of a clause.
+inline const Form* form_of(unsigned command) {
+    for (const Form& form : forms)
+        if (form.commands[0] == command || form.commands[1] == command) return &form;
+    return nullptr;
+}
+
 // How many operand bytes a command has; -1 if there is no such command.
 inline int operands(unsigned command) {
     switch (command) {
         case 0x00: return 0;
         case 0x01: return 3;
         case 0x03: return 4;
-        case 0x10:
-        case 0x11:
-        case 0x20:
-        case 0x21: return 3;
-        case 0x12:
-        case 0x13:
-        case 0x22:
-        case 0x23: return 2;
-        default: return -1;
+        default: break;
     }
+    const Form* const form = form_of(command);
+    return form != nullptr ? form->terms : -1;
 }
 
 // Whether a term may stand in a clause of that system; if so, what it means.
@@ -101,12 +123,13 @@ inline unsigned constant(const std::uint8_t* operand, Question& question) {
 }
 
 inline unsigned clause(unsigned command, const std::uint8_t* operand, Question& question) {
-    Clause made{command >= 0x20, command % 2 == 1, {}};
+    const Form& form = *form_of(command);
+    Clause made{command == form.commands[1], form.negated, form.said, {}};
     if (made.second && !question.entailment) return 9;
     unsigned alike = 0;
     for (const Clause& other : question.clauses) alike += other.second == made.second && other.negated == made.negated;
     if (alike == (made.negated ? 31u : 64u)) return 7;
-    for (int i = 0; i < operands(command); ++i) {
+    for (int i = 0; i < form.terms; ++i) {
         Term term{};
         if (!means(question, made.second, operand[i], term)) return 8;
         made.terms.push_back(term);

@@ -81,6 +81,15 @@ std::vector<Shape> shapes() {
     take(question.first(join(free, free, tall)));
     all.push_back({"no solution of the first", question, Verdict::yes, Reason::first_unsolvable});
 
+    question = entailment(6, 6);
+    tall = question.constant(0x55555555u).constant;
+    for (int i = 0; i < 31; ++i) take(question.first(may_read(free)));
+    for (int i = 0; i < 64; ++i) take(question.first(together(free, tall)));
+    for (int i = 0; i < 63; ++i) take(question.second(together(free, own)));
+    take(question.second(together(tall, own)));
+    for (int i = 0; i < 31; ++i) take(question.second(may_read(own)));
+    all.push_back({"no part left to read with, 6 own", question, Verdict::no, Reason::disequation_unmet});
+
     question = Question();
     take(question.start_satisfiability(12));
     tall = question.constant(0x55555555u).constant;

@@ -78,6 +78,19 @@ unsigned height(const Row& row) {
     return found;
 }
 
+// What is said of the terms, at every leaf.
+bool is_so(reader::Said said, const Row (&terms)[3]) {
+    const auto& [a, b, c] = terms;
+    switch (said) {
+        case reader::Said::join: return (a & b).none() && (a | b) == c;
+        case reader::Said::equal: return a == b;
+        case reader::Said::full: return a.all();
+        case reader::Said::empty: return a.none();
+        case reader::Said::together: return (a & b).none();
+    }
+    return false;
+}
+
 // A positive clause holds at every leaf, a disequation fails as a clause at one.
 bool holds(const reader::Clause& clause, const std::vector<Row>& variables) {
     Row terms[3];
@@ -85,8 +98,7 @@ bool holds(const reader::Clause& clause, const std::vector<Row>& variables) {
         const reader::Term& term = clause.terms[i];
         terms[i] = term.sort == reader::Sort::share ? row_of_leaves(term.value) : variables[term.value];
     }
-    const bool join = (terms[0] & terms[1]).none() && (terms[0] | terms[1]) == terms[2];
-    return (clause.terms.size() == 3 ? join : terms[0] == terms[1]) != clause.negated;
+    return is_so(clause.said, terms) != clause.negated;
 }
 
 // ---------------------------------------------------------------- Questions made of numbers
@@ -109,10 +121,11 @@ class Maker {
         }
         unsigned left[2][2] = {{64, 31}, {64, 31}};
         while (data_ < end_) {
-            const unsigned second = below(kind + 1), relation = below(4), named = second == 1 ? free + own : free;
-            if (named + constants == 0 || left[second][relation % 2]-- == 0) break;
-            bytes.push_back(byte(0x10 + 0x10 * second + relation));
-            for (unsigned i = 0; i < (relation < 2 ? 3u : 2u); ++i) {
+            const unsigned second = below(kind + 1), named = second == 1 ? free + own : free;
+            const reader::Form& form = reader::forms[below(std::size(reader::forms))];
+            if (named + constants == 0 || left[second][form.negated]-- == 0) break;
+            bytes.push_back(form.commands[second]);
+            for (int i = 0; i < form.terms; ++i) {
                 const unsigned term = below(named + constants);
                 bytes.push_back(byte(term < named ? term : 0x20 + term - named));
             }

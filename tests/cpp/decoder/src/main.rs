@@ -2,7 +2,7 @@
 //! bytes in hexadecimal, a tab, and what the builder was told to put (tests/cpp/programs.cpp writes them). The reader
 //! must read just that. The last line is 'N passed, M failed'.
 
-use brute::question::{read, Clause, Question, Term};
+use brute::question::{read, Clause, Question, Relation, Term};
 use brute::tree::number_of_tree;
 
 fn bytes_of(hexadecimal: &str) -> Option<Vec<u8>> {
@@ -19,11 +19,22 @@ fn term(question: &Question, term: Term) -> String {
     }
 }
 
+/// What a clause says of its terms, before it is negated.
+fn said(relation: Relation) -> &'static str {
+    match relation {
+        Relation::Join(..) => "join",
+        Relation::Equal(..) => "equal",
+        Relation::Full(..) => "full",
+        Relation::Empty(..) => "empty",
+        Relation::Together(..) => "together",
+    }
+}
+
 fn clauses(question: &Question, system: char, clauses: &[Clause]) -> String {
     let one = |clause: &Clause| {
         let terms = clause.terms().into_iter().map(|t| term(question, t));
-        format!(" | {system}{}", if clause.negated { '-' } else { '+' })
-            + &terms.collect::<String>()
+        let sign = if clause.negated { '-' } else { '+' };
+        format!(" | {system}{sign} {}", said(clause.relation)) + &terms.collect::<String>()
     };
     clauses.iter().map(one).collect()
 }
