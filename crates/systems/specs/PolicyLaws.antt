@@ -1,17 +1,16 @@
 -- A writer and a reader of one cell whose shares may be held together never satisfy a system. Assumes nothing.
-use mathlib.Core.Path.{_≡_, ap, sym, _∙_, subst}
+use mathlib.Core.Path.{_≡_, _∙_, subst}
 use mathlib.Core.Bool.{true, false}
 use mathlib.Core.List.{[], _∷_}
 use mathlib.Core.Logic.{_⊎_, inl, inr}
-use mathlib.Core.Option.{some}
 use Prim.Native.Nat.{ℕ}
-use Rattle.shares.specs.Tree.{Tree, leaf, Folded, join}
+use Rattle.shares.specs.Tree.{leaf, Folded}
 use Rattle.shares.specs.TreeLaws.{treeOf-folded}
 use Rattle.shares.specs.JoinLaws.{join-comm, join-full}
-use Rattle.systems.specs.Clauses.{Term, variable, constant, together, Clause, positive, System, Constants, Assignment, valueOf, Holds, ClauseHolds, SystemHolds}
+use Rattle.systems.specs.Clauses.{Term, variable, constant, together, Clause, System, Constants, Assignment, valueOf, Holds, ClauseHolds, SystemHolds}
 use Rattle.systems.specs.Questions.{Question}
 use Rattle.systems.specs.Solutions.{Solution}
-use Rattle.systems.specs.Policies.{Among, WriterAndReader}
+use Rattle.systems.specs.Policies.{mayBeHeld, Among, WriterAndReader}
 
 module _ (cs : Constants) (σ : Assignment) where
   -- every clause of a system that holds does
@@ -28,7 +27,7 @@ module _ (cs : Constants) (σ : Assignment) where
   beside-full : (a b : Term) → valueOf cs σ a ≡ leaf true → Holds cs σ (together a b) → valueOf cs σ b ≡ leaf false
   beside-full a b e (t, j) = join-full (valueOf cs σ b) t (value-folded b) (rw e at j)
 
-  either-order : (a b : Term) (s : System) → Among (positive (together a b)) s ⊎ Among (positive (together b a)) s → SystemHolds cs σ s → Holds cs σ (together a b)
+  either-order : (a b : Term) (s : System) → Among (mayBeHeld a b) s ⊎ Among (mayBeHeld b a) s → SystemHolds cs σ s → Holds cs σ (together a b)
   either-order a b s (inl m) h = among-holds _ s m h
   either-order a b s (inr m) h = let (t, j) = among-holds _ s m h in (t, join-comm (valueOf cs σ a) (valueOf cs σ b) ∙ j)
 

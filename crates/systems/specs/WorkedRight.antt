@@ -88,6 +88,11 @@ computed =
     also (refl, refl, refl, refl)
     also (refl, refl, refl, refl)
     also (refl, refl, refl, refl)
+    also (refl, refl, refl, refl)
+    also (refl, refl, refl, refl)
+    also (refl, refl, refl, refl)
+    also (refl, refl, refl, refl)
+    also (refl, refl, refl, refl)
     also tt
 
 -- ---- so every example is right
