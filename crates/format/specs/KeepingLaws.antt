@@ -15,6 +15,7 @@ use lib.Seq.{length-take-le, take-suc-set, getD-set-same, getD-set-other, getD-d
 use Rattle.shares.specs.Constant.{constantLevels, number}
 use Rattle.shares.specs.Parts.{emptyPart, fullPart}
 use Rattle.shares.specs.Test.{or-right, or-cases}
+use Rattle.systems.specs.Clauses.{variable, constant}
 use Rattle.systems.specs.Questions.{Kind, satisfiability, entailment, Question}
 use Rattle.systems.specs.AtLeaves.{of, always, readAs}
 use Rattle.format.specs.declared.Section.{Section}
@@ -31,7 +32,7 @@ use Rattle.format.specs.declared.Step.{Step}
 use Rattle.format.specs.declared.Question.{Question as Struct}
 use Rattle.format.specs.declared.Step.the-variants.{Take, Refused}
 use Rattle.format.specs.Format.{mostVariables, mostConstants, constantBytes, termOf, entryOf, operands, commandOf, wholeAt, readAt, mostOf, inSection, names, variablesFor, atomOf, isForeign, constantFault, fault, judged, withClause, withConstant, taken}
-use Rattle.format.specs.Stored.{kindNumber, sectionNumber, joinFor, partOf, testOf, clauseBytes, sectionStart, fourAt, testsAt, Stored, stored, countOf, Counted, partNamed, StoredClause, StoredAt, Stands, heldAs, clauseWritten, commandWritten}
+use Rattle.format.specs.Stored.{kindNumber, sectionNumber, partByte, joinFor, partOf, testOf, clauseBytes, sectionStart, fourAt, testsAt, Stored, stored, countOf, Counted, partNamed, StoredClause, StoredAt, Stands, heldAs, clauseWritten, commandWritten}
 use Rattle.format.specs.Keeping.{nextSlot, keptConstants, constantCount, keptClauses, clauseCounts, Slot, clauseTotal, foreignTo, faultOf, judgedOf}
 use Rattle.format.specs.SectionLaws.{both-counts, added, Apart, Alike, same, other, alike, constant-sections, clause-keeps, section-below, slot-fits, variables-le}
 use Rattle.format.specs.FormatLaws.{branch, ClauseFits, clause-fits, ConstantFits, constant-fits, EachNamed, each-named}
@@ -147,6 +148,15 @@ module _ (l : List ℕ) (i : ℕ) (w : LeafJoin) where
 
 -- ---- the parts of a stored clause
 
+-- a term's byte is its own
+pub byte-back : (t : ℕ) → partByte (of (termOf t)) ≡ t
+unfolding termOf
+byte-back t = pick (ltb t 0x20) refl
+  where
+    pick : (b : Bool) → ltb t 0x20 ≡ b → partByte (of (cond b (variable t) (constant (t - 0x20)))) ≡ t
+    pick true e = refl
+    pick false e = omega (arith, ltb-false t 0x20 e)
+
 -- a term that names something defined is no part of its own kind, since there are at most 12 variables
 pub part-of : (n k t : ℕ) → n ≤ mostVariables → T (names n k t) → partOf t ≡ of (termOf t)
 unfolding names partOf
@@ -165,15 +175,19 @@ pub full-part : partOf fullPart ≡ always true
 unfolding partOf
 full-part = refl
 
+-- a part that is a term's reads back
+part-back : (n k t : ℕ) → n ≤ mostVariables → T (names n k t) → partOf (partByte (of (termOf t))) ≡ of (termOf t)
+part-back n k t hn h = ap partOf (byte-back t) ∙ part-of n k t hn h
+
 -- the bytes of a test whose terms are named stand for how its atom reads
 join-reads : (n k : ℕ) (t : Test) (a b c : ℕ) → n ≤ mostVariables → EachNamed n k t a b c → testOf (joinFor t a b c) ≡ readAs (atomOf t a b c)
 unfolding testOf
 join-reads n k Join a b c hn e =
-    rw (part-of n k a hn (e .first (lit< tt)), part-of n k b hn (e .second (lit< tt)), part-of n k c hn (e .third (lit< tt))) refl
-join-reads n k Equality a b c hn e = rw (part-of n k a hn (e .first (lit< tt)), part-of n k b hn (e .second (lit< tt)), empty-part) refl
-join-reads n k Full a b c hn e = rw (part-of n k a hn (e .first (lit< tt)), empty-part, full-part) refl
-join-reads n k Empty a b c hn e = rw (part-of n k a hn (e .first (lit< tt)), empty-part) refl
-join-reads n k Together a b c hn e = rw (part-of n k a hn (e .first (lit< tt)), part-of n k b hn (e .second (lit< tt))) refl
+    rw (part-back n k a hn (e .first (lit< tt)), part-back n k b hn (e .second (lit< tt)), part-back n k c hn (e .third (lit< tt))) refl
+join-reads n k Equality a b c hn e = rw (part-back n k a hn (e .first (lit< tt)), part-back n k b hn (e .second (lit< tt)), empty-part) refl
+join-reads n k Full a b c hn e = rw (part-back n k a hn (e .first (lit< tt)), empty-part, full-part) refl
+join-reads n k Empty a b c hn e = rw (part-back n k a hn (e .first (lit< tt)), empty-part) refl
+join-reads n k Together a b c hn e = rw (part-back n k a hn (e .first (lit< tt)), part-back n k b hn (e .second (lit< tt))) refl
 
 -- ---- clauses of two lists that have the same bytes
 
@@ -227,8 +241,8 @@ part-small n k t hn hk h = pick (part-cases n k t h)
     pick (inr (inr u)) = named-small n k t hn hk u
 
 -- a part that is a term's
-named-part : (n k t : ℕ) → T (names n k t) → T (partNamed n k t)
-named-part n k t h = or-right (eqb t emptyPart) _ (or-right (eqb t fullPart) _ h)
+named-part : (n k t : ℕ) → T (names n k t) → T (partNamed n k (partByte (of (termOf t))))
+named-part n k t h = rw (byte-back t) (or-right (eqb t emptyPart) _ (or-right (eqb t fullPart) _ h))
 
 -- the bytes of a test whose terms are named are a stored clause
 join-stored : (n k : ℕ) (t : Test) (a b c : ℕ) → EachNamed n k t a b c → StoredClause n k (joinFor t a b c)

@@ -8,12 +8,12 @@ use lib.Dec.{T, eqb}
 use lib.ListN.{length, getD, set, take, replicate}
 use Rattle.shares.specs.Constant.{constantLevels}
 use Rattle.shares.specs.Parts.{emptyPart, fullPart}
+use Rattle.systems.specs.Clauses.{variable, constant}
 use Rattle.systems.specs.Questions.{Kind, satisfiability, entailment, Question as Asked}
 use Rattle.systems.specs.AtLeaves.{Part, of, always, LeafTest, gives, apart, readAs}
 use Rattle.format.specs.declared.Section.{Section}
 use Rattle.format.specs.declared.Section.the-variants.{FirstPositive, FirstDisequation, SecondPositive, SecondDisequation}
 use Rattle.format.specs.declared.Test.{Test}
-use Rattle.format.specs.declared.Test.the-variants.{Join, Equality, Full, Empty, Together}
 use Rattle.format.specs.declared.LeafJoin.{LeafJoin}
 use Rattle.format.specs.declared.Command.{Command}
 use Rattle.format.specs.declared.Step.{Step}
@@ -22,7 +22,7 @@ use Rattle.format.specs.declared.Head.{Head}
 use Rattle.format.specs.declared.Head.the-variants.{Opens, Wrong}
 use Rattle.format.specs.declared.Question.{Question}
 use Rattle.format.specs.declared.Reading.{Reading}
-use Rattle.format.specs.Format.{Result, refused, accepted, mostVariables, mostConstants, constantBytes, mostOf, inSection, termOf, names, variablesFor, readAt, judged, taken, opened, headOf}
+use Rattle.format.specs.Format.{Result, refused, accepted, mostVariables, mostConstants, constantBytes, mostOf, inSection, termOf, names, variablesFor, atomOf, readAt, judged, taken, opened, headOf}
 
 -- ---- the numbers of the cases
 
@@ -42,13 +42,21 @@ sectionNumber SecondDisequation = 3
 abbrev pub four : ℕ → ℕ → ℕ → ℕ → LeafJoin
 four f p q r = record { form = f; first = p; second = q; sum = r }
 
--- how each test reads, with the bytes of its terms
+-- a part's byte: its term's, or one that is no term's
+abbrev pub partByte : Part → ℕ
+partByte (of (variable v)) = v
+partByte (of (constant i)) = 0x20 + i
+partByte (always false) = emptyPart
+partByte (always true) = fullPart
+
+-- a test in four bytes
+abbrev pub fourOf : LeafTest → LeafJoin
+fourOf (gives p q r) = four 0 (partByte p) (partByte q) (partByte r)
+fourOf (apart p q) = four 1 (partByte p) (partByte q) emptyPart
+
+-- a test with the bytes of its terms, as what it says reads
 abbrev pub joinFor : Test → ℕ → ℕ → ℕ → LeafJoin
-joinFor Join a b c = four 0 a b c
-joinFor Equality a b c = four 0 a emptyPart b
-joinFor Full a b c = four 0 a emptyPart fullPart
-joinFor Empty a b c = four 0 a emptyPart emptyPart
-joinFor Together a b c = four 1 a b emptyPart
+joinFor t a b c = fourOf (readAs (atomOf t a b c))
 
 -- the part that a byte stands for
 unfoldable pub partOf : ℕ → Part
