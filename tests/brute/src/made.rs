@@ -33,6 +33,7 @@ const SMALL: Size = Size {
     height: 3,
     positive: 5,
     disequations: 5,
+    policies: true,
 };
 
 fn random_questions(report: &mut Report) {
@@ -49,6 +50,7 @@ fn some_counts(random: &mut Random, positive: usize, disequations: usize) -> Cou
     Counts {
         positive: random.below(positive + 1),
         disequations: random.below(disequations + 1),
+        policies: true,
     }
 }
 
@@ -119,7 +121,7 @@ fn all_clauses(report: &mut Report) {
     for _ in 0..asker.report.rounds(2) {
         for own in 0..=MOST_VARIABLES {
             for change in CHANGES {
-                let built = largest_built(&mut asker.random, own, change);
+                let built = largest_built(&mut asker.random, own, change, true);
                 asker.built(&built);
                 all_stand(asker.report, &built.question);
             }
@@ -162,13 +164,16 @@ fn large_systems(report: &mut Report) {
     let counts = Counts {
         positive: MOST_POSITIVE - 1,
         disequations: MOST_DISEQUATIONS - 1,
+        policies: true,
     };
     for round in 0..asker.report.rounds(120) {
         let free = asker.random.between(8, MOST_VARIABLES);
         let mut question = hidden_question(&mut asker.random, free, MOST_CONSTANTS, 5, counts);
         if round % 2 == 1 {
-            let turned = asker.random.below(question.first.len());
-            question.first[turned].negated ^= true;
+            let clauses = question.first.iter_mut();
+            let mut turned: Vec<_> = clauses.filter(|c| c.negation().is_some()).collect();
+            let one = asker.random.below(turned.len());
+            turned[one].negated ^= true;
         }
         asker.question(&question);
     }
@@ -204,7 +209,7 @@ fn truncations(report: &mut Report) {
     let mut asker = Asker::new(report);
     for own in [0, 5, 12] {
         let random = &mut asker.random;
-        let question = largest(random, own, CHANGES[own % CHANGES.len()]);
+        let question = largest(random, own, CHANGES[own % CHANGES.len()], true);
         let bytes = write(&question, || random.once_in(2));
         for length in 0..bytes.len() {
             let lengths = asker.enough();

@@ -149,12 +149,14 @@ const SMALL: Size = Size {
     height: 3,
     positive: 3,
     disequations: 5,
+    policies: true,
 };
 
 fn some_question(random: &mut Random) -> Question {
     let mut counts = || Counts {
         positive: random.below(4),
         disequations: random.below(6),
+        policies: true,
     };
     let clauses = (counts(), counts());
     match random.below(3) {
