@@ -70,7 +70,7 @@ fn random_counts(random: &mut Random, size: &Size) -> Counts {
     }
 }
 
-fn random_term(random: &mut Random, variables: usize, constants: usize) -> Option<Term> {
+pub fn random_term(random: &mut Random, variables: usize, constants: usize) -> Option<Term> {
     if variables + constants == 0 {
         return None;
     }

@@ -72,19 +72,6 @@ const SHORT: &[Line] = &[
     ("2: a bare constant", "01 00 00 00 | 03", 2, 4),
     ("2: a join cut short", "01 00 01 00 | 10 00 00", 2, 4),
     ("2: an equality cut short", "01 00 01 00 | 12 00", 2, 4),
-    ("2: a bare 30", "01 00 01 00 | 30", 2, 4),
-    ("2: a bare 31", "01 00 01 00 | 31", 2, 4),
-    ("2: a bare 32", "01 00 01 00 | 32", 2, 4),
-    ("2: 32 cut short", "01 00 01 00 | 32 00", 2, 4),
-    ("2: a bare 38", "01 01 01 00 | 38", 2, 4),
-    ("2: a bare 39", "01 01 01 00 | 39", 2, 4),
-    ("2: a bare 3A", "01 01 01 00 | 3A", 2, 4),
-    ("2: 3A cut short", "01 01 01 00 | 3A 00", 2, 4),
-    ("2: no command after 30", "01 00 01 00 | 30 00", 2, 6),
-    ("2: no command after 31", "01 00 01 00 | 31 00", 2, 6),
-    ("2: no command after 32", "01 00 01 00 | 32 00 00", 2, 7),
-    ("2 before 9: 38 cut short", "01 00 01 00 | 38", 2, 4),
-    ("2 before 8: 32 cut short", "01 00 01 00 | 32 FF", 2, 4),
     (
         "2 before 4: a second head cut short",
         "01 00 00 00 | 01 00 00",
@@ -145,18 +132,6 @@ const SHORT: &[Line] = &[
         4,
         12,
     ),
-    (
-        "4: a constant after 30",
-        "01 00 01 00 | E | 30 00 | F | 00",
-        4,
-        11,
-    ),
-    (
-        "4: a constant after 39",
-        "01 01 01 00 | E | 39 00 | F | 00",
-        4,
-        11,
-    ),
     ("5: kind 2", "01 02 00 00 | 00", 5, 0),
     ("5: kind FF", "01 FF 00 00 | 00", 5, 0),
     ("5: 13 free variables", "01 00 0D 00 | 00", 5, 0),
@@ -202,6 +177,90 @@ const SHORT: &[Line] = &[
         8,
         7,
     ),
+    ("9: a join", "01 00 01 00 | 20 00 00 00 | 00", 9, 4),
+    ("9: a negated join", "01 00 01 00 | 21 00 00 00 | 00", 9, 4),
+    (
+        "9: an equality",
+        "01 00 01 00 | 12 00 00 | 22 00 00 | 00",
+        9,
+        7,
+    ),
+    ("9: a negated equality", "01 00 01 00 | 23 00 00 | 00", 9, 4),
+    ("9 before 8", "01 00 01 00 | 22 FF FF | 00", 9, 4),
+    ("10: a byte after the end", "01 00 00 00 | 00 00", 10, 5),
+    (
+        "10: a head after the end",
+        "01 00 00 00 | 00 | 01 00 00 00 00",
+        10,
+        5,
+    ),
+    (
+        "10: an unknown byte after the end",
+        "01 00 01 00 | 12 00 00 | 00 | FF FF",
+        10,
+        8,
+    ),
+    (
+        "the first fault decides",
+        "01 00 01 00 | 12 00 FF | FF",
+        8,
+        4,
+    ),
+    (
+        "the first fault decides, from the left",
+        "01 00 01 00 | 22 00 00 | 12 FF FF | FF",
+        9,
+        4,
+    ),
+];
+
+/// Name, bytes, and the number that is due.
+type Accepted = (&'static str, &'static str, u64);
+
+const ACCEPTED: &[Accepted] = &[
+    ("12 free variables", "01 00 0C 00 | 00", YES),
+    ("12 own variables", "01 01 00 0C | 00", YES),
+    ("7 and 5", "01 01 07 05 | 00", YES),
+    ("variable 0B of 12", "01 00 0C 00 | 12 00 0B | 00", YES),
+    (
+        "an own variable in the second system",
+        "01 01 01 01 | 22 00 01 | 00",
+        YES,
+    ),
+    (
+        "the two systems alternate",
+        "01 01 01 01 | 22 00 01 | 12 00 00 | 22 01 00 | 13 00 00 | 00",
+        YES_REASON_1,
+    ),
+];
+
+/// Faults at the commands of permission policies.
+const POLICIES: &[Line] = &[
+    ("2: a bare 30", "01 00 01 00 | 30", 2, 4),
+    ("2: a bare 31", "01 00 01 00 | 31", 2, 4),
+    ("2: a bare 32", "01 00 01 00 | 32", 2, 4),
+    ("2: 32 cut short", "01 00 01 00 | 32 00", 2, 4),
+    ("2: a bare 38", "01 01 01 00 | 38", 2, 4),
+    ("2: a bare 39", "01 01 01 00 | 39", 2, 4),
+    ("2: a bare 3A", "01 01 01 00 | 3A", 2, 4),
+    ("2: 3A cut short", "01 01 01 00 | 3A 00", 2, 4),
+    ("2: no command after 30", "01 00 01 00 | 30 00", 2, 6),
+    ("2: no command after 31", "01 00 01 00 | 31 00", 2, 6),
+    ("2: no command after 32", "01 00 01 00 | 32 00 00", 2, 7),
+    ("2 before 9: 38 cut short", "01 00 01 00 | 38", 2, 4),
+    ("2 before 8: 32 cut short", "01 00 01 00 | 32 FF", 2, 4),
+    (
+        "4: a constant after 30",
+        "01 00 01 00 | E | 30 00 | F | 00",
+        4,
+        11,
+    ),
+    (
+        "4: a constant after 39",
+        "01 01 01 00 | E | 39 00 | F | 00",
+        4,
+        11,
+    ),
     (
         "8: 30 of a variable above those of the head",
         "01 00 01 00 | 30 01 | 00",
@@ -246,58 +305,9 @@ const SHORT: &[Line] = &[
     ("9: 39", "01 00 01 00 | 39 00 | 00", 9, 4),
     ("9: 3A", "01 00 01 00 | 3A 00 00 | 00", 9, 4),
     ("9 before 8: 3A", "01 00 01 00 | 3A FF FF | 00", 9, 4),
-    ("9: a join", "01 00 01 00 | 20 00 00 00 | 00", 9, 4),
-    ("9: a negated join", "01 00 01 00 | 21 00 00 00 | 00", 9, 4),
-    (
-        "9: an equality",
-        "01 00 01 00 | 12 00 00 | 22 00 00 | 00",
-        9,
-        7,
-    ),
-    ("9: a negated equality", "01 00 01 00 | 23 00 00 | 00", 9, 4),
-    ("9 before 8", "01 00 01 00 | 22 FF FF | 00", 9, 4),
-    ("10: a byte after the end", "01 00 00 00 | 00 00", 10, 5),
-    (
-        "10: a head after the end",
-        "01 00 00 00 | 00 | 01 00 00 00 00",
-        10,
-        5,
-    ),
-    (
-        "10: an unknown byte after the end",
-        "01 00 01 00 | 12 00 00 | 00 | FF FF",
-        10,
-        8,
-    ),
-    (
-        "the first fault decides",
-        "01 00 01 00 | 12 00 FF | FF",
-        8,
-        4,
-    ),
-    (
-        "the first fault decides, from the left",
-        "01 00 01 00 | 22 00 00 | 12 FF FF | FF",
-        9,
-        4,
-    ),
 ];
 
-const ACCEPTED: &[(&str, &str, u64)] = &[
-    ("12 free variables", "01 00 0C 00 | 00", YES),
-    ("12 own variables", "01 01 00 0C | 00", YES),
-    ("7 and 5", "01 01 07 05 | 00", YES),
-    ("variable 0B of 12", "01 00 0C 00 | 12 00 0B | 00", YES),
-    (
-        "an own variable in the second system",
-        "01 01 01 01 | 22 00 01 | 00",
-        YES,
-    ),
-    (
-        "the two systems alternate",
-        "01 01 01 01 | 22 00 01 | 12 00 00 | 22 01 00 | 13 00 00 | 00",
-        YES_REASON_1,
-    ),
+const POLICIES_ACCEPTED: &[Accepted] = &[
     (
         "own variables in 38, 39 and 3A",
         "01 01 01 02 | 38 01 | 39 02 | 3A 02 02 | 00",
@@ -323,15 +333,25 @@ fn beside_policies() -> impl Iterator<Item = Fault> {
     })
 }
 
-/// All faults worked by hand, and some questions beside them that have none.
-pub fn by_hand() -> Vec<Fault> {
-    let short = SHORT.iter().map(|&(name, text, number, place)| {
+fn of_lines(lines: &'static [Line], accepted: &'static [Accepted]) -> impl Iterator<Item = Fault> {
+    let refused = lines.iter().map(|&(name, text, number, place)| {
         Fault::refused(name, worked::bytes(text), Refusal { number, place })
     });
-    let accepted = ACCEPTED
+    let accepted = accepted
         .iter()
         .map(|&(name, text, number)| Fault::accepted(name, worked::bytes(text), number));
-    let mut faults: Vec<Fault> = short.chain(accepted).collect();
+    refused.chain(accepted)
+}
+
+/// The short ones without permission policies.
+pub fn older() -> impl Iterator<Item = Fault> {
+    of_lines(SHORT, ACCEPTED)
+}
+
+/// All faults worked by hand, and some questions beside them that have none.
+pub fn by_hand() -> Vec<Fault> {
+    let mut faults: Vec<Fault> = older().collect();
+    faults.extend(of_lines(POLICIES, POLICIES_ACCEPTED));
     faults.extend(beside_policies());
     faults.extend(limits::at_the_edge());
     faults.extend(limits::one_past());
