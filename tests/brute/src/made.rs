@@ -115,13 +115,15 @@ fn few_clauses(report: &mut Report) {
     asker.seen.kind_1(asker.report, 100);
 }
 
-/// Every split of 12 variables with as many clauses as the format allows. How it was built tells the answer.
+/// Every split of 12 variables with as many clauses as the format allows, with permission policies and without. How it was built
+/// tells the answer.
 fn all_clauses(report: &mut Report) {
     let mut asker = Asker::new(report);
-    for _ in 0..asker.report.rounds(2) {
+    for round in 0..asker.report.rounds(2) {
         for own in 0..=MOST_VARIABLES {
             for change in CHANGES {
-                let built = largest_built(&mut asker.random, own, change, true);
+                let policies = round % 2 == 0;
+                let built = largest_built(&mut asker.random, own, change, policies);
                 asker.built(&built);
                 all_stand(asker.report, &built.question);
             }
@@ -161,12 +163,12 @@ fn large_entailments(report: &mut Report) {
 /// clause is then turned into its negation.
 fn large_systems(report: &mut Report) {
     let mut asker = Asker::new(report);
-    let counts = Counts {
-        positive: MOST_POSITIVE - 1,
-        disequations: MOST_DISEQUATIONS - 1,
-        policies: true,
-    };
     for round in 0..asker.report.rounds(120) {
+        let counts = Counts {
+            positive: MOST_POSITIVE - 1,
+            disequations: MOST_DISEQUATIONS - 1,
+            policies: round % 4 < 2,
+        };
         let free = asker.random.between(8, MOST_VARIABLES);
         let mut question = hidden_question(&mut asker.random, free, MOST_CONSTANTS, 5, counts);
         if round % 2 == 1 {
@@ -204,17 +206,18 @@ fn damaged_bytes(report: &mut Report) {
         .refused(asker.report, &[0, 1, 2, 3, 4, 5, 8, 9, 10], 50);
 }
 
-/// One question of each size cut at every place.
+/// One question of each size, with permission policies and without, cut at every place.
 fn truncations(report: &mut Report) {
     let mut asker = Asker::new(report);
-    for own in [0, 5, 12] {
+    let sizes = [0, 5, 12].map(|own| [(own, true), (own, false)]);
+    for (own, policies) in sizes.concat() {
         let random = &mut asker.random;
-        let question = largest(random, own, CHANGES[own % CHANGES.len()], true);
+        let question = largest(random, own, CHANGES[own % CHANGES.len()], policies);
         let bytes = write(&question, || random.once_in(2));
         for length in 0..bytes.len() {
             let lengths = asker.enough();
             asker.bytes(&bytes[..length], lengths);
         }
     }
-    asker.seen.refused(asker.report, &[2], 2000);
+    asker.seen.refused(asker.report, &[2], 4000);
 }

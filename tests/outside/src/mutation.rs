@@ -9,7 +9,7 @@ use crate::shrink::shrunk;
 use brute::due::decided;
 use brute::judge::ANSWER_BYTES;
 use brute::library::ASK_WORK_BYTES;
-use brute::question::{hex, read};
+use brute::question::{hex, read, FORMS};
 use brute::random::Random;
 use brute::report::{Family, Report};
 use std::collections::HashSet;
@@ -222,7 +222,7 @@ fn mutate_commands(random: &mut Random, bytes: &mut Vec<u8>, other: &[u8]) {
     let command = bytes[part.clone()].to_vec();
     let new = other[others[random.below(others.len())].clone()].to_vec();
     let start = part.start;
-    match random.below(7) {
+    match random.below(8) {
         0 => drop(bytes.drain(part)),
         1 => drop(bytes.splice(start..start, new)),
         2 => drop(bytes.splice(part, new)),
@@ -241,6 +241,11 @@ fn mutate_commands(random: &mut Random, bytes: &mut Vec<u8>, other: &[u8]) {
         5 => {
             let from = others[random.below(others.len())].start;
             drop(bytes.splice(start.., other[from..].to_vec()));
+        }
+        6 => {
+            // Another command of a clause takes the operands.
+            let form = &FORMS[random.below(FORMS.len())];
+            bytes[start] = random.pick(&form.commands);
         }
         _ => {
             // An operand takes a value that often means something.
