@@ -50,7 +50,7 @@ fn some_counts(random: &mut Random, positive: usize, disequations: usize) -> Cou
     Counts {
         positive: random.below(positive + 1),
         disequations: random.below(disequations + 1),
-        policies: true,
+        policies: random.once_in(2),
     }
 }
 

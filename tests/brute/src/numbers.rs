@@ -23,6 +23,8 @@ struct Base {
     height: u32,
     /// The disequations that do not decide hold only at the leaf, by the second of the loose pair.
     crowded: bool,
+    /// Permission policies are among the clauses.
+    policies: bool,
     /// The full one is the first or the second of each pair.
     free: [Term; 2],
     own: [Term; 2],
@@ -66,6 +68,7 @@ fn base_at(random: &mut Random, height: u32, leaf: usize) -> Base {
         draft,
         height,
         crowded: true,
+        policies: random.once_in(2),
         free: [a, b],
         own: [c, d],
         leaf,
@@ -74,28 +77,26 @@ fn base_at(random: &mut Random, height: u32, leaf: usize) -> Base {
     }
 }
 
-/// One of these relations for which there is a positive clause, or a disequation.
-fn pick_fitting(random: &mut Random, negated: bool, relations: &[Relation]) -> Relation {
-    let fitting: Vec<Relation> = relations
-        .iter()
-        .copied()
-        .filter(|relation| relation.fits(negated))
-        .collect();
-    random.pick(&fitting)
-}
-
 impl Base {
+    /// One of these relations that may stand in a positive clause, or in a disequation.
+    fn pick(&self, random: &mut Random, negated: bool, relations: &[Relation]) -> Relation {
+        let mut fitting = relations.to_vec();
+        fitting.retain(|one| one.fits(negated) && (self.policies || !one.is_policy()));
+        random.pick(&fitting)
+    }
+
     /// A relation that never holds: as a disequation it always does.
     fn never(&self, random: &mut Random) -> Relation {
         let (empty, full) = (self.empty, self.full);
-        random.pick(&[
+        let relations = [
             Relation::Equal(empty, full),
             Relation::Join(full, full, full),
             Relation::Join(empty, empty, full),
             Relation::Join(full, empty, empty),
             Relation::Empty(full),
             Relation::Empty(self.leaf),
-        ])
+        ];
+        self.pick(random, true, &relations)
     }
 
     /// A relation that always holds: as a disequation it never does.
@@ -115,7 +116,7 @@ impl Base {
             Relation::Together(pair[0], pair[1]),
             Relation::Together(term, self.empty),
         ];
-        pick_fitting(random, negated, &relations)
+        self.pick(random, negated, &relations)
     }
 
     /// Disequations of a system that always hold, but for the number that decides.
@@ -160,7 +161,7 @@ impl Base {
         ];
         let one = match decides.1 {
             true => self.always(random, system, false),
-            false => random.pick(&never),
+            false => self.pick(random, false, &never),
         };
         while self.draft.system(system).positive.len() + 1 < count {
             let relation = self.always(random, system, false);
@@ -181,7 +182,7 @@ impl Base {
             Relation::Together(term, self.full),
             Relation::Together(self.full, term),
         ];
-        pick_fitting(random, negated, &relations)
+        self.pick(random, negated, &relations)
     }
 }
 

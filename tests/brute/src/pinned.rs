@@ -66,6 +66,8 @@ struct Builder<'a> {
     /// The leaf that decides.
     leaf: u32,
     height: u32,
+    /// Permission policies are among the clauses.
+    policies: bool,
 }
 
 pub fn pinned(random: &mut Random, wanted: &Wanted) -> Built {
@@ -81,6 +83,7 @@ pub fn pinned(random: &mut Random, wanted: &Wanted) -> Built {
     });
     let values = values.collect();
     let mut builder = Builder {
+        policies: random.once_in(2),
         random,
         draft: Draft::new(wanted.free.len(), wanted.own.len()),
         values,
@@ -145,7 +148,7 @@ impl Builder<'_> {
             (1, _) => Relation::Join(v, empty, constant),
             (2, _) => Relation::Join(empty, v, constant),
             (3, Some(other)) => Relation::Join(v, other, full),
-            (4, _) if value == FULL => Relation::Full(v),
+            (4, _) if self.policies && value == FULL => Relation::Full(v),
             _ => Relation::Equal(v, constant),
         }
     }
@@ -187,7 +190,8 @@ impl Builder<'_> {
         let (a, b, c) = (self.term(system), self.term(system), self.term(system));
         let (va, vb) = (self.value(a), self.value(b));
         let mut made = |leaves| self.draft.constant_within(leaves, most);
-        let relation = match (self.random.below(11), negated) {
+        let sorts = if self.policies { 11 } else { 7 };
+        let relation = match (self.random.below(sorts), negated) {
             (0, _) => Relation::Equal(a, made(va ^ leaves)?),
             (1, _) => Relation::Equal(made(va ^ leaves)?, a),
             (2, _) => Relation::Equal(a, b),

@@ -69,6 +69,11 @@ impl Relation {
         }
     }
 
+    /// Whether it is of a permission policy.
+    pub fn is_policy(self) -> bool {
+        !matches!(self, Relation::Join(..) | Relation::Equal(..))
+    }
+
     /// How the format says this, or its negation, if it does.
     fn form(self, negated: bool) -> Option<&'static Form> {
         let sort = discriminant(&self);
