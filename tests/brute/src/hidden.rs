@@ -105,12 +105,10 @@ impl Hidden {
     fn policies(&self) -> Vec<Vec<Relation>> {
         let terms = self.terms();
         let pairs = terms.iter().flat_map(|a| terms.iter().map(|b| (*a, *b)));
-        let mut found = vec![
-            terms.iter().map(|a| Relation::Full(*a)).collect(),
-            pairs.map(|(a, b)| Relation::Together(a, b)).collect(),
-        ];
+        let full: Vec<Relation> = terms.iter().map(|a| Relation::Full(*a)).collect();
+        let together: Vec<Relation> = pairs.map(|(a, b)| Relation::Together(a, b)).collect();
+        let mut found = vec![full, together];
         for sort in &mut found {
-            let sort: &mut Vec<Relation> = sort;
             sort.retain(|relation| self.holds(*relation));
         }
         found.retain(|sort| !sort.is_empty());

@@ -271,7 +271,7 @@ fn of_both(report: &mut Report) {
     }
 }
 
-/// Positive clause `number` of either system fails for every choice at one leaf, or for none.
+/// Positive clause `number` of either system fails for every choice at one leaf or at all, or for none.
 fn each_positive(report: &mut Report) {
     let mut asker = Asker::new(report);
     for number in 0..MOST_POSITIVE {
