@@ -40,7 +40,7 @@ const AT_THE_EDGE: &[(&str, u8, usize, Clauses, &str, u64)] = &[
         NO,
     ),
     (
-        "64 positive clauses of each sort",
+        "64 joins, equalities and pairs held together",
         0,
         0,
         &[(0x10, 16), (0x12, 16), (0x32, 32)],

@@ -451,7 +451,7 @@ pub const POLICIES: &[Worked] = &[
     ),
     // h = 1, d = 0, W = 1. At leaf 0 R is o and the least choice is o; at leaf 1 only o can be held together with *.
     yes(
-        "held together with R, and not of full join",
+        "held together with R: the join need not be full",
         "01 00 01 00 | R | 32 00 20 | 00",
         1,
         &["o"],
