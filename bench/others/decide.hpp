@@ -6,7 +6,9 @@
 // of its own, so that the solver keeps what it has learnt.
 #pragma once
 
+#include <array>
 #include <optional>
+#include <stdexcept>
 
 #include "engines.hpp"
 #include "question.hpp"
@@ -58,18 +60,45 @@ class Decider {
         return term < 0x20 ? term + 1 : question.variables() + (term - 0x20) + 1;
     }
 
-    Cnf holds(const Terms &terms) const {
-        const int a = literal(terms[0]), b = literal(terms[1]);
-        if (terms.size() == 2) return {{-a, b}, {a, -b}};
-        const int c = literal(terms[2]);
-        return {{-a, -b}, {-a, c}, {-b, c}, {a, b, -c}};
+    // The literals of three terms, 0 where the clause has fewer.
+    std::array<int, 3> literals(const Clause &clause) const {
+        std::array<int, 3> found{};
+        for (size_t term = 0; term < clause.terms.size(); term++) found[term] = literal(clause.terms[term]);
+        return found;
     }
 
-    Cnf fails(const Terms &terms) const {
-        const int a = literal(terms[0]), b = literal(terms[1]);
-        if (terms.size() == 2) return {{a, b}, {-a, -b}};
-        const int c = literal(terms[2]);
-        return {{a, b, c}, {-a, b, -c}, {a, -b, -c}};
+    Cnf holds(const Clause &clause) const {
+        const auto [a, b, c] = literals(clause);
+        switch (clause.relation) {
+            case Relation::join:
+                return {{-a, -b}, {-a, c}, {-b, c}, {a, b, -c}};
+            case Relation::equal:
+                return {{-a, b}, {a, -b}};
+            case Relation::full:
+                return {{a}};
+            case Relation::empty:
+                return {{-a}};
+            case Relation::together:
+                return {{-a, -b}};
+        }
+        throw std::logic_error("a relation without a meaning");
+    }
+
+    Cnf fails(const Clause &clause) const {
+        const auto [a, b, c] = literals(clause);
+        switch (clause.relation) {
+            case Relation::join:
+                return {{a, b, c}, {-a, b, -c}, {a, -b, -c}};
+            case Relation::equal:
+                return {{a, b}, {-a, -b}};
+            case Relation::full:
+                return {{-a}};
+            case Relation::empty:
+                return {{a}};
+            case Relation::together:
+                return {{a}, {b}};
+        }
+        throw std::logic_error("a relation without a meaning");
     }
 
     static void add_if(Engine &engine, int guard, const Cnf &cnf) {
@@ -86,10 +115,10 @@ class Decider {
 
     void state_first() {
         name_terms(first);
-        for (const Terms &clause : question.first.positive) {
+        for (const Clause &clause : question.first.positive) {
             for (const Literals &part : holds(clause)) first.add(part);
         }
-        for (const Terms &disequation : question.first.disequations) {
+        for (const Clause &disequation : question.first.disequations) {
             switches.push_back(first.fresh());
             add_if(first, switches.back(), fails(disequation));
         }
@@ -100,7 +129,7 @@ class Decider {
             second.emplace(deadline);
             name_terms(*second);
         }
-        for (const Terms &clause : question.second.positive) {
+        for (const Clause &clause : question.second.positive) {
             for (const Literals &part : holds(clause)) {
                 positive.push_back(part);
                 if (second) second->add(part);
@@ -110,7 +139,7 @@ class Decider {
     }
 
     // The second system's positive clauses, with or without one of its disequations.
-    Target target(const Terms *disequation) {
+    Target target(const Clause *disequation) {
         Target made{positive, first.fresh(), second ? second->fresh() : 0};
         if (disequation != nullptr) {
             const Cnf more = fails(*disequation);

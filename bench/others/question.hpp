@@ -3,16 +3,43 @@
 
 #include <algorithm>
 #include <cstdint>
+#include <iterator>
 #include <vector>
 
 extern "C" uint32_t zimorgal_height(uint32_t constant);
 
-// Two terms for an equality, three for a join.
-using Terms = std::vector<uint8_t>;
+// What a clause, or a disequation's negation, says of its terms.
+enum class Relation { join, equal, full, empty, together };
+
+struct Clause {
+    Relation relation;
+    std::vector<uint8_t> terms;
+};
+
+// The command of a clause in either system, and how it is read.
+struct Form {
+    uint8_t first, second;
+    Relation relation;
+    size_t terms;
+    bool disequation;
+};
+
+constexpr Form forms[] = {
+    {0x10, 0x20, Relation::join, 3, false},     {0x11, 0x21, Relation::join, 3, true},
+    {0x12, 0x22, Relation::equal, 2, false},    {0x13, 0x23, Relation::equal, 2, true},
+    {0x30, 0x38, Relation::full, 1, false},     {0x31, 0x39, Relation::empty, 1, true},
+    {0x32, 0x3A, Relation::together, 2, false},
+};
+
+inline const Form &form_of(uint8_t command) {
+    return *std::find_if(std::begin(forms), std::end(forms), [command](const Form &form) {
+        return form.first == command || form.second == command;
+    });
+}
 
 struct System {
-    std::vector<Terms> positive;
-    std::vector<Terms> disequations;
+    std::vector<Clause> positive;
+    std::vector<Clause> disequations;
 };
 
 struct Question {
@@ -49,11 +76,11 @@ inline Question read(const std::vector<uint8_t> &bytes) {
             question.constants.push_back(constant);
             continue;
         }
-        const size_t count = (command & 2) != 0 ? 2 : 3;
-        System &system = command >= 0x20 ? question.second : question.first;
-        auto &section = (command & 1) != 0 ? system.disequations : system.positive;
-        section.emplace_back(bytes.begin() + at, bytes.begin() + at + count);
-        at += count;
+        const Form &form = form_of(command);
+        System &system = command == form.second ? question.second : question.first;
+        auto &section = form.disequation ? system.disequations : system.positive;
+        section.push_back({form.relation, {bytes.begin() + at, bytes.begin() + at + form.terms}});
+        at += form.terms;
     }
     return question;
 }

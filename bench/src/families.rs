@@ -3,6 +3,8 @@
 // With paths, since others/families has this file as a module too.
 #[path = "families/constants.rs"]
 mod constants;
+#[path = "families/policies.rs"]
+mod policies;
 #[path = "families/twelve.rs"]
 mod twelve;
 
@@ -44,6 +46,11 @@ pub fn all() -> Vec<Family> {
         }
     }
     families.push(split(0, Shape::Missed));
+    families.push(by_hand(
+        "worked questions of permission policies",
+        worked::POLICIES,
+    ));
+    families.extend(policies::all());
     families
 }
 
@@ -71,6 +78,7 @@ fn small_random() -> Family {
         height: 3,
         positive: 4,
         disequations: 3,
+        policies: false,
     };
     let mut random = Random::new(100);
     family(
@@ -86,6 +94,7 @@ fn hidden() -> Family {
         let counts = Counts {
             positive: random.between(2, 6),
             disequations: random.between(1, 6),
+            policies: false,
         };
         hidden_question(&mut random, free, 4, 3, counts)
     };
@@ -99,6 +108,7 @@ fn small_entailments() -> Family {
     let counts = Counts {
         positive: 4,
         disequations: 2,
+        policies: false,
     };
     let mut random = Random::new(102);
     let mut make = || {
@@ -113,7 +123,11 @@ fn small_entailments() -> Family {
 
 fn largest_satisfiable() -> Family {
     let mut random = Random::new(103);
-    let mut make = || hidden_question(&mut random, MOST_VARIABLES, MOST_CONSTANTS, 5, ALL_CLAUSES);
+    let counts = Counts {
+        policies: false,
+        ..ALL_CLAUSES
+    };
+    let mut make = || hidden_question(&mut random, MOST_VARIABLES, MOST_CONSTANTS, 5, counts);
     family(
         "12 variables, 64 + 31 clauses, height 5, satisfiable",
         (0..10).map(|_| make()),
@@ -122,7 +136,7 @@ fn largest_satisfiable() -> Family {
 
 fn largest_entailments() -> Family {
     let mut random = Random::new(104);
-    let mut make = |own| largest(&mut random, own, Change::None);
+    let mut make = |own| largest(&mut random, own, Change::None, false);
     family(
         "12 variables, 64 + 31 in each, height 5, entailed",
         (0..12).map(|round| make(round % 6)),

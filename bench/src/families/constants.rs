@@ -12,6 +12,7 @@ const QUESTIONS: usize = 50;
 const COUNTS: Counts = Counts {
     positive: 48,
     disequations: 16,
+    policies: false,
 };
 /// How many constants clauses name where they name few, and the height of the tallest of those.
 const FEW: usize = 3;

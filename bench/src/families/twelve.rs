@@ -11,6 +11,7 @@ const CONSTANTS: usize = 8;
 const COUNTS: Counts = Counts {
     positive: 16,
     disequations: 8,
+    policies: false,
 };
 
 pub fn all() -> [Family; 3] {

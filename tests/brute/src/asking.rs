@@ -93,14 +93,13 @@ impl Asker<'_> {
         self.case(&bytes, lengths, &Decided::Answered(answered));
     }
 
-    /// Checks apart that wrong rows are noticed.
-    pub fn notices(&mut self, wrong: Answered) {
-        let bytes = self.mixed(&wrong.question);
+    /// Checks apart that a wrong result is noticed.
+    pub fn notices(&mut self, bytes: &[u8], wrong: &Decided) {
         let lengths = self.enough();
-        let fault = self.fault_of_call(&bytes, lengths, &Decided::Answered(wrong));
+        let fault = self.fault_of_call(bytes, lengths, wrong);
         self.report.apart(match fault {
             Some(_) => Ok(()),
-            None => Err(format!("{}: wrong rows are not noticed", hex(&bytes))),
+            None => Err(format!("{}: a wrong result is not noticed", hex(bytes))),
         });
     }
 
@@ -114,7 +113,8 @@ impl Asker<'_> {
         });
     }
 
-    fn mixed(&mut self, question: &Question) -> Vec<u8> {
+    /// The question in bytes, its two systems mixed at random.
+    pub fn mixed(&mut self, question: &Question) -> Vec<u8> {
         write(question, || self.random.once_in(2))
     }
 

@@ -144,14 +144,10 @@ fn mixed(random: &mut Random, clauses: &Clauses, order: &[usize]) -> Vec<Clause>
 }
 
 fn renumbered(relation: Relation, order: &[usize]) -> Relation {
-    let term = |term| match term {
+    relation.with(|term| match term {
         Term::Variable(_) => term,
         Term::Constant(number) => Term::Constant(order[number]),
-    };
-    match relation {
-        Relation::Join(a, b, c) => Relation::Join(term(a), term(b), term(c)),
-        Relation::Equal(a, b) => Relation::Equal(term(a), term(b)),
-    }
+    })
 }
 
 /// A question of kind 0 with the answer it is to give. The rows are left out.

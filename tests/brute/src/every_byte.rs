@@ -1,5 +1,7 @@
 //! Questions that put every byte in one place.
 
+use crate::question::{Form, FORMS};
+
 /// Heads with all small counts, and some that pass a byte.
 pub fn heads() -> Vec<Vec<u8>> {
     let counts: Vec<u8> = (0..=14).chain([100, 128, 134, 244, 250, 255]).collect();
@@ -22,6 +24,8 @@ pub fn commands() -> Vec<Vec<u8>> {
         (1, &[]),
         (0, &[0x12, 0, 0]),
         (1, &[0x22, 0, 0]),
+        (0, &[0x30, 0]),
+        (1, &[0x3A, 0, 0]),
     ] {
         for command in 0..=255 {
             for operands in 0..=5 {
@@ -42,16 +46,8 @@ pub fn commands() -> Vec<Vec<u8>> {
 pub fn terms() -> Vec<Vec<u8>> {
     let mut questions = Vec::new();
     for (free, own, constants) in [(2, 1, 2), (1, 0, 32), (0, 3, 1)] {
-        for (command, count) in [
-            (0x10, 3),
-            (0x11, 3),
-            (0x12, 2),
-            (0x13, 2),
-            (0x20, 3),
-            (0x21, 3),
-            (0x22, 2),
-            (0x23, 2),
-        ] {
+        let each = |form: &Form| form.commands.map(|c| (c, form.relation.terms().len()));
+        for (command, count) in FORMS.iter().flat_map(each) {
             for place in 0..count {
                 for term in 0..=255 {
                     let mut bytes = vec![0x01, 0x01, free, own];

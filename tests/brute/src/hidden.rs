@@ -17,8 +17,13 @@ struct Hidden {
 }
 
 impl Hidden {
-    /// The first constant is empty, the second one leaf of the height wanted.
-    fn new(random: &mut Random, variables: usize, constants: usize, height: u32) -> Hidden {
+    /// The first constant is empty, the second one leaf of the height wanted. With permission policies some variables are full.
+    fn new(
+        random: &mut Random,
+        (variables, constants): (usize, usize),
+        height: u32,
+        policies: bool,
+    ) -> Hidden {
         let leaf = u32::MAX >> (32 - (32 >> height));
         let mut hidden = Hidden {
             variables: Vec::new(),
@@ -29,7 +34,10 @@ impl Hidden {
             hidden.constants.push(value);
         }
         for _ in 0..variables {
-            let value = hidden.next_value(random, height);
+            let value = match policies && random.once_in(6) {
+                true => u32::MAX,
+                false => hidden.next_value(random, height),
+            };
             hidden.variables.push(value);
         }
         hidden
@@ -73,6 +81,9 @@ impl Hidden {
                 a & b == 0 && a | b == self.value(c)
             }
             Relation::Equal(a, b) => self.value(a) == self.value(b),
+            Relation::Full(a) => self.value(a) == u32::MAX,
+            Relation::Empty(a) => self.value(a) == 0,
+            Relation::Together(a, b) => self.value(a) & self.value(b) == 0,
         }
     }
 
@@ -90,27 +101,45 @@ impl Hidden {
         found
     }
 
+    /// All terms that are full and all pairs that may be held together, if there are any of either.
+    fn policies(&self) -> Vec<Vec<Relation>> {
+        let terms = self.terms();
+        let pairs = terms.iter().flat_map(|a| terms.iter().map(|b| (*a, *b)));
+        let full: Vec<Relation> = terms.iter().map(|a| Relation::Full(*a)).collect();
+        let together: Vec<Relation> = pairs.map(|(a, b)| Relation::Together(a, b)).collect();
+        let mut found = vec![full, together];
+        for sort in &mut found {
+            sort.retain(|relation| self.holds(*relation));
+        }
+        found.retain(|sort| !sort.is_empty());
+        found
+    }
+
     /// A negated clause that holds.
-    fn disequation(&self, random: &mut Random) -> Option<Clause> {
-        let (variables, constants) = (self.variables.len(), self.constants.len());
+    fn disequation(&self, random: &mut Random, policies: bool) -> Option<Clause> {
+        let terms = (self.variables.len(), self.constants.len());
         (0..300)
-            .filter_map(|_| random_clause(random, variables, constants, true))
+            .filter_map(|_| random_clause(random, terms, true, policies))
             .find(|clause| !self.holds(clause.relation))
     }
 
-    /// A system that the hidden values solve.
+    /// A system that the hidden values solve. Once in three a positive clause is of a permission policy, if there are to be any.
     fn system(&self, random: &mut Random, counts: Counts) -> Vec<Clause> {
-        let relations = self.relations();
+        let (relations, policies) = (self.relations(), self.policies());
         let mut clauses = Vec::new();
         for _ in 0..counts.positive {
-            let relation = random.pick(&relations);
+            let among = match counts.policies && random.once_in(3) {
+                true => &policies[random.below(policies.len())],
+                false => &relations,
+            };
+            let relation = random.pick(among);
             clauses.push(Clause {
                 relation,
                 negated: false,
             });
         }
         for _ in 0..counts.disequations {
-            clauses.extend(self.disequation(random));
+            clauses.extend(self.disequation(random, counts.policies));
         }
         shuffle(random, &mut clauses);
         clauses
@@ -129,7 +158,7 @@ pub fn hidden_question(
     height: u32,
     counts: Counts,
 ) -> Question {
-    let hidden = Hidden::new(random, free, constants, height);
+    let hidden = Hidden::new(random, (free, constants), height, counts.policies);
     Question {
         entailment: false,
         free,
@@ -162,7 +191,7 @@ pub const CHANGES: [Change; 4] = [
 
 /// A clause with some free variables replaced by the own variables that stand for them.
 fn renamed(clause: Clause, random: &mut Random, free: usize, stands_for: &[usize]) -> Clause {
-    let mut rename = |term| match term {
+    let rename = |term| match term {
         Term::Variable(v) => {
             let own = stands_for.iter().position(|w| *w == v);
             match own.filter(|_| !random.once_in(4)) {
@@ -172,11 +201,10 @@ fn renamed(clause: Clause, random: &mut Random, free: usize, stands_for: &[usize
         }
         Term::Constant(_) => term,
     };
-    let relation = match clause.relation {
-        Relation::Join(a, b, c) => Relation::Join(rename(a), rename(b), rename(c)),
-        Relation::Equal(a, b) => Relation::Equal(rename(a), rename(b)),
-    };
-    Clause { relation, ..clause }
+    Clause {
+        relation: clause.relation.with(rename),
+        ..clause
+    }
 }
 
 /// An entailment that holds, with one change. The first system has a hidden solution; the second's
@@ -202,11 +230,11 @@ pub fn entailment(
         }
     }
     shuffle(random, &mut question.second);
-    apply(random, &mut question, change);
+    apply(random, &mut question, change, second.policies);
     question
 }
 
-fn apply(random: &mut Random, question: &mut Question, change: Change) {
+fn apply(random: &mut Random, question: &mut Question, change: Change, policies: bool) {
     let constants = question.constants.len();
     let (system, variables, negated) = match change {
         Change::None => return,
@@ -217,7 +245,7 @@ fn apply(random: &mut Random, question: &mut Question, change: Change) {
         Change::Positive => (&mut question.second, question.free + question.own, false),
         Change::Disequation => (&mut question.second, question.free + question.own, true),
     };
-    let clause = random_clause(random, variables, constants, negated);
+    let clause = random_clause(random, (variables, constants), negated, policies);
     let at = random.below(system.len() + 1);
     let most = if negated {
         MOST_DISEQUATIONS
@@ -230,20 +258,24 @@ fn apply(random: &mut Random, question: &mut Question, change: Change) {
 }
 
 /// A question with 12 variables, 32 constants, height 5 and as many clauses as the format allows.
-pub fn largest(random: &mut Random, own: usize, change: Change) -> Question {
-    largest_built(random, own, change).question
+pub fn largest(random: &mut Random, own: usize, change: Change, policies: bool) -> Question {
+    largest_built(random, own, change, policies).question
 }
 
 /// The same with its answer. An entailment that holds lacks one clause, and the one that is put in decides:
 /// - `First`: the negation of a clause of the first, which has no solution then;
 /// - `Positive`: what a disequation of the first denies, which no solution can meet;
 /// - `Disequation`: the negation of a positive clause of the first, which no solution can have.
-pub fn largest_built(random: &mut Random, own: usize, change: Change) -> Built {
+pub fn largest_built(random: &mut Random, own: usize, change: Change, policies: bool) -> Built {
     let from_positive = match change {
         Change::First => random.once_in(2),
         _ => change == Change::Disequation,
     };
-    let (mut first, mut second) = (ALL_CLAUSES, ALL_CLAUSES);
+    let all = Counts {
+        policies,
+        ..ALL_CLAUSES
+    };
+    let (mut first, mut second) = (all, all);
     match (change, from_positive) {
         (Change::None, _) => {}
         (Change::First, true) => first.disequations -= 1,
@@ -261,8 +293,8 @@ pub fn largest_built(random: &mut Random, own: usize, change: Change) -> Built {
         true => positive(&question.first),
         false => disequations(&question.first),
     };
-    let mut clause = random.pick(&sources);
-    clause.negated ^= true;
+    let negations: Vec<Clause> = sources.iter().filter_map(Clause::negation).collect();
+    let clause = random.pick(&negations);
     put_in(random, question, change, clause)
 }
 

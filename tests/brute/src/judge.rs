@@ -40,6 +40,9 @@ pub fn holds(question: &Question, clause: &Clause, trees: &[Tree]) -> bool {
     let plain = match clause.relation {
         Relation::Join(a, b, c) => at(a).join(at(b)).as_ref() == Some(at(c)),
         Relation::Equal(a, b) => at(a) == at(b),
+        Relation::Full(a) => *at(a) == Tree::Full,
+        Relation::Empty(a) => *at(a) == Tree::Empty,
+        Relation::Together(a, b) => at(a).join(at(b)).is_some(),
     };
     plain != clause.negated
 }

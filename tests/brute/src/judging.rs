@@ -70,6 +70,7 @@ fn flipped_rows(report: &mut Report) {
         height: 5,
         positive: 2,
         disequations: 4,
+        policies: true,
     };
     let mut random = report.random();
     let (mut left, mut broken) = (report.rounds(800), 0);

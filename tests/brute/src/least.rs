@@ -138,6 +138,7 @@ const SMALL: Size = Size {
     height: 2,
     positive: 2,
     disequations: 3,
+    policies: true,
 };
 
 /// Three shares of which the first or the second makes a full one with each of the others: where the least choice has more
@@ -165,6 +166,7 @@ fn some_entailment(random: &mut Random) -> Question {
     let mut counts = || Counts {
         positive: random.below(5),
         disequations: random.below(3),
+        policies: true,
     };
     let clauses = (counts(), counts());
     let variables = (random.between(1, 3), random.below(3));

@@ -11,9 +11,11 @@
 //! - `library`, `lent`, `due`, `asking`: the exported calls, what is lent to them and what they are to give;
 //! - `options`, `report`, `seen`: what a run is told, what it counts and what it must have seen;
 //! - `plain`, `routes`, `judging`: families of the solver alone;
-//! - `calls`, `documents`, `by_hand`, `made`, `splits`, `numbers`, `terms`, `loose`: families of the library.
+//! - `calls`, `documents`, `by_hand`, `before`, `made`, `misread`, `policies`, `splits`, `numbers`, `terms`, `loose`: families of
+//!   the library.
 
 pub mod asking;
+pub mod before;
 pub mod by_hand;
 pub mod calls;
 pub mod damage;
@@ -32,10 +34,12 @@ pub mod limits;
 pub mod loose;
 pub mod made;
 pub mod make;
+pub mod misread;
 pub mod numbers;
 pub mod options;
 pub mod pinned;
 pub mod plain;
+pub mod policies;
 pub mod question;
 pub mod random;
 pub mod refusals;
@@ -58,8 +62,11 @@ pub const WITH_THE_LIBRARY: &[&[Family]] = &[
     calls::FAMILIES,
     documents::FAMILIES,
     by_hand::FAMILIES,
+    before::FAMILIES,
     made::FAMILIES,
     slips::FAMILIES,
+    misread::FAMILIES,
+    policies::FAMILIES,
     splits::FAMILIES,
     numbers::FAMILIES,
     terms::FAMILIES,

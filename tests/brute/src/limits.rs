@@ -1,6 +1,6 @@
 //! Questions at the limits of SPEC 3.9, and one past them.
 
-use crate::question::Refusal;
+use crate::question::{operand_count, Refusal};
 use crate::refusals::{Fault, NO, NO_REASON_3, YES, YES_AT_HEIGHT_5, YES_REASON_1};
 use crate::worked;
 
@@ -10,7 +10,7 @@ type Clauses = &'static [(u8, usize)];
 const FULL: Clauses = &[(0x10, 64), (0x11, 31), (0x20, 64), (0x21, 31)];
 
 /// Name, kind, constants, clauses, the tail, and the number that is due. All clauses are of variable 0 alone: joins
-/// hold if it is empty, equalities always.
+/// hold if it is empty, and then it may be held together with itself; equalities hold always.
 const AT_THE_EDGE: &[(&str, u8, usize, Clauses, &str, u64)] = &[
     ("32 constants", 0, 32, &[], "00", YES_AT_HEIGHT_5),
     (
@@ -38,6 +38,39 @@ const AT_THE_EDGE: &[(&str, u8, usize, Clauses, &str, u64)] = &[
         &[(0x12, 64)],
         "13 00 00 | 00",
         NO,
+    ),
+    (
+        "64 joins, equalities and pairs held together",
+        0,
+        0,
+        &[(0x10, 16), (0x12, 16), (0x32, 32)],
+        "00",
+        YES,
+    ),
+    ("64 that may write", 0, 0, &[(0x30, 64)], "00", YES),
+    (
+        "31 disequations of each sort",
+        0,
+        0,
+        &[(0x11, 1), (0x13, 1), (0x31, 29)],
+        "00",
+        NO,
+    ),
+    (
+        "64 that may write and 31 that may read",
+        0,
+        0,
+        &[(0x30, 64), (0x31, 31)],
+        "00",
+        YES_AT_HEIGHT_5,
+    ),
+    (
+        "64 and 31 policies of the second",
+        1,
+        0,
+        &[(0x30, 1), (0x38, 64), (0x39, 31)],
+        "00",
+        YES,
     ),
     ("the longest question", 1, 32, FULL, "00", YES_REASON_1),
     (
@@ -122,6 +155,73 @@ const ONE_PAST: &[(&str, u8, usize, Clauses, &str, u8)] = &[
         7,
     ),
     (
+        "7: a 65th, that may write",
+        0,
+        0,
+        &[(0x10, 20), (0x12, 20), (0x32, 24)],
+        "30 00 | 00",
+        7,
+    ),
+    (
+        "7: a 65th, held together",
+        0,
+        0,
+        &[(0x30, 63), (0x12, 1)],
+        "32 00 00 | 00",
+        7,
+    ),
+    (
+        "7: a 65th, an equality after policies",
+        0,
+        0,
+        &[(0x30, 32), (0x32, 32)],
+        "12 00 00 | 00",
+        7,
+    ),
+    (
+        "7: a 65th of the second, that may write",
+        1,
+        0,
+        &[(0x3A, 60), (0x22, 4), (0x32, 64)],
+        "38 00 | 00",
+        7,
+    ),
+    (
+        "7: a 65th of the second, held together",
+        1,
+        0,
+        &[(0x38, 64)],
+        "3A 00 00 | 00",
+        7,
+    ),
+    (
+        "7: a 32nd, that may read",
+        0,
+        0,
+        &[(0x13, 30), (0x11, 1)],
+        "31 00 | 00",
+        7,
+    ),
+    (
+        "7: a 32nd, a negated equality after policies",
+        0,
+        0,
+        &[(0x31, 31)],
+        "13 00 00 | 00",
+        7,
+    ),
+    (
+        "7: a 32nd of the second, that may read",
+        1,
+        0,
+        &[(0x31, 31), (0x23, 15), (0x39, 16)],
+        "39 00 | 00",
+        7,
+    ),
+    ("7 before 8: 30", 0, 0, &[(0x30, 64)], "30 FF | 00", 7),
+    ("2 before 7: 32", 0, 0, &[(0x32, 64)], "32 00", 2),
+    ("9 before 7 and 8: 38", 0, 0, &[(0x30, 64)], "38 FF | 00", 9),
+    (
         "2: the longest question without its end",
         1,
         32,
@@ -154,10 +254,10 @@ fn long(kind: u8, constants: usize, clauses: Clauses, tail: &str) -> (usize, Vec
         bytes.extend([0x03, 0x01, 0x02, 0x03, 0x04]);
     }
     for &(command, times) in clauses {
-        let terms: &[u8] = if command % 4 < 2 { &[0, 0, 0] } else { &[0, 0] };
+        let terms = operand_count(command).expect("a clause");
         for _ in 0..times {
             bytes.push(command);
-            bytes.extend(terms);
+            bytes.resize(bytes.len() + terms, 0);
         }
     }
     let before = bytes.len();

@@ -152,11 +152,14 @@ fn one_choice(asker: &mut Asker, own: usize, ask: Ask, kept: Kept) {
     let second = &mut among.draft.second;
     let mut number = 0;
     match ask {
-        Ask::Unmet => second
-            .positive
-            .push(Relation::Equal(among.differs, among.full)),
+        Ask::Unmet => {
+            let full = Relation::Equal(among.differs, among.full);
+            let one = random.pick(&[full, Relation::Full(among.differs)]);
+            second.positive.push(one);
+        }
         Ask::Missed => {
-            let one = Relation::Equal(among.differs, among.empty);
+            let empty = Relation::Equal(among.differs, among.empty);
+            let one = random.pick(&[empty, Relation::Empty(among.differs)]);
             (number, second.disequations) = disequations(random, terms, one);
         }
     }
@@ -210,7 +213,11 @@ fn of_three(random: &mut Random, system: System, free: usize, held: bool) -> Bui
     shuffle(random, &mut loose);
     let [a, b, c] = [loose[0], loose[1], loose[2]].map(Term::Variable);
     draft.pin_others(random, &loose[..3]);
-    let one = random.pick(&[Relation::Equal(a, empty), Relation::Equal(c, b)]);
+    let one = random.pick(&[
+        Relation::Equal(a, empty),
+        Relation::Equal(c, b),
+        Relation::Empty(a),
+    ]);
     let (number, disequations) = disequations(random, (empty, full), one);
     let clauses = draft.system(system);
     clauses.positive.push(Relation::Join(a, b, c));

@@ -33,6 +33,7 @@ const SMALL: Size = Size {
     height: 3,
     positive: 5,
     disequations: 5,
+    policies: true,
 };
 
 fn random_questions(report: &mut Report) {
@@ -49,6 +50,7 @@ fn some_counts(random: &mut Random, positive: usize, disequations: usize) -> Cou
     Counts {
         positive: random.below(positive + 1),
         disequations: random.below(disequations + 1),
+        policies: random.once_in(2),
     }
 }
 
@@ -113,13 +115,15 @@ fn few_clauses(report: &mut Report) {
     asker.seen.kind_1(asker.report, 100);
 }
 
-/// Every split of 12 variables with as many clauses as the format allows. How it was built tells the answer.
+/// Every split of 12 variables with as many clauses as the format allows, with permission policies and without. How it was built
+/// tells the answer.
 fn all_clauses(report: &mut Report) {
     let mut asker = Asker::new(report);
-    for _ in 0..asker.report.rounds(2) {
+    for round in 0..asker.report.rounds(2) {
         for own in 0..=MOST_VARIABLES {
             for change in CHANGES {
-                let built = largest_built(&mut asker.random, own, change);
+                let policies = round % 2 == 0;
+                let built = largest_built(&mut asker.random, own, change, policies);
                 asker.built(&built);
                 all_stand(asker.report, &built.question);
             }
@@ -159,16 +163,19 @@ fn large_entailments(report: &mut Report) {
 /// clause is then turned into its negation.
 fn large_systems(report: &mut Report) {
     let mut asker = Asker::new(report);
-    let counts = Counts {
-        positive: MOST_POSITIVE - 1,
-        disequations: MOST_DISEQUATIONS - 1,
-    };
     for round in 0..asker.report.rounds(120) {
+        let counts = Counts {
+            positive: MOST_POSITIVE - 1,
+            disequations: MOST_DISEQUATIONS - 1,
+            policies: round % 4 < 2,
+        };
         let free = asker.random.between(8, MOST_VARIABLES);
         let mut question = hidden_question(&mut asker.random, free, MOST_CONSTANTS, 5, counts);
         if round % 2 == 1 {
-            let turned = asker.random.below(question.first.len());
-            question.first[turned].negated ^= true;
+            let clauses = question.first.iter_mut();
+            let mut turned: Vec<_> = clauses.filter(|c| c.negation().is_some()).collect();
+            let one = asker.random.below(turned.len());
+            turned[one].negated ^= true;
         }
         asker.question(&question);
     }
@@ -199,17 +206,18 @@ fn damaged_bytes(report: &mut Report) {
         .refused(asker.report, &[0, 1, 2, 3, 4, 5, 8, 9, 10], 50);
 }
 
-/// One question of each size cut at every place.
+/// One question of each size, with permission policies and without, cut at every place.
 fn truncations(report: &mut Report) {
     let mut asker = Asker::new(report);
-    for own in [0, 5, 12] {
+    let sizes = [0, 5, 12].map(|own| [(own, true), (own, false)]);
+    for (own, policies) in sizes.concat() {
         let random = &mut asker.random;
-        let question = largest(random, own, CHANGES[own % CHANGES.len()]);
+        let question = largest(random, own, CHANGES[own % CHANGES.len()], policies);
         let bytes = write(&question, || random.once_in(2));
         for length in 0..bytes.len() {
             let lengths = asker.enough();
             asker.bytes(&bytes[..length], lengths);
         }
     }
-    asker.seen.refused(asker.report, &[2], 2000);
+    asker.seen.refused(asker.report, &[2], 4000);
 }

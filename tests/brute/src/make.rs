@@ -14,6 +14,8 @@ pub struct Size {
     pub height: u32,
     pub positive: usize,
     pub disequations: usize,
+    /// Whether permission policies are among the clauses.
+    pub policies: bool,
 }
 
 /// The numbers of clauses of a system that is made.
@@ -21,12 +23,15 @@ pub struct Size {
 pub struct Counts {
     pub positive: usize,
     pub disequations: usize,
+    /// Whether permission policies are among them.
+    pub policies: bool,
 }
 
 /// All that the format allows.
 pub const ALL_CLAUSES: Counts = Counts {
     positive: MOST_POSITIVE,
     disequations: MOST_DISEQUATIONS,
+    policies: true,
 };
 
 /// Leaves as a number, unfolded to height 5, of a tree no taller than `height`.
@@ -61,10 +66,11 @@ fn random_counts(random: &mut Random, size: &Size) -> Counts {
     Counts {
         positive: random.below(size.positive + 1),
         disequations: random.below(size.disequations + 1),
+        policies: size.policies,
     }
 }
 
-fn random_term(random: &mut Random, variables: usize, constants: usize) -> Option<Term> {
+pub fn random_term(random: &mut Random, variables: usize, constants: usize) -> Option<Term> {
     if variables + constants == 0 {
         return None;
     }
@@ -75,20 +81,34 @@ fn random_term(random: &mut Random, variables: usize, constants: usize) -> Optio
     Some(Term::Variable(random.below(variables)))
 }
 
+/// A clause of any sort; once in three it is of a permission policy, if there are to be any.
 pub fn random_clause(
     random: &mut Random,
-    variables: usize,
-    constants: usize,
+    (variables, constants): (usize, usize),
     negated: bool,
+    policies: bool,
 ) -> Option<Clause> {
     let mut term = || random_term(random, variables, constants);
     let (a, b, c) = (term()?, term()?, term()?);
-    let relation = if random.once_in(3) {
+    let relation = if policies && random.once_in(3) {
+        random.pick(&of_policies(a, b, negated))
+    } else if random.once_in(3) {
         Relation::Equal(a, b)
     } else {
         Relation::Join(a, b, c)
     };
     Some(Clause { relation, negated })
+}
+
+/// What permission policies say of these terms, as positive clauses or as disequations.
+fn of_policies(a: Term, b: Term, negated: bool) -> Vec<Relation> {
+    let mut relations = vec![
+        Relation::Full(a),
+        Relation::Empty(a),
+        Relation::Together(a, b),
+    ];
+    relations.retain(|relation| relation.fits(negated));
+    relations
 }
 
 pub fn random_system(
@@ -100,7 +120,8 @@ pub fn random_system(
     let mut clauses = Vec::new();
     for number in 0..counts.positive + counts.disequations {
         let negated = number >= counts.positive;
-        clauses.extend(random_clause(random, variables, constants, negated));
+        let clause = random_clause(random, (variables, constants), negated, counts.policies);
+        clauses.extend(clause);
     }
     shuffle(random, &mut clauses);
     clauses
@@ -149,8 +170,11 @@ pub fn crowded(random: &mut Random, entailment: bool, disequations: usize) -> Qu
     let mut first: Vec<Clause> = (1..free).map(|v| clause(small(v), false)).collect();
     for _ in 0..disequations {
         let v = Term::Variable(random.below(free));
-        let other = Term::Constant(random.below(2));
-        first.push(clause(Relation::Equal(v, other), true));
+        let relation = match random.below(3) {
+            2 => Relation::Empty(v),
+            other => Relation::Equal(v, Term::Constant(other)),
+        };
+        first.push(clause(relation, true));
     }
     if free > 1 && random.once_in(8) {
         first.pop();
@@ -160,6 +184,7 @@ pub fn crowded(random: &mut Random, entailment: bool, disequations: usize) -> Qu
     let counts = Counts {
         positive: random.below(3),
         disequations: random.below(3),
+        policies: true,
     };
     let second = if entailment {
         random_system(random, free + own, 2, counts)

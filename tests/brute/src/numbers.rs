@@ -23,6 +23,8 @@ struct Base {
     height: u32,
     /// The disequations that do not decide hold only at the leaf, by the second of the loose pair.
     crowded: bool,
+    /// Permission policies are among the clauses.
+    policies: bool,
     /// The full one is the first or the second of each pair.
     free: [Term; 2],
     own: [Term; 2],
@@ -66,6 +68,7 @@ fn base_at(random: &mut Random, height: u32, leaf: usize) -> Base {
         draft,
         height,
         crowded: true,
+        policies: random.once_in(2),
         free: [a, b],
         own: [c, d],
         leaf,
@@ -75,30 +78,45 @@ fn base_at(random: &mut Random, height: u32, leaf: usize) -> Base {
 }
 
 impl Base {
+    /// One of these relations that may stand in a positive clause, or in a disequation.
+    fn pick(&self, random: &mut Random, negated: bool, relations: &[Relation]) -> Relation {
+        let mut fitting = relations.to_vec();
+        fitting.retain(|one| one.fits(negated) && (self.policies || !one.is_policy()));
+        random.pick(&fitting)
+    }
+
     /// A relation that never holds: as a disequation it always does.
     fn never(&self, random: &mut Random) -> Relation {
         let (empty, full) = (self.empty, self.full);
-        random.pick(&[
+        let relations = [
             Relation::Equal(empty, full),
             Relation::Join(full, full, full),
             Relation::Join(empty, empty, full),
             Relation::Join(full, empty, empty),
-        ])
+            Relation::Empty(full),
+            Relation::Empty(self.leaf),
+        ];
+        self.pick(random, true, &relations)
     }
 
     /// A relation that always holds: as a disequation it never does.
-    fn always(&self, random: &mut Random, system: System) -> Relation {
+    fn always(&self, random: &mut Random, system: System, negated: bool) -> Relation {
         let pair = match system {
             System::First => self.free,
             System::Second => self.own,
         };
         let term = random.pick(&[pair[0], pair[1], self.leaf, self.empty]);
-        random.pick(&[
+        let relations = [
             Relation::Equal(term, term),
             Relation::Join(term, self.empty, term),
             Relation::Join(self.empty, term, term),
             Relation::Join(pair[0], pair[1], self.leaf),
-        ])
+            Relation::Full(self.full),
+            Relation::Empty(self.empty),
+            Relation::Together(pair[0], pair[1]),
+            Relation::Together(term, self.empty),
+        ];
+        self.pick(random, negated, &relations)
     }
 
     /// Disequations of a system that always hold, but for the number that decides.
@@ -114,7 +132,7 @@ impl Base {
             System::Second => self.own[1],
         };
         let other = |random: &mut Random| match self.crowded {
-            true => self.empty_is(random, second),
+            true => self.empty_is(random, second, true),
             false => self.never(random),
         };
         let others = (0..count).map(|_| other(random)).collect();
@@ -136,26 +154,35 @@ impl Base {
             System::First => self.free[0],
             System::Second => self.own[0],
         };
+        let never = [
+            Relation::Join(term, term, self.leaf),
+            Relation::Full(self.empty),
+            Relation::Together(self.leaf, self.full),
+        ];
         let one = match decides.1 {
-            true => self.always(random, system),
-            false => Relation::Join(term, term, self.leaf),
+            true => self.always(random, system, false),
+            false => self.pick(random, false, &never),
         };
         while self.draft.system(system).positive.len() + 1 < count {
-            let relation = self.always(random, system);
+            let relation = self.always(random, system, false);
             self.draft.system(system).positive.push(relation);
         }
         let positive = &mut self.draft.system(system).positive;
         positive.insert(decides.0.min(positive.len()), one);
     }
 
-    /// The relation "this term is empty".
-    fn empty_is(&self, random: &mut Random, term: Term) -> Relation {
-        random.pick(&[
+    /// The relation "this term is empty", for a positive clause or for a disequation.
+    fn empty_is(&self, random: &mut Random, term: Term, negated: bool) -> Relation {
+        let relations = [
             Relation::Equal(term, self.empty),
             Relation::Equal(self.empty, term),
             Relation::Join(term, self.empty, self.empty),
             Relation::Join(self.empty, term, self.empty),
-        ])
+            Relation::Empty(term),
+            Relation::Together(term, self.full),
+            Relation::Together(self.full, term),
+        ];
+        self.pick(random, negated, &relations)
     }
 }
 
@@ -170,8 +197,8 @@ fn of_the_first(report: &mut Report) {
             let (met, whole, ending) = (case % 2 == 0, case / 2 % 2 == 0, case / 4);
             let count = if whole { MOST_DISEQUATIONS } else { number + 1 };
             let decides = match met {
-                true => base.empty_is(random, base.free[0]),
-                false => base.always(random, System::First),
+                true => base.empty_is(random, base.free[0], true),
+                false => base.always(random, System::First, true),
             };
             base.disequations(random, System::First, count, (number, decides));
             if ending == 0 {
@@ -179,7 +206,7 @@ fn of_the_first(report: &mut Report) {
                 base.draft.second = draft::Clauses::default();
             }
             if ending == 2 {
-                let unmet = base.empty_is(random, base.free[0]);
+                let unmet = base.empty_is(random, base.free[0], false);
                 base.draft.second.positive.push(unmet);
             }
             let question = base.draft.finish(random, ending > 0, base.height);
@@ -204,8 +231,8 @@ fn of_the_second(report: &mut Report) {
             let (had, whole) = (case % 2 == 0, case / 2 % 2 == 0);
             let count = if whole { MOST_DISEQUATIONS } else { number + 1 };
             let decides = match had {
-                true => base.empty_is(random, base.own[0]),
-                false => base.always(random, System::Second),
+                true => base.empty_is(random, base.own[0], true),
+                false => base.always(random, System::Second, true),
             };
             base.disequations(random, System::Second, count, (number, decides));
             let question = base.draft.finish(random, true, base.height);
@@ -229,8 +256,8 @@ fn of_both(report: &mut Report) {
                 let counts = [one, other].map(|least| random.between(least + 1, MOST_DISEQUATIONS));
                 let asked = base.free[usize::from(!had)];
                 let (asked, looked_for) = (
-                    base.empty_is(random, asked),
-                    base.empty_is(random, base.free[0]),
+                    base.empty_is(random, asked, true),
+                    base.empty_is(random, base.free[0], true),
                 );
                 base.disequations(random, System::First, counts[0], (one, asked));
                 base.disequations(random, System::Second, counts[1], (other, looked_for));
@@ -244,7 +271,7 @@ fn of_both(report: &mut Report) {
     }
 }
 
-/// Positive clause `number` of either system fails for every choice at one leaf, or for none.
+/// Positive clause `number` of either system fails for every choice at one leaf or at all, or for none.
 fn each_positive(report: &mut Report) {
     let mut asker = Asker::new(report);
     for number in 0..MOST_POSITIVE {
@@ -285,11 +312,11 @@ fn each_sub_leaf(report: &mut Report) {
 /// 31 disequations at one leaf, of which only one asks for the other choice there; alone, and behind a choice that leaves
 /// the second system unmet, which takes the first sub-leaf.
 fn one_sub_leaf(random: &mut Random, mut base: Base, number: usize, unmet: bool) -> Built {
-    let one = base.empty_is(random, base.free[0]);
+    let one = base.empty_is(random, base.free[0], true);
     base.disequations(random, System::First, MOST_DISEQUATIONS, (number, one));
     let mut draft = base.draft.clone();
     if unmet {
-        let clause = base.empty_is(random, base.free[0]);
+        let clause = base.empty_is(random, base.free[0], false);
         draft.second.positive.push(clause);
         let question = draft.finish(random, true, base.height);
         return draft::entailment(question, 2, 0);

@@ -66,6 +66,8 @@ struct Builder<'a> {
     /// The leaf that decides.
     leaf: u32,
     height: u32,
+    /// Permission policies are among the clauses.
+    policies: bool,
 }
 
 pub fn pinned(random: &mut Random, wanted: &Wanted) -> Built {
@@ -81,6 +83,7 @@ pub fn pinned(random: &mut Random, wanted: &Wanted) -> Built {
     });
     let values = values.collect();
     let mut builder = Builder {
+        policies: random.once_in(2),
         random,
         draft: Draft::new(wanted.free.len(), wanted.own.len()),
         values,
@@ -110,6 +113,9 @@ impl Builder<'_> {
         match relation {
             Relation::Join(a, b, c) => (at(a) & at(b)) | ((at(a) | at(b)) ^ at(c)),
             Relation::Equal(a, b) => at(a) ^ at(b),
+            Relation::Full(a) => !at(a),
+            Relation::Empty(a) => at(a),
+            Relation::Together(a, b) => at(a) & at(b),
         }
     }
 
@@ -137,11 +143,12 @@ impl Builder<'_> {
         let constant = self.draft.constant(value);
         let (empty, full) = (self.draft.constant(EMPTY), self.draft.constant(FULL));
         let other = self.draft.constant_within(!value, WITH_PINS);
-        match (self.random.below(5), other) {
+        match (self.random.below(6), other) {
             (0, _) => Relation::Equal(constant, v),
             (1, _) => Relation::Join(v, empty, constant),
             (2, _) => Relation::Join(empty, v, constant),
             (3, Some(other)) => Relation::Join(v, other, full),
+            (4, _) if self.policies && value == FULL => Relation::Full(v),
             _ => Relation::Equal(v, constant),
         }
     }
@@ -173,27 +180,39 @@ impl Builder<'_> {
         Term::Constant(self.random.below(self.draft.constants.len()))
     }
 
-    /// A relation of this system that fails at just these leaves, perhaps with a constant made for it.
-    fn measured(&mut self, system: System, leaves: u32, most: usize) -> Option<Relation> {
+    /// A relation for a clause of this system that fails at just these leaves, perhaps with a constant made for it.
+    fn measured(
+        &mut self,
+        (system, negated): (System, bool),
+        leaves: u32,
+        most: usize,
+    ) -> Option<Relation> {
         let (a, b, c) = (self.term(system), self.term(system), self.term(system));
         let (va, vb) = (self.value(a), self.value(b));
         let mut made = |leaves| self.draft.constant_within(leaves, most);
-        let relation = match self.random.below(7) {
-            0 => Relation::Equal(a, made(va ^ leaves)?),
-            1 => Relation::Equal(made(va ^ leaves)?, a),
-            2 => Relation::Equal(a, b),
-            3 => Relation::Join(a, b, made((va | vb) ^ leaves)?),
-            4 => Relation::Join(a, made((vb & !va) ^ leaves)?, b),
-            5 => Relation::Join(made((vb & !va) ^ leaves)?, a, b),
-            _ => Relation::Join(a, b, c),
+        let sorts = if self.policies { 11 } else { 7 };
+        let relation = match (self.random.below(sorts), negated) {
+            (0, _) => Relation::Equal(a, made(va ^ leaves)?),
+            (1, _) => Relation::Equal(made(va ^ leaves)?, a),
+            (2, _) => Relation::Equal(a, b),
+            (3, _) => Relation::Join(a, b, made((va | vb) ^ leaves)?),
+            (4, _) => Relation::Join(a, made((vb & !va) ^ leaves)?, b),
+            (5, _) => Relation::Join(made((vb & !va) ^ leaves)?, a, b),
+            (6, _) => Relation::Join(a, b, c),
+            (7, false) => Relation::Full(a),
+            (8, false) => Relation::Full(made(!leaves)?),
+            (9, false) => Relation::Together(a, b),
+            (_, false) => Relation::Together(a, made(leaves | !va)?),
+            (7 | 8, true) => Relation::Empty(a),
+            (_, true) => Relation::Empty(made(leaves)?),
         };
         (self.failing(relation) == leaves).then_some(relation)
     }
 
     /// Such a relation in any case: at worst one between the empty share and a constant.
-    fn relation(&mut self, system: System, leaves: u32, most: usize) -> Relation {
+    fn relation(&mut self, clause: (System, bool), leaves: u32, most: usize) -> Relation {
         for _ in 0..100 {
-            if let Some(relation) = self.measured(system, leaves, most) {
+            if let Some(relation) = self.measured(clause, leaves, most) {
                 return relation;
             }
         }
@@ -213,7 +232,7 @@ impl Builder<'_> {
                 false => (System::First, true, 0),
             },
         };
-        let relation = self.relation(system, leaves, MOST_CONSTANTS);
+        let relation = self.relation((system, negated), leaves, MOST_CONSTANTS);
         let clauses = self.draft.system(system);
         match negated {
             true => clauses.disequations.push(relation),
@@ -229,7 +248,7 @@ impl Builder<'_> {
         while self.draft.system(system).positive.len() < positive {
             let fails = second && verdict == Verdict::Vacuous;
             let leaves = if fails { self.some_leaves() } else { 0 };
-            let relation = self.relation(system, leaves, WITH_FILLING);
+            let relation = self.relation((system, false), leaves, WITH_FILLING);
             self.draft.system(system).positive.push(relation);
         }
         while self.draft.system(system).disequations.len() < disequations {
@@ -238,7 +257,7 @@ impl Builder<'_> {
                 true => 0,
                 false => self.some_leaves(),
             };
-            let relation = self.relation(system, leaves, WITH_FILLING);
+            let relation = self.relation((system, true), leaves, WITH_FILLING);
             self.draft.system(system).disequations.push(relation);
         }
         let clauses = self.draft.system(system);

@@ -151,6 +151,7 @@ fn written_and_read(report: &mut Report) {
         height: 5,
         positive: 64,
         disequations: 31,
+        policies: true,
     };
     let mut random = report.random();
     for _ in 0..300 {

@@ -1,6 +1,7 @@
 //! Questions, and the reader of their byte format.
 
 use crate::tree::{bytes_of_leaves, splits, tree_of_row, Tree, CONSTANT_HEIGHT};
+use std::mem::discriminant;
 
 pub const MOST_VARIABLES: usize = 12;
 pub const MOST_CONSTANTS: usize = 32;
@@ -17,6 +18,12 @@ pub enum Term {
 pub enum Relation {
     Join(Term, Term, Term),
     Equal(Term, Term),
+    /// The share is full: it may write.
+    Full(Term),
+    /// The share is empty. The format has only the negation: it may read.
+    Empty(Term),
+    /// The join of the two is defined: they may be held together.
+    Together(Term, Term),
 }
 
 #[derive(Clone, Copy, Debug, PartialEq, Eq)]
@@ -42,14 +49,88 @@ pub struct Refusal {
     pub place: usize,
 }
 
-impl Clause {
-    pub fn terms(&self) -> Vec<Term> {
-        match self.relation {
+impl Relation {
+    pub fn terms(self) -> Vec<Term> {
+        match self {
             Relation::Join(a, b, c) => vec![a, b, c],
-            Relation::Equal(a, b) => vec![a, b],
+            Relation::Equal(a, b) | Relation::Together(a, b) => vec![a, b],
+            Relation::Full(a) | Relation::Empty(a) => vec![a],
         }
     }
+
+    /// The same of other terms: each is changed, in order.
+    pub fn with(self, mut change: impl FnMut(Term) -> Term) -> Relation {
+        match self {
+            Relation::Join(a, b, c) => Relation::Join(change(a), change(b), change(c)),
+            Relation::Equal(a, b) => Relation::Equal(change(a), change(b)),
+            Relation::Full(a) => Relation::Full(change(a)),
+            Relation::Empty(a) => Relation::Empty(change(a)),
+            Relation::Together(a, b) => Relation::Together(change(a), change(b)),
+        }
+    }
+
+    /// Whether it is of a permission policy.
+    pub fn is_policy(self) -> bool {
+        !matches!(self, Relation::Join(..) | Relation::Equal(..))
+    }
+
+    /// How the format says this, or its negation, if it does.
+    fn form(self, negated: bool) -> Option<&'static Form> {
+        let sort = discriminant(&self);
+        FORMS
+            .iter()
+            .find(|form| discriminant(&form.relation) == sort && form.negated == negated)
+    }
+
+    /// Whether there is a clause that says this, or its negation.
+    pub fn fits(self, negated: bool) -> bool {
+        self.form(negated).is_some()
+    }
 }
+
+impl Clause {
+    pub fn terms(&self) -> Vec<Term> {
+        self.relation.terms()
+    }
+
+    /// The clause that says the contrary of the same relation, if the format has one.
+    pub fn negation(&self) -> Option<Clause> {
+        let (relation, negated) = (self.relation, !self.negated);
+        relation
+            .fits(negated)
+            .then_some(Clause { relation, negated })
+    }
+}
+
+/// How the format says a relation, or its negation.
+pub struct Form {
+    /// The command in the first system, and in the second.
+    pub commands: [u8; 2],
+    /// The relation; its terms mean nothing here.
+    pub relation: Relation,
+    pub negated: bool,
+}
+
+const fn form(commands: [u8; 2], relation: Relation, negated: bool) -> Form {
+    Form {
+        commands,
+        relation,
+        negated,
+    }
+}
+
+const ANY: Term = Term::Variable(0);
+
+/// All clauses that the format has.
+pub const FORMS: &[Form] = &[
+    form([0x10, 0x20], Relation::Join(ANY, ANY, ANY), false),
+    form([0x11, 0x21], Relation::Join(ANY, ANY, ANY), true),
+    form([0x12, 0x22], Relation::Equal(ANY, ANY), false),
+    form([0x13, 0x23], Relation::Equal(ANY, ANY), true),
+    form([0x30, 0x38], Relation::Full(ANY), false),
+    form([0x31, 0x39], Relation::Empty(ANY), true),
+    form([0x32, 0x3A], Relation::Together(ANY, ANY), false),
+];
 
 /// A system's positive clauses and its disequations, each in order.
 pub struct Split {
@@ -98,15 +179,21 @@ fn refuse<T>(number: u8, place: usize) -> Result<T, Refusal> {
 }
 
 /// How many operand bytes a command has; none if the command is unknown.
-fn operand_count(command: u8) -> Option<usize> {
+pub fn operand_count(command: u8) -> Option<usize> {
     match command {
         0x00 => Some(0),
         0x01 => Some(3),
         0x03 => Some(4),
-        0x10 | 0x11 | 0x20 | 0x21 => Some(3),
-        0x12 | 0x13 | 0x22 | 0x23 => Some(2),
-        _ => None,
+        _ => form_of(command).map(|(form, _)| form.relation.terms().len()),
     }
+}
+
+/// The form of a clause's command, and whether it is of the second system.
+fn form_of(command: u8) -> Option<(&'static Form, bool)> {
+    FORMS.iter().find_map(|form| {
+        let system = form.commands.iter().position(|byte| *byte == command)?;
+        Some((form, system == 1))
+    })
 }
 
 /// The question that these bytes are, or the first fault.
@@ -163,7 +250,10 @@ fn read_command(question: &mut Question, command: u8, operands: &[u8]) -> Result
     match command {
         0x01 => Err(4),
         0x03 => read_constant(question, operands),
-        _ => read_clause(question, command, operands),
+        _ => {
+            let (form, second) = form_of(command).expect("a known command");
+            read_clause(question, form, second, operands)
+        }
     }
 }
 
@@ -178,9 +268,13 @@ fn read_constant(question: &mut Question, leaves: &[u8]) -> Result<(), u8> {
     Ok(())
 }
 
-fn read_clause(question: &mut Question, command: u8, operands: &[u8]) -> Result<(), u8> {
-    let second = command >= 0x20;
-    let negated = command % 2 == 1;
+fn read_clause(
+    question: &mut Question,
+    form: &Form,
+    second: bool,
+    operands: &[u8],
+) -> Result<(), u8> {
+    let negated = form.negated;
     if second && !question.entailment {
         return Err(9);
     }
@@ -202,11 +296,10 @@ fn read_clause(question: &mut Question, command: u8, operands: &[u8]) -> Result<
     for &operand in operands {
         terms.push(read_term(question, second, operand).ok_or(8)?);
     }
-    let relation = match terms[..] {
-        [a, b, c] => Relation::Join(a, b, c),
-        [a, b] => Relation::Equal(a, b),
-        _ => unreachable!("a clause has two or three terms"),
-    };
+    let mut terms = terms.into_iter();
+    let relation = form
+        .relation
+        .with(|_| terms.next().expect("an operand for each"));
     let clause = Clause { relation, negated };
     if second {
         question.second.push(clause);
@@ -238,12 +331,9 @@ pub fn term_byte(term: Term) -> u8 {
 }
 
 pub fn clause_bytes(clause: &Clause, second: bool) -> Vec<u8> {
-    let system = if second { 0x20 } else { 0x10 };
-    let relation = match clause.relation {
-        Relation::Join(..) => 0,
-        Relation::Equal(..) => 2,
-    };
-    let mut bytes = vec![system + relation + u8::from(clause.negated)];
+    let form = clause.relation.form(clause.negated);
+    let form = form.expect("a clause of the format");
+    let mut bytes = vec![form.commands[usize::from(second)]];
     bytes.extend(clause.terms().into_iter().map(term_byte));
     bytes
 }

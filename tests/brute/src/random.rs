@@ -2,18 +2,23 @@
 
 pub struct Random(u64);
 
+/// Fowler, Noll and Vo's hash of some bytes.
+pub fn hash(bytes: impl IntoIterator<Item = u8>) -> u64 {
+    let mut hash: u64 = 0xCBF2_9CE4_8422_2325;
+    for byte in bytes {
+        hash = (hash ^ u64::from(byte)).wrapping_mul(0x0000_0100_0000_01B3);
+    }
+    hash
+}
+
 impl Random {
     pub fn new(seed: u64) -> Random {
         Random(seed)
     }
 
-    /// Other numbers for each seed and name (Fowler, Noll and Vo's hash of the name).
+    /// Other numbers for each seed and name.
     pub fn named(seed: u64, name: &str) -> Random {
-        let mut hash: u64 = 0xCBF2_9CE4_8422_2325;
-        for byte in name.bytes() {
-            hash = (hash ^ u64::from(byte)).wrapping_mul(0x0000_0100_0000_01B3);
-        }
-        Random(Random(seed).number() ^ hash)
+        Random(Random(seed).number() ^ hash(name.bytes()))
     }
 
     /// The next number of Steele, Lea and Flood's SplitMix64.

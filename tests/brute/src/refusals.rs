@@ -101,7 +101,6 @@ const SHORT: &[Line] = &[
     ("3: command 0F", "01 00 00 00 | 0F 00", 3, 4),
     ("3: command 14", "01 00 00 00 | 14 00 00 00", 3, 4),
     ("3: command 24", "01 01 00 00 | 24 00 00 00", 3, 4),
-    ("3: command 30", "01 00 01 00 | 30 00 00", 3, 4),
     (
         "3: command FF, after a clause",
         "01 00 01 00 | 12 00 00 | FF",
@@ -215,7 +214,10 @@ const SHORT: &[Line] = &[
     ),
 ];
 
-const ACCEPTED: &[(&str, &str, u64)] = &[
+/// Name, bytes, and the number that is due.
+type Accepted = (&'static str, &'static str, u64);
+
+const ACCEPTED: &[Accepted] = &[
     ("12 free variables", "01 00 0C 00 | 00", YES),
     ("12 own variables", "01 01 00 0C | 00", YES),
     ("7 and 5", "01 01 07 05 | 00", YES),
@@ -232,15 +234,125 @@ const ACCEPTED: &[(&str, &str, u64)] = &[
     ),
 ];
 
-/// All faults worked by hand, and some questions beside them that have none.
-pub fn by_hand() -> Vec<Fault> {
-    let short = SHORT.iter().map(|&(name, text, number, place)| {
+/// Faults at the commands of permission policies.
+const POLICIES: &[Line] = &[
+    ("2: a bare 30", "01 00 01 00 | 30", 2, 4),
+    ("2: a bare 31", "01 00 01 00 | 31", 2, 4),
+    ("2: a bare 32", "01 00 01 00 | 32", 2, 4),
+    ("2: 32 cut short", "01 00 01 00 | 32 00", 2, 4),
+    ("2: a bare 38", "01 01 01 00 | 38", 2, 4),
+    ("2: a bare 39", "01 01 01 00 | 39", 2, 4),
+    ("2: a bare 3A", "01 01 01 00 | 3A", 2, 4),
+    ("2: 3A cut short", "01 01 01 00 | 3A 00", 2, 4),
+    ("2: no command after 30", "01 00 01 00 | 30 00", 2, 6),
+    ("2: no command after 31", "01 00 01 00 | 31 00", 2, 6),
+    ("2: no command after 32", "01 00 01 00 | 32 00 00", 2, 7),
+    ("2 before 9: 38 cut short", "01 00 01 00 | 38", 2, 4),
+    ("2 before 8: 32 cut short", "01 00 01 00 | 32 FF", 2, 4),
+    (
+        "4: a constant after 30",
+        "01 00 01 00 | E | 30 00 | F | 00",
+        4,
+        11,
+    ),
+    (
+        "4: a constant after 39",
+        "01 01 01 00 | E | 39 00 | F | 00",
+        4,
+        11,
+    ),
+    (
+        "8: 30 of a variable above those of the head",
+        "01 00 01 00 | 30 01 | 00",
+        8,
+        4,
+    ),
+    (
+        "8: 31 of a constant above those defined",
+        "01 00 01 00 | E | 31 21 | 00",
+        8,
+        9,
+    ),
+    (
+        "8: 32 of no term first",
+        "01 00 01 00 | 32 FF 00 | 00",
+        8,
+        4,
+    ),
+    (
+        "8: 32 of no term second",
+        "01 00 01 00 | 32 00 1F | 00",
+        8,
+        4,
+    ),
+    ("8: 30 of an own variable", "01 01 01 01 | 30 01 | 00", 8, 4),
+    ("8: 31 of an own variable", "01 01 01 01 | 31 01 | 00", 8, 4),
+    (
+        "8: 32 with an own variable",
+        "01 01 01 01 | 32 00 01 | 00",
+        8,
+        4,
+    ),
+    (
+        "8: 38 above the own variables",
+        "01 01 01 01 | 38 02 | 00",
+        8,
+        4,
+    ),
+    ("8: 39 of no constant", "01 01 01 01 | 39 20 | 00", 8, 4),
+    ("8: 3A of no term", "01 01 01 01 | 3A 01 0C | 00", 8, 4),
+    ("9: 38", "01 00 01 00 | 38 00 | 00", 9, 4),
+    ("9: 39", "01 00 01 00 | 39 00 | 00", 9, 4),
+    ("9: 3A", "01 00 01 00 | 3A 00 00 | 00", 9, 4),
+    ("9 before 8: 3A", "01 00 01 00 | 3A FF FF | 00", 9, 4),
+];
+
+const POLICIES_ACCEPTED: &[Accepted] = &[
+    (
+        "own variables in 38, 39 and 3A",
+        "01 01 01 02 | 38 01 | 39 02 | 3A 02 02 | 00",
+        NO_REASON_3,
+    ),
+    (
+        "the operand 30 of 30",
+        "01 00 01 00 | E E E E E E E E E E E E E E E E F | 30 30 | 00",
+        YES,
+    ),
+];
+
+/// The bytes beside the commands of permission policies, which are unknown.
+fn beside_policies() -> impl Iterator<Item = Fault> {
+    let refusal = Refusal {
+        number: 3,
+        place: 4,
+    };
+    let bytes = (0x33..=0x37).chain(0x3B..=0x3F);
+    bytes.map(move |byte| {
+        let question = vec![0x01, 0x01, 0x01, 0x00, byte, 0x00, 0x00, 0x00];
+        Fault::refused("3: a byte beside 30 to 32 and 38 to 3A", question, refusal)
+    })
+}
+
+fn of_lines(lines: &'static [Line], accepted: &'static [Accepted]) -> impl Iterator<Item = Fault> {
+    let refused = lines.iter().map(|&(name, text, number, place)| {
         Fault::refused(name, worked::bytes(text), Refusal { number, place })
     });
-    let accepted = ACCEPTED
+    let accepted = accepted
         .iter()
         .map(|&(name, text, number)| Fault::accepted(name, worked::bytes(text), number));
-    let mut faults: Vec<Fault> = short.chain(accepted).collect();
+    refused.chain(accepted)
+}
+
+/// The short ones without permission policies.
+pub fn older() -> impl Iterator<Item = Fault> {
+    of_lines(SHORT, ACCEPTED)
+}
+
+/// All faults worked by hand, and some questions beside them that have none.
+pub fn by_hand() -> Vec<Fault> {
+    let mut faults: Vec<Fault> = older().collect();
+    faults.extend(of_lines(POLICIES, POLICIES_ACCEPTED));
+    faults.extend(beside_policies());
     faults.extend(limits::at_the_edge());
     faults.extend(limits::one_past());
     faults.extend(limits::after_the_longest());

@@ -165,6 +165,7 @@ const SMALL: Size = Size {
     height: 2,
     positive: 3,
     disequations: 3,
+    policies: true,
 };
 
 fn random_questions(report: &mut Report) {
@@ -204,6 +205,7 @@ fn counts(random: &mut Random, positive: usize, disequations: usize) -> Counts {
     Counts {
         positive: random.below(positive + 1),
         disequations: random.below(disequations + 1),
+        policies: true,
     }
 }
 

@@ -37,6 +37,9 @@ pub fn holds_at_leaf(clause: &Clause, choice: &[bool], constants: &[bool]) -> bo
     let plain = match clause.relation {
         Relation::Join(a, b, c) => join_leaves(at(a), at(b)) == Some(at(c)),
         Relation::Equal(a, b) => at(a) == at(b),
+        Relation::Full(a) => at(a),
+        Relation::Empty(a) => !at(a),
+        Relation::Together(a, b) => !(at(a) && at(b)),
     };
     plain != clause.negated
 }

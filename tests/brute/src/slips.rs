@@ -2,7 +2,7 @@
 //! comparison with the library notices.
 
 use crate::asking::Asker;
-use crate::due::Answered;
+use crate::due::{Answered, Decided};
 use crate::fixed::{AsWritten, Asked, Choice, Held, Leaf, Words};
 use crate::make::{crowded, entailment, random_question, Counts, Size, CHANGES};
 use crate::question::{Question, MOST_DISEQUATIONS};
@@ -132,13 +132,24 @@ impl Changed {
 
     /// Each slip changed the rows so often.
     pub fn enough(&self, report: &mut Report, least: usize) {
-        println!("how often each slip changed the rows: {:?}", self.0);
-        for (count, (name, _)) in self.0.iter().zip(SLIPS) {
-            report.apart(match *count >= least {
-                true => Ok(()),
-                false => Err(format!("{name}: changed the rows {count} times")),
-            });
-        }
+        enough(report, "rows", SLIPS.map(|(name, _)| name), self.0, least);
+    }
+}
+
+/// Each slip, by its name, changed the rows or the results so often.
+pub fn enough<const COUNT: usize>(
+    report: &mut Report,
+    what: &str,
+    names: [&str; COUNT],
+    changed: [usize; COUNT],
+    least: usize,
+) {
+    println!("how often each slip changed the {what}: {changed:?}");
+    for (name, count) in names.into_iter().zip(changed) {
+        report.apart(match count >= least {
+            true => Ok(()),
+            false => Err(format!("{name}: changed the {what} {count} times")),
+        });
     }
 }
 
@@ -149,12 +160,14 @@ const SMALL: Size = Size {
     height: 3,
     positive: 3,
     disequations: 5,
+    policies: true,
 };
 
 fn some_question(random: &mut Random) -> Question {
     let mut counts = || Counts {
         positive: random.below(4),
         disequations: random.below(6),
+        policies: true,
     };
     let clauses = (counts(), counts());
     match random.below(3) {
@@ -189,7 +202,8 @@ fn slips_noticed(report: &mut Report) {
                 outcome: right.outcome,
                 rows: Some(wrong),
             };
-            asker.notices(slipped);
+            let bytes = asker.mixed(&question);
+            asker.notices(&bytes, &Decided::Answered(slipped));
         }
     }
     changed.enough(asker.report, 50);

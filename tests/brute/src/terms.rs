@@ -13,16 +13,24 @@ pub const FAMILIES: &[Family] = &[
     ("each variable in each place", each_variable),
 ];
 
-const PLACES: usize = 5;
+const PLACES: usize = 9;
+/// The place in which the relation fails where the term is empty.
+const MAY_WRITE: usize = 8;
 
-/// A relation with the term in one of five places and empty shares in the others: it fails where the term is full.
-fn placed(place: usize, term: Term, empty: Term) -> Relation {
+/// A relation with the term in one of the places and empty or full shares in the others: it fails where the term is full, but for
+/// one place.
+fn placed(place: usize, term: Term, [empty, full]: [Term; 2]) -> Relation {
     match place {
         0 => Relation::Equal(term, empty),
         1 => Relation::Equal(empty, term),
         2 => Relation::Join(term, empty, empty),
         3 => Relation::Join(empty, term, empty),
-        _ => Relation::Join(empty, empty, term),
+        4 => Relation::Join(empty, empty, term),
+        5 => Relation::Empty(term),
+        6 => Relation::Together(term, full),
+        7 => Relation::Together(full, term),
+        MAY_WRITE => Relation::Full(term),
+        _ => unreachable!("there are {PLACES} places"),
     }
 }
 
@@ -35,21 +43,32 @@ struct Decides {
     fails: bool,
 }
 
-/// All of them.
+/// All of them for which there is a clause.
 fn all() -> impl Iterator<Item = Decides> {
-    (0..PLACES * 8).map(|number| Decides {
+    let decides = (0..PLACES * 8).map(|number| Decides {
         place: number / 8,
         second: number & 1 > 0,
         negated: number & 2 > 0,
         fails: number & 4 > 0,
-    })
+    });
+    let any = Term::Variable(0);
+    decides.filter(move |one| placed(one.place, any, [any; 2]).fits(one.negated))
 }
 
 impl Decides {
+    /// The term's leaves, so that the relation fails at these or at none.
+    fn leaves(self, leaves: u32) -> u32 {
+        let failing = if self.fails { leaves } else { EMPTY };
+        match self.place {
+            MAY_WRITE => !failing,
+            _ => failing,
+        }
+    }
+
     /// Puts the clause in. Kind 0 is asked only with a clause of the first system.
-    fn built(self, mut question: Question, term: Term, empty: Term) -> Built {
+    fn built(self, mut question: Question, term: Term, others: [Term; 2]) -> Built {
         let clause = Clause {
-            relation: placed(self.place, term, empty),
+            relation: placed(self.place, term, others),
             negated: self.negated,
         };
         let holds = self.fails == self.negated;
@@ -102,7 +121,7 @@ fn others(random: &mut Random, number: usize) -> [usize; 2] {
     }
 }
 
-/// One constant, full at one leaf or nowhere, tells leaves apart; the others that clauses name are the same at all.
+/// One constant tells leaves apart where the clause fails; the others that clauses name are the same at all.
 fn each_constant(report: &mut Report) {
     let mut asker = Asker::new(report);
     for number in 0..MOST_CONSTANTS {
@@ -112,7 +131,7 @@ fn each_constant(report: &mut Report) {
             let entailment = decides.second || random.once_in(2);
             let mut question = question(random, entailment, [empty, full]);
             let leaf = leaf_mask(5, random.below(32));
-            question.constants[number] = tree_of_number(if decides.fails { leaf } else { EMPTY });
+            question.constants[number] = tree_of_number(decides.leaves(leaf));
             question.free = random.between(1, 6);
             for variable in 0..question.free {
                 let constant = if variable == 0 {
@@ -123,7 +142,8 @@ fn each_constant(report: &mut Report) {
                 question.first.push(pin(variable, constant));
             }
             let beside = random.pick(&[Term::Variable(0), Term::Constant(empty)]);
-            let built = decides.built(question, Term::Constant(number), beside);
+            let others = [beside, Term::Constant(full)];
+            let built = decides.built(question, Term::Constant(number), others);
             asker.built(&built);
         }
     }
@@ -160,9 +180,9 @@ fn one_variable(random: &mut Random, number: usize, decides: Decides) -> Built {
     };
     question.own = MOST_VARIABLES - question.free;
     for variable in 0..MOST_VARIABLES {
-        let constant = match (variable == number, decides.fails) {
-            (true, true) => full,
-            (true, false) => empty,
+        let constant = match (variable == number, decides.leaves(FULL)) {
+            (true, FULL) => full,
+            (true, _) => empty,
             (false, _) => random.pick(&[empty, full]),
         };
         let system = match variable < question.free {
@@ -171,5 +191,6 @@ fn one_variable(random: &mut Random, number: usize, decides: Decides) -> Built {
         };
         system.push(pin(variable, constant));
     }
-    decides.built(question, Term::Variable(number), Term::Constant(empty))
+    let others = [empty, full].map(Term::Constant);
+    decides.built(question, Term::Variable(number), others)
 }

@@ -96,6 +96,9 @@ impl Search<'_> {
         let plain = match clause.relation {
             Relation::Join(a, b, c) => self.trees.join(at(a), at(b)) == Some(at(c)),
             Relation::Equal(a, b) => at(a) == at(b),
+            Relation::Full(a) => self.trees.trees[at(a)] == Tree::Full,
+            Relation::Empty(a) => self.trees.trees[at(a)] == Tree::Empty,
+            Relation::Together(a, b) => self.trees.join(at(a), at(b)).is_some(),
         };
         plain != clause.negated
     }

@@ -1,6 +1,6 @@
 //! Questions worked by hand: those of SPEC 12, the properties of figure 1 of Le, Nguyen, Chin and Hobor,
-//! "A certified decision procedure for tree shares", one for each mistake of SPEC 13, and those for each word of the
-//! fixed solution. The bytes are written out; `E`, `F`, `L`, `R` stand for the commands that define the empty share,
+//! "A certified decision procedure for tree shares", one for each mistake of SPEC 13, those for each word of the
+//! fixed solution, and those of permission policies. The bytes are written out; `E`, `F`, `L`, `R` stand for the commands that define the empty share,
 //! the full one, the left half and the right half, and `|` only parts the commands for the reader.
 
 use crate::due::packed_outcome;
@@ -408,6 +408,165 @@ pub const FIXED: &[Worked] = &[
     ),
 ];
 
+/// Permission policies: "may write" is full, "may read" is not empty, and what may be held together has a join.
+pub const POLICIES: &[Worked] = &[
+    unshown(
+        "a writer and a reader held together",
+        "01 00 02 00 | 30 00 | 31 01 | 32 00 01 | 00",
+        false,
+        0,
+    ),
+    unshown(
+        "a writer that is the reader, held together with itself",
+        "01 00 01 00 | 30 00 | 31 00 | 32 00 00 | 00",
+        false,
+        0,
+    ),
+    unshown(
+        "a writer and a reader held together entail anything",
+        "01 01 02 00 | 30 00 | 31 01 | 32 00 01 | 38 01 | 00",
+        true,
+        1,
+    ),
+    // h = 0, d = 2, W = 1. The choices are oo, o* and *o. Sub-leaf 0 holds "v0 is not empty" and carries *o, sub-leaf 1 holds "v1 is
+    // not empty" and carries o*.
+    yes(
+        "two readers held together",
+        "01 00 02 00 | 31 00 | 31 01 | 32 00 01 | 00",
+        1,
+        &["(*o)", "(o*)"],
+    ),
+    // h = 0, d = 0, W = 0. The least choice is oo: that two shares have a join does not say which.
+    yes(
+        "held together, and both empty",
+        "01 00 02 00 | 32 00 01 | 00",
+        0,
+        &["o", "o"],
+    ),
+    unshown(
+        "a writer held together with what is not empty at one leaf",
+        "01 00 01 00 | R | 30 00 | 32 00 20 | 00",
+        false,
+        0,
+    ),
+    // h = 1, d = 0, W = 1. At leaf 0 R is o and the least choice is o; at leaf 1 only o can be held together with *.
+    yes(
+        "held together with R: the join need not be full",
+        "01 00 01 00 | R | 32 00 20 | 00",
+        1,
+        &["o"],
+    ),
+    yes(
+        "L and R may be held together",
+        "01 00 00 00 | L R | 32 20 21 | 00",
+        1,
+        &[],
+    ),
+    unshown(
+        "L may not be held together with itself",
+        "01 00 00 00 | L | 32 20 20 | 00",
+        false,
+        0,
+    ),
+    unshown(
+        "L may not write: full is asked at every leaf",
+        "01 00 01 00 | L | 12 00 20 | 30 00 | 00",
+        false,
+        0,
+    ),
+    // h = 1, d = 1, W = 1. Only leaf 1 meets the disequation; v0 is R.
+    yes(
+        "R may read: not empty is asked at one leaf",
+        "01 00 01 00 | R | 12 00 20 | 31 00 | 00",
+        1,
+        &["(o*)"],
+    ),
+    unshown(
+        "the empty share may not read",
+        "01 00 00 00 | E | 31 20 | 00",
+        false,
+        0,
+    ),
+    // h = 0, d = 3, W = 2. Sub-leaves 0 to 2 carry *, sub-leaf 3 holds nothing and carries o.
+    yes(
+        "may read counts as a disequation as often as it stands",
+        "01 00 01 00 | E | 31 00 | 13 00 20 | 31 00 | 00",
+        2,
+        &["(*(*o))"],
+    ),
+    unshown(
+        "v0 held together with itself entails v0 is empty",
+        "01 01 01 00 | E | 32 00 00 | 22 00 20 | 00",
+        true,
+        0,
+    ),
+    unshown(
+        "v0 is empty entails v0 may be held together with itself and v1",
+        "01 01 02 00 | E | 12 00 20 | 3A 00 00 | 3A 01 00 | 00",
+        true,
+        0,
+    ),
+    // h = 0, d = 1, W = 0 + c(2) = 1. Sub-leaf 0 carries o, which is not full, sub-leaf 1 holds "v0 is not empty" and carries *.
+    not_entailed(
+        "v0 may read entails v0 may write",
+        "01 01 01 00 | 31 00 | 38 00 | 00",
+        1,
+        (2, 0),
+        &["(o*)"],
+    ),
+    unshown(
+        "v0 may write entails v0 may read",
+        "01 01 01 00 | 30 00 | 39 00 | 00",
+        true,
+        0,
+    ),
+    // h = 0, d = 0, W = 0 + c(1) = 0. Only o lacks the disequation.
+    not_entailed(
+        "nothing entails v0 may read",
+        "01 01 01 00 | 39 00 | 00",
+        0,
+        (3, 0),
+        &["o"],
+    ),
+    // h = 0, d = 1, W = 1. Sub-leaf 0 carries *, the only choice that is not held together with itself; sub-leaf 1 holds "v0 is not
+    // empty" and carries * too.
+    not_entailed(
+        "v0 may read entails v0 held together with itself",
+        "01 01 01 00 | 31 00 | 3A 00 00 | 00",
+        1,
+        (2, 0),
+        &["*"],
+    ),
+    // h = 0, d = 0, W = 0. v0 is full, so number 0 is had; number 1 is lacking where v1 is empty.
+    not_entailed(
+        "the disequation number counts negated equalities and may read together",
+        "01 01 02 00 | E | 30 00 | 23 00 20 | 39 01 | 00",
+        0,
+        (3, 1),
+        &["*", "o"],
+    ),
+    unshown(
+        "nothing entails that own v0 may write",
+        "01 01 00 01 | 38 00 | 00",
+        true,
+        0,
+    ),
+    // h = 0, d = 0, W = 0. Held together with the full v0, own v1 is empty.
+    not_entailed(
+        "v0 may write entails own v1 may read, held together with v0",
+        "01 01 01 01 | 30 00 | 39 01 | 3A 00 01 | 00",
+        0,
+        (3, 0),
+        &["*"],
+    ),
+    unshown(
+        "v0 is not full entails own v1 may read, held together with v0",
+        "01 01 01 01 | F | 13 00 20 | 39 01 | 3A 00 01 | 00",
+        true,
+        0,
+    ),
+];
+
 /// The bytes of a question written as above.
 pub fn bytes(text: &str) -> Vec<u8> {
     let mut bytes = Vec::new();
@@ -425,5 +584,10 @@ pub fn bytes(text: &str) -> Vec<u8> {
 }
 
 pub fn all() -> impl Iterator<Item = &'static Worked> {
+    older().chain(POLICIES)
+}
+
+/// Those without permission policies.
+pub fn older() -> impl Iterator<Item = &'static Worked> {
     WORKED.iter().chain(FIGURE_1).chain(MISTAKES).chain(FIXED)
 }

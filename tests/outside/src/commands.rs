@@ -1,5 +1,6 @@
 //! Where the commands of some bytes begin and end, also where the bytes are faulty.
 
+use brute::question::operand_count;
 use std::ops::Range;
 
 /// The bytes of each command. An unknown command byte stands alone; a last command may be cut short.
@@ -15,10 +16,5 @@ pub fn commands(bytes: &[u8]) -> Vec<Range<usize>> {
 }
 
 fn width(command: u8) -> usize {
-    match command {
-        0x01 | 0x10 | 0x11 | 0x20 | 0x21 => 4,
-        0x03 => 5,
-        0x12 | 0x13 | 0x22 | 0x23 => 3,
-        _ => 1,
-    }
+    1 + operand_count(command).unwrap_or(0)
 }

@@ -97,7 +97,7 @@ fn long_questions(report: &mut Report) {
             with(report, &cut);
         }
         for length in [925, 926, 1023, 1024, 1025, 65_535, 65_536, 65_537, 1 << 20] {
-            for filling in [0x00, 0x03, 0x12, 0xFF] {
+            for filling in [0x00, 0x03, 0x12, 0x30, 0xFF] {
                 let mut long = bytes.clone();
                 long.resize(length, filling);
                 with(report, &long);

@@ -9,7 +9,7 @@ use crate::shrink::shrunk;
 use brute::due::decided;
 use brute::judge::ANSWER_BYTES;
 use brute::library::ASK_WORK_BYTES;
-use brute::question::{hex, read};
+use brute::question::{hex, read, FORMS};
 use brute::random::Random;
 use brute::report::{Family, Report};
 use std::collections::HashSet;
@@ -47,6 +47,7 @@ fn mutation(report: &mut Report) {
         run.one_round(report);
     }
     enough_seen(report, &run.seen);
+    clauses_seen(report, &run.accepted);
     let (rounds, combinations) = (run.round, run.seen.len());
     println!("mutation: {rounds} rounds, {combinations} combinations");
 }
@@ -56,6 +57,8 @@ struct Run {
     random: Random,
     corpus: Vec<Vec<u8>>,
     seen: HashSet<Combination>,
+    /// The commands of questions that grew and were accepted.
+    accepted: HashSet<u8>,
     round: usize,
     failures: usize,
 }
@@ -72,6 +75,7 @@ impl Run {
             random,
             corpus: Vec::new(),
             seen: HashSet::new(),
+            accepted: HashSet::new(),
             round: 0,
             failures: 0,
         };
@@ -87,6 +91,10 @@ impl Run {
     fn one_round(&mut self, report: &mut Report) {
         self.round += 1;
         let bytes = mutated(&mut self.random, &self.corpus);
+        if read(&bytes).is_ok() {
+            let parts = commands(&bytes).into_iter();
+            self.accepted.extend(parts.map(|part| bytes[part.start]));
+        }
         if !too_dear(&mut self.random, &bytes) && self.is_new(report, &bytes) {
             self.corpus.push(bytes);
         }
@@ -126,6 +134,14 @@ fn enough_seen(report: &mut Report, seen: &HashSet<Combination>) {
     }
     let heights = (0..=10).filter(|height| seen.iter().any(|c| c[0] > 0 && c[3] == *height));
     report.same_apart("heights seen", heights.count(), 11);
+}
+
+/// Each command of a clause stood in a question that was accepted.
+fn clauses_seen(report: &mut Report, accepted: &HashSet<u8>) {
+    for command in FORMS.iter().flat_map(|form| form.commands) {
+        let there = accepted.contains(&command);
+        report.same_apart("a command was seen", (command, there), (command, true));
+    }
 }
 
 /// Lengths of buffers: mostly enough, now and then round the edge.
@@ -222,7 +238,7 @@ fn mutate_commands(random: &mut Random, bytes: &mut Vec<u8>, other: &[u8]) {
     let command = bytes[part.clone()].to_vec();
     let new = other[others[random.below(others.len())].clone()].to_vec();
     let start = part.start;
-    match random.below(7) {
+    match random.below(8) {
         0 => drop(bytes.drain(part)),
         1 => drop(bytes.splice(start..start, new)),
         2 => drop(bytes.splice(part, new)),
@@ -241,6 +257,11 @@ fn mutate_commands(random: &mut Random, bytes: &mut Vec<u8>, other: &[u8]) {
         5 => {
             let from = others[random.below(others.len())].start;
             drop(bytes.splice(start.., other[from..].to_vec()));
+        }
+        6 => {
+            // Another command of a clause takes the operands.
+            let form = &FORMS[random.below(FORMS.len())];
+            bytes[start] = random.pick(&form.commands);
         }
         _ => {
             // An operand takes a value that often means something.

@@ -127,11 +127,11 @@ fn buffers() -> Buffers {
     }
 }
 
-/// Some of the largest questions.
+/// Some of the largest questions, every second one with permission policies.
 fn large(random: &mut Random, count: usize) -> Vec<Vec<u8>> {
     let mut questions = Vec::new();
     for round in 0..count {
-        let question = largest(random, round + 4, CHANGES[round % 4]);
+        let question = largest(random, round + 4, CHANGES[round % 4], round % 2 == 1);
         questions.push(write(&question, || random.once_in(2)));
     }
     questions
@@ -153,7 +153,7 @@ fn cut_questions(report: &mut Report) {
     let mut random = report.random();
     let mut buffers = buffers();
     let mut questions = large(&mut random, 8);
-    questions.extend((0..report.rounds(52)).map(|_| samples::accepted(&mut random)));
+    questions.extend((0..report.rounds(80)).map(|_| samples::accepted(&mut random)));
     for bytes in &questions {
         for length in 0..bytes.len() {
             let cut = &bytes[..length];

@@ -20,6 +20,7 @@ const SMALL: Size = Size {
     height: 3,
     positive: 4,
     disequations: 4,
+    policies: true,
 };
 
 /// An accepted question of one of three makes.
@@ -31,6 +32,7 @@ pub fn accepted(random: &mut Random) -> Vec<u8> {
             let counts = Counts {
                 positive: random.below(5),
                 disequations: random.below(5),
+                policies: true,
             };
             entailment(random, (3, 2), (3, 3), (counts, counts), change)
         }
