@@ -82,7 +82,7 @@ pub const FIVE_NOT_EMPTY: &str =
     "01 00 05 00 | E | 10 00 01 02 | 10 02 03 04 | 13 00 20 | 13 01 20 \
                                   | 13 02 20 | 13 03 20 | 13 04 20 | 00";
 
-/// The questions of SPEC 12. A name starts with the question's number there.
+/// The questions of SPEC 12 without permission policies. A name starts with the question's number there.
 pub const WORKED: &[Worked] = &[
     yes(
         "12.13: the printing program's example",
@@ -408,10 +408,11 @@ pub const FIXED: &[Worked] = &[
     ),
 ];
 
-/// Permission policies: "may write" is full, "may read" is not empty, and what may be held together has a join.
+/// Permission policies: "may write" is full, "may read" is not empty, and what may be held together has a join. Those of SPEC 12
+/// have its number.
 pub const POLICIES: &[Worked] = &[
     unshown(
-        "a writer and a reader held together",
+        "12.17: a writer and a reader held together",
         "01 00 02 00 | 30 00 | 31 01 | 32 00 01 | 00",
         false,
         0,
@@ -431,7 +432,7 @@ pub const POLICIES: &[Worked] = &[
     // h = 0, d = 2, W = 1. The choices are oo, o* and *o. Sub-leaf 0 holds "v0 is not empty" and carries *o, sub-leaf 1 holds "v1 is
     // not empty" and carries o*.
     yes(
-        "two readers held together",
+        "12.18: two readers held together",
         "01 00 02 00 | 31 00 | 31 01 | 32 00 01 | 00",
         1,
         &["(*o)", "(o*)"],
@@ -508,14 +509,14 @@ pub const POLICIES: &[Worked] = &[
     ),
     // h = 0, d = 1, W = 0 + c(2) = 1. Sub-leaf 0 carries o, which is not full, sub-leaf 1 holds "v0 is not empty" and carries *.
     not_entailed(
-        "v0 may read entails v0 may write",
+        "12.19: v0 may read entails v0 may write",
         "01 01 01 00 | 31 00 | 38 00 | 00",
         1,
         (2, 0),
         &["(o*)"],
     ),
     unshown(
-        "v0 may write entails v0 may read",
+        "12.20: v0 may write entails v0 may read",
         "01 01 01 00 | 30 00 | 39 00 | 00",
         true,
         0,
@@ -553,7 +554,7 @@ pub const POLICIES: &[Worked] = &[
     ),
     // h = 0, d = 0, W = 0. Held together with the full v0, own v1 is empty.
     not_entailed(
-        "v0 may write entails own v1 may read, held together with v0",
+        "12.21: v0 may write entails own v1 may read, held together with v0",
         "01 01 01 01 | 30 00 | 39 01 | 3A 00 01 | 00",
         0,
         (3, 0),
