@@ -24,9 +24,9 @@ use Rattle.format.specs.declared.Section.{Section}
 use Rattle.format.specs.declared.Section.the-variants.{FirstPositive, FirstDisequation, SecondPositive, SecondDisequation}
 use Rattle.beside.specs.Beside.{ReadsFree, Readable}
 
--- one of four bytes
-four : (l : List ℕ) (p r : ℕ) → r < 4 → getD l p 0 < 64 → getD l (p + 1) 0 < 64 → getD l (p + 2) 0 < 64 → getD l (p + 3) 0 < 64 → getD l (p + r) 0 < 64
-four l p r m b₀ b₁ b₂ b₃ = pick (ℕ-discrete r 0) (ℕ-discrete r 1) (ℕ-discrete r 2)
+-- one of one-of-four bytes
+one-of-four : (l : List ℕ) (p r : ℕ) → r < 4 → getD l p 0 < 64 → getD l (p + 1) 0 < 64 → getD l (p + 2) 0 < 64 → getD l (p + 3) 0 < 64 → getD l (p + r) 0 < 64
+one-of-four l p r m b₀ b₁ b₂ b₃ = pick (ℕ-discrete r 0) (ℕ-discrete r 1) (ℕ-discrete r 2)
   where
     pick : Dec (r ≡ 0) → Dec (r ≡ 1) → Dec (r ≡ 2) → getD l (p + r) 0 < 64
     pick (yes e) _ _ = let q : p + r ≡ p = omega arith in rw q b₀
@@ -71,7 +71,7 @@ module _ {kind : ℕ} (x : Stored) (q : Question) (St : Stands kind x q) where
           let C = St .clauses σ (k / 4) (omega arith) in
           let B = bytes-small _ _ _ C (omega (arith, variables-le (x .free) (x .own) σ, St .variables)) (omega (arith, St .constantCounted)) in
           let e : sectionStart σ + k ≡ sectionStart σ + 4 * (k / 4) + k % 4 = omega arith in
-          rw e (four (x .clauses) (sectionStart σ + 4 * (k / 4)) (k % 4) (mod-lt k (omega arith)) (omega (arith, C .form)) (B .0) (B .1) (B .2))
+          rw e (one-of-four (x .clauses) (sectionStart σ + 4 * (k / 4)) (k % 4) (mod-lt k (omega arith)) (omega (arith, C .form)) (B .0) (B .1) (B .2))
 
   pub readable : Readable (x .clauses) (x .counts) (x .free) (x .own)
   readable = record {

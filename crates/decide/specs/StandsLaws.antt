@@ -16,7 +16,7 @@ use Rattle.leaves.specs.Fixed.{fixedAt, withUnmet, withMissed}
 use Rattle.leaves.specs.Second as leaf
 use Rattle.systems.specs.Clauses.{Atom}
 use Rattle.systems.specs.Questions.{Question}
-use Rattle.systems.specs.AtLeaves.{readAs, testAt, atomAt, allAt, bothAt, firstAt, secondAt}
+use Rattle.systems.specs.AtLeaves.{readAs, readingAt, atomAt, allAt, bothAt, firstAt, secondAt}
 use Rattle.words.specs.Clause.{termValue}
 use Rattle.words.specs.Choices.{allPass, clauseFails, allPassBut, someOwn}
 use Rattle.words.specs.TermLaws.{position-free, value-variable, value-free, value-own}
@@ -24,13 +24,13 @@ use Rattle.format.specs.Format.{inSection, variablesFor}
 use Rattle.format.specs.Stored.{sectionStart, fourAt, Stored, countOf, StoredClause, Stands}
 use Rattle.format.specs.SectionLaws.{variables-le}
 use Rattle.format.specs.KeepingLaws.{section-count}
-use Rattle.format.specs.Callers.{tests-at}
+use Rattle.format.specs.Callers.{readings-at}
 use Rattle.format.specs.declared.Section.{Section}
 use Rattle.format.specs.declared.Section.the-variants.{FirstPositive, FirstDisequation, SecondPositive, SecondDisequation}
 use Rattle.leaves.specs.Numbers.{numbered}
 use Rattle.leaves.specs.SameLaws.{solvable-same, fixed-same}
 use Rattle.steps.specs.Tests.{leafValues, firstMeets, firstDiffers, secondMeets, secondDiffers, specialIn, testsOf}
-use Rattle.decide.specs.StoredLaws.{row-digit, allTests, all-read, test-same, section-same}
+use Rattle.decide.specs.StoredLaws.{row-digit, allReadings, all-read, reading-same, section-same}
 use Rattle.steps.specs.declared.Search.the-variants.{First, Unmet, Missed}
 
 -- what is stored, with n free and m own variables
@@ -60,7 +60,7 @@ module _ {kind : ℕ} (x : Stored) (q : Question) (St : Stands kind x q) (h : �
     unfolding allPass
     all-same =
         all-read h (q .constants) b X (inSection q σ)
-        ∙ ap₂ (λ k l. allTests h k b X l) (St .constants) (sym (St .sections σ))
+        ∙ ap₂ (λ k l. allReadings h k b X l) (St .constants) (sym (St .sections σ))
         ∙ section-same S h b (St .constantCounted) (q .free) m few-m (variablesFor (q .free) (q .own) σ) few-named X z values (sectionStart σ) (countOf (x .counts) σ) (clause-at σ)
 
     one-same : (j : ℕ) (d : Atom) → j < countOf (x .counts) σ
@@ -69,10 +69,10 @@ module _ {kind : ℕ} (x : Stored) (q : Question) (St : Stands kind x q) (h : �
     unfolding clauseFails
     one-same j d l =
         ap not
-        (ap₂ (λ k t. testAt h k b X t) (St .constants)
+        (ap₂ (λ k t. readingAt h k b X t) (St .constants)
         (sym (List·getD-map readAs (inSection q σ) j d) ∙ ap (λ k. getD k j (readAs d)) (sym (St .sections σ))
-        ∙ tests-at (x .clauses) (sectionStart σ) (countOf (x .counts) σ) j (readAs d) l)
-        ∙ test-same S h b (St .constantCounted) (q .free) m few-m (variablesFor (q .free) (q .own) σ) few-named X z values (sectionStart σ + 4 * j) (clause-at σ j l))
+        ∙ readings-at (x .clauses) (sectionStart σ) (countOf (x .counts) σ) j (readAs d) l)
+        ∙ reading-same S h b (St .constantCounted) (q .free) m few-m (variablesFor (q .free) (q .own) σ) few-named X z values (sectionStart σ + 4 * j) (clause-at σ j l))
 
   module _ (b : ℕ) (v : Row Bool (q .free)) where
     free-values : (t : ℕ) → t < q .free → at false v t ≡ termValue (q .free) 0 (leafValues S h b) (value v) t

@@ -1,4 +1,4 @@
--- The stored clauses of a question have the tests of its atoms at the leaves. Assumes nothing.
+-- The tests of a question's stored clauses are the readings of its atoms at the leaves. Assumes nothing.
 use mathlib.Core.Path.{_≡_, refl, sym, ap, ap₂, _∙_}
 use mathlib.Core.Bool.{Bool, true, false, not, cond, _&&_, and-true, and-assoc}
 use mathlib.Core.List.{List, [], _∷_, _++_, map}
@@ -20,7 +20,7 @@ use Rattle.leaves.specs.Choices.{Row, nil, cons, at}
 use Rattle.leaves.specs.RowNumbers.{value}
 use Rattle.leaves.specs.ChoiceLaws.{value-lt}
 use Rattle.systems.specs.Clauses.{variable, constant, Atom, Constants}
-use Rattle.systems.specs.AtLeaves.{LeafTest, gives, apart, readAs, termAt, partAt, testAt, atomAt, allAt}
+use Rattle.systems.specs.AtLeaves.{LeafReading, joinsTo, apart, readAs, termAt, partAt, readingAt, atomAt, allAt}
 use Rattle.words.specs.Clause.{testValue, clauseTest, allClauses, termValue}
 use Rattle.words.specs.Choices.{valuesAt}
 use Rattle.shares.specs.BitParts.{bit-low, bit-high}
@@ -28,7 +28,7 @@ use Rattle.shares.specs.BelowLaws.{every-more}
 use Rattle.words.specs.TermLaws.{value-constant, value-none}
 use Rattle.format.specs.Format.{termOf, names}
 use Rattle.format.specs.declared.LeafJoin.{LeafJoin}
-use Rattle.format.specs.Stored.{partOf, testOf, fourAt, testsAt, Stored, partNamed, StoredClause}
+use Rattle.format.specs.Stored.{partOf, readingFrom, fourAt, readingsAt, Stored, partNamed, StoredClause}
 use Rattle.format.specs.KeepingLaws.{part-of, empty-part, full-part, part-cases}
 use Rattle.steps.specs.Tests.{leafValues}
 
@@ -47,22 +47,22 @@ row-digit (suc n) (cons b v) zero l =
 row-digit (suc n) (cons b v) (suc t) l =
     row-digit n v t (le-of-suc-le-suc l) ∙ sym (ap (bit (one b * 2 ^ n + value v)) (omega arith) ∙ bit-low n (one b) (value v) (value-lt n v) (n - 1 - t) (omega arith))
 
--- ---- tests in a list
+-- ---- readings in a list
 
--- all of some tests
-abbrev pub allTests : ℕ → Constants → ℕ → (ℕ → Bool) → List LeafTest → Bool
-allTests h cs b X [] = true
-allTests h cs b X (t ∷ l) = testAt h cs b X t && allTests h cs b X l
+-- all of some readings
+abbrev pub allReadings : ℕ → Constants → ℕ → (ℕ → Bool) → List LeafReading → Bool
+allReadings h cs b X [] = true
+allReadings h cs b X (t ∷ l) = readingAt h cs b X t && allReadings h cs b X l
 
 -- all of some atoms, as they read
-pub all-read : (h : ℕ) (cs : Constants) (b : ℕ) (X : ℕ → Bool) (l : List Atom) → allAt h cs b X l ≡ allTests h cs b X (map readAs l)
+pub all-read : (h : ℕ) (cs : Constants) (b : ℕ) (X : ℕ → Bool) (l : List Atom) → allAt h cs b X l ≡ allReadings h cs b X (map readAs l)
 unfolding allAt
 all-read h cs b X [] = refl
 all-read h cs b X (a ∷ l) = ap (λ y. atomAt h cs b X a && y) (all-read h cs b X l)
 
-all-append : (h : ℕ) (cs : Constants) (b : ℕ) (X : ℕ → Bool) (l : List LeafTest) (t : LeafTest) → allTests h cs b X (l ++ (t ∷ [])) ≡ (allTests h cs b X l && testAt h cs b X t)
-all-append h cs b X [] t = and-true (testAt h cs b X t)
-all-append h cs b X (x ∷ l) t = ap (λ y. testAt h cs b X x && y) (all-append h cs b X l t) ∙ sym (and-assoc (testAt h cs b X x) (allTests h cs b X l) (testAt h cs b X t))
+all-append : (h : ℕ) (cs : Constants) (b : ℕ) (X : ℕ → Bool) (l : List LeafReading) (t : LeafReading) → allReadings h cs b X (l ++ (t ∷ [])) ≡ (allReadings h cs b X l && readingAt h cs b X t)
+all-append h cs b X [] t = and-true (readingAt h cs b X t)
+all-append h cs b X (x ∷ l) t = ap (λ y. readingAt h cs b X x && y) (all-append h cs b X l t) ∙ sym (and-assoc (readingAt h cs b X x) (allReadings h cs b X l) (readingAt h cs b X t))
 
 -- ---- terms
 
@@ -103,11 +103,11 @@ module _ (S : Stored) (h b : ℕ) (few : S .defined ≤ 32) where
         go (inr (inl e)) = rw (e, full-part) (sym (value-none n m (leafValues S h b) z fullPart (omega arith) (lit< tt)))
         go (inr (inr u)) = rw (part-of k (S .defined) t few-named u) (term-same t u (omega arith))
 
-    -- a stored clause has the test that its bytes stand for
-    pub test-same : (at : ℕ) → StoredClause k (S .defined) (fourAt (S .clauses) at)
-        → testAt h (storedConstants S) b X (testOf (fourAt (S .clauses) at)) ≡ clauseTest (S .clauses) (termValue n m (leafValues S h b) z) at
-    unfolding testOf clauseTest testValue testAt
-    test-same at C = go (eqb (getD (S .clauses) at 0) 0)
+    -- the test of a stored clause is the reading that its bytes stand for
+    pub reading-same : (at : ℕ) → StoredClause k (S .defined) (fourAt (S .clauses) at)
+        → readingAt h (storedConstants S) b X (readingFrom (fourAt (S .clauses) at)) ≡ clauseTest (S .clauses) (termValue n m (leafValues S h b) z) at
+    unfolding readingFrom clauseTest testValue readingAt
+    reading-same at C = go (eqb (getD (S .clauses) at 0) 0)
       where
         j : LeafJoin
         j = fourAt (S .clauses) at
@@ -115,17 +115,17 @@ module _ (S : Stored) (h b : ℕ) (few : S .defined ≤ 32) where
         val : ℕ → Bool
         val = termValue n m (leafValues S h b) z
 
-        go : (v : Bool) → testAt h (storedConstants S) b X (cond v (gives (partOf (j .first)) (partOf (j .second)) (partOf (j .sum))) (apart (partOf (j .first)) (partOf (j .second))))
+        go : (v : Bool) → readingAt h (storedConstants S) b X (cond v (joinsTo (partOf (j .first)) (partOf (j .second)) (partOf (j .sum))) (apart (partOf (j .first)) (partOf (j .second))))
             ≡ cond v (joins (val (j .first)) (val (j .second)) (val (j .sum))) (not (val (j .first) && val (j .second)))
         go true = rw (part-same (j .first) (C .first), part-same (j .second) (C .second), part-same (j .sum) (C .sum)) refl
         go false = rw (part-same (j .first) (C .first), part-same (j .second) (C .second)) refl
 
     -- and so does a section
     pub section-same : (start count : ℕ) → ((i : ℕ) → i < count → StoredClause k (S .defined) (fourAt (S .clauses) (start + 4 * i)))
-        → allTests h (storedConstants S) b X (testsAt (S .clauses) start count) ≡ allClauses (S .clauses) (termValue n m (leafValues S h b) z) start count
-    unfolding testsAt allClauses everyBelow
+        → allReadings h (storedConstants S) b X (readingsAt (S .clauses) start count) ≡ allClauses (S .clauses) (termValue n m (leafValues S h b) z) start count
+    unfolding readingsAt allClauses everyBelow
     section-same start zero C = refl
     section-same start (suc count) C =
-        all-append h (storedConstants S) b X (testsAt (S .clauses) start count) (testOf (fourAt (S .clauses) (start + 4 * count)))
-        ∙ ap₂ _&&_ (section-same start count (λ i l. C i (omega arith))) (test-same (start + 4 * count) (C count (omega arith)))
+        all-append h (storedConstants S) b X (readingsAt (S .clauses) start count) (readingFrom (fourAt (S .clauses) (start + 4 * count)))
+        ∙ ap₂ _&&_ (section-same start count (λ i l. C i (omega arith))) (reading-same (start + 4 * count) (C count (omega arith)))
         ∙ sym (every-more count (λ i. clauseTest (S .clauses) (termValue n m (leafValues S h b) z) (start + 4 * i)))

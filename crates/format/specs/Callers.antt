@@ -8,13 +8,13 @@ use native.Mathlib.Omega.{arith}
 use lib.ListN.{getD, List·getD-append}
 use lib.Seq.{getD-at}
 use Rattle.systems.specs.Questions.{Kind, satisfiability, entailment, Question, WellFormed}
-use Rattle.systems.specs.AtLeaves.{LeafTest}
+use Rattle.systems.specs.AtLeaves.{LeafReading}
 use Rattle.format.specs.declared.LeafJoin.{LeafJoin}
 use Rattle.format.specs.declared.Reading.{Reading}
 use Rattle.format.specs.Format.{Result, refused, accepted, read}
-use Rattle.format.specs.Stored.{kindNumber, testOf, fourAt, testsAt, Stored, storedOf, StoredClause, Stands, readingOf}
+use Rattle.format.specs.Stored.{kindNumber, readingFrom, fourAt, readingsAt, Stored, storedOf, StoredClause, Stands, readingOf}
 use Rattle.format.specs.FormatLaws.{accepted-formed, refusal-number}
-use Rattle.format.specs.KeepingLaws.{tests-length, part-small}
+use Rattle.format.specs.KeepingLaws.{readings-length, part-small}
 
 -- ---- the answer
 
@@ -61,17 +61,17 @@ module _ {k : ℕ} (x : Stored) (q : Question) (d : Stands k x q) where
 
 -- ---- clauses in bytes
 
--- the test of clause number i of n that start at an offset
-pub tests-at : (l : List ℕ) (start n i : ℕ) (t : LeafTest) → i < n → getD (testsAt l start n) i t ≡ testOf (fourAt l (start + 4 * i))
-unfolding testsAt
-tests-at l start zero i t h = absurd (not-suc-le-zero h)
-tests-at l start (suc n) i t h = pick (eq-or-lt-of-le (le-of-suc-le-suc h)) (tests-at l start n i t)
+-- the reading of clause number i of n that start at an offset
+pub readings-at : (l : List ℕ) (start n i : ℕ) (t : LeafReading) → i < n → getD (readingsAt l start n) i t ≡ readingFrom (fourAt l (start + 4 * i))
+unfolding readingsAt
+readings-at l start zero i t h = absurd (not-suc-le-zero h)
+readings-at l start (suc n) i t h = pick (eq-or-lt-of-le (le-of-suc-le-suc h)) (readings-at l start n i t)
   where
-    pick : (i ≡ n) ⊎ (i < n) → (i < n → getD (testsAt l start n) i t ≡ testOf (fourAt l (start + 4 * i)))
-        → getD (testsAt l start n ++ (testOf (fourAt l (start + 4 * n)) ∷ [])) i t ≡ testOf (fourAt l (start + 4 * i))
+    pick : (i ≡ n) ⊎ (i < n) → (i < n → getD (readingsAt l start n) i t ≡ readingFrom (fourAt l (start + 4 * i)))
+        → getD (readingsAt l start n ++ (readingFrom (fourAt l (start + 4 * n)) ∷ [])) i t ≡ readingFrom (fourAt l (start + 4 * i))
     pick (inl e) ih =
-        getD-at (testsAt l start n) (testOf (fourAt l (start + 4 * n))) [] t i (tests-length l start n ∙ sym e) ∙ ap (λ j. testOf (fourAt l (start + 4 * j))) (sym e)
-    pick (inr k) ih = List·getD-append (testsAt l start n) (testOf (fourAt l (start + 4 * n)) ∷ []) t i (rw tests-length k) ∙ ih k
+        getD-at (readingsAt l start n) (readingFrom (fourAt l (start + 4 * n))) [] t i (readings-length l start n ∙ sym e) ∙ ap (λ j. readingFrom (fourAt l (start + 4 * j))) (sym e)
+    pick (inr k) ih = List·getD-append (readingsAt l start n) (readingFrom (fourAt l (start + 4 * n)) ∷ []) t i (rw readings-length k) ∙ ih k
 
 -- the bytes of a stored clause
 pub bytes-small : (n k : ℕ) (j : LeafJoin) → StoredClause n k j → n ≤ 32 → k ≤ 32 → (j .first < 64) × (j .second < 64) × (j .sum < 64)

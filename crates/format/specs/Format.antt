@@ -170,11 +170,11 @@ isForeign entailment σ = false
 
 -- a clause: of a second system that is not there (9), then one too many (7), then a term that names nothing defined (8)
 abbrev pub clauseFault : Bool → Bool → Bool → ℕ
-clauseFault foreign full named = cond foreign 9 (cond full 7 (cond named 0 8))
+clauseFault foreign spent named = cond foreign 9 (cond spent 7 (cond named 0 8))
 
 -- a constant: after a clause (4), then one too many (6)
 abbrev pub constantFault : Bool → Bool → ℕ
-constantFault begun full = cond begun 4 (cond full 6 0)
+constantFault begun spent = cond begun 4 (cond spent 6 0)
 
 -- a clause was read
 abbrev pub begun : Question → Bool

@@ -32,7 +32,7 @@ use Rattle.format.specs.declared.Step.{Step}
 use Rattle.format.specs.declared.Question.{Question as Struct}
 use Rattle.format.specs.declared.Step.the-variants.{Take, Refused}
 use Rattle.format.specs.Format.{mostVariables, mostConstants, constantBytes, termOf, entryOf, operands, commandOf, wholeAt, readAt, mostOf, inSection, names, variablesFor, atomOf, isForeign, constantFault, fault, judged, withClause, withConstant, taken}
-use Rattle.format.specs.Stored.{kindNumber, sectionNumber, partByte, joinFor, partOf, testOf, clauseBytes, sectionStart, fourAt, testsAt, Stored, stored, countOf, Counted, partNamed, StoredClause, StoredAt, Stands, heldAs, clauseWritten, commandWritten}
+use Rattle.format.specs.Stored.{kindNumber, sectionNumber, partByte, joinFor, partOf, readingFrom, clauseBytes, sectionStart, fourAt, readingsAt, Stored, stored, countOf, Counted, partNamed, StoredClause, StoredAt, Stands, heldAs, clauseWritten, commandWritten}
 use Rattle.format.specs.Keeping.{nextSlot, keptConstants, constantCount, keptClauses, clauseCounts, Slot, clauseTotal, foreignTo, faultOf, judgedOf}
 use Rattle.format.specs.SectionLaws.{both-counts, added, Apart, Alike, same, other, alike, constant-sections, clause-keeps, section-below, slot-fits, variables-le}
 use Rattle.format.specs.FormatLaws.{branch, ClauseFits, clause-fits, ConstantFits, constant-fits, EachNamed, each-named}
@@ -157,7 +157,7 @@ byte-back t = pick (ltb t 0x20) refl
     pick true e = refl
     pick false e = omega (arith, ltb-false t 0x20 e)
 
--- a term that names something defined is no part of its own kind, since there are at most 12 variables
+-- a term that names something defined is neither 0C nor 0D, since there are at most 12 variables
 pub part-of : (n k t : ℕ) → n ≤ mostVariables → T (names n k t) → partOf t ≡ of (termOf t)
 unfolding names partOf
 part-of n k t hn h = pick (ltb t 0x20) refl h
@@ -180,8 +180,8 @@ part-back : (n k t : ℕ) → n ≤ mostVariables → T (names n k t) → partOf
 part-back n k t hn h = ap partOf (byte-back t) ∙ part-of n k t hn h
 
 -- the bytes of a test whose terms are named stand for how its atom reads
-join-reads : (n k : ℕ) (t : Test) (a b c : ℕ) → n ≤ mostVariables → EachNamed n k t a b c → testOf (joinFor t a b c) ≡ readAs (atomOf t a b c)
-unfolding testOf
+join-reads : (n k : ℕ) (t : Test) (a b c : ℕ) → n ≤ mostVariables → EachNamed n k t a b c → readingFrom (joinFor t a b c) ≡ readAs (atomOf t a b c)
+unfolding readingFrom
 join-reads n k Join a b c hn e =
     rw (part-back n k a hn (e .first (lit< tt)), part-back n k b hn (e .second (lit< tt)), part-back n k c hn (e .third (lit< tt))) refl
 join-reads n k Equality a b c hn e = rw (part-back n k a hn (e .first (lit< tt)), part-back n k b hn (e .second (lit< tt)), empty-part) refl
@@ -199,16 +199,16 @@ four-agrees : (l l′ : List ℕ) (i : ℕ) → Agrees l l′ i (i + 4) → four
 four-agrees l l′ i h =
     rw (h i (omega arith) (omega arith), h (i + 1) (omega arith) (omega arith), h (i + 2) (omega arith) (omega arith), h (i + 3) (omega arith) (omega arith)) refl
 
-tests-agree : (l l′ : List ℕ) (start n : ℕ) → Agrees l l′ start (start + 4 * n) → testsAt l′ start n ≡ testsAt l start n
-unfolding testsAt
-tests-agree l l′ start zero h = refl
-tests-agree l l′ start (suc n) h =
-    ap₂ (λ k x. k ++ (testOf x ∷ [])) (tests-agree l l′ start n (λ j f t. h j f (omega arith))) (four-agrees l l′ (start + 4 * n) (λ j f t. h j (omega arith) (omega arith)))
+readings-agree : (l l′ : List ℕ) (start n : ℕ) → Agrees l l′ start (start + 4 * n) → readingsAt l′ start n ≡ readingsAt l start n
+unfolding readingsAt
+readings-agree l l′ start zero h = refl
+readings-agree l l′ start (suc n) h =
+    ap₂ (λ k x. k ++ (readingFrom x ∷ [])) (readings-agree l l′ start n (λ j f t. h j f (omega arith))) (four-agrees l l′ (start + 4 * n) (λ j f t. h j (omega arith) (omega arith)))
 
-pub tests-length : (l : List ℕ) (start n : ℕ) → length (testsAt l start n) ≡ n
-unfolding testsAt
-tests-length l start zero = refl
-tests-length l start (suc n) = simp length-append (omega (arith, tests-length l start n))
+pub readings-length : (l : List ℕ) (start n : ℕ) → length (readingsAt l start n) ≡ n
+unfolding readingsAt
+readings-length l start zero = refl
+readings-length l start (suc n) = simp length-append (omega (arith, readings-length l start n))
 
 -- ---- terms are small
 
@@ -292,7 +292,7 @@ module _ {kind : ℕ} (x : Stored) (q : Question) (d : Stands kind x q) where
 
   pub section-count : (σ : Section) → length (inSection q σ) ≡ countOf (x .counts) σ
   section-count σ =
-      sym (length-map (inSection q σ) readAs) ∙ ap length (sym (d .sections σ)) ∙ tests-length (x .clauses) (sectionStart σ) (countOf (x .counts) σ)
+      sym (length-map (inSection q σ) readAs) ∙ ap length (sym (d .sections σ)) ∙ readings-length (x .clauses) (sectionStart σ) (countOf (x .counts) σ)
 
   pub clause-count : clauseTotal (x .counts) ≡ length (q .first) + length (q .second)
   clause-count =
@@ -393,27 +393,27 @@ module _ {kind : ℕ} (x : Stored) (q : Question) (d : Stands kind x q) where
     unfolding clauses′
     its-bytes = four-back (x .clauses) (nextSlot (x .counts) σ) (joinFor t a b c) (omega (arith, clause-slot, d .sizes .1))
 
-    its-test : testOf (fourAt clauses′ (nextSlot (x .counts) σ)) ≡ readAs (atomOf t a b c)
-    its-test =
-        ap testOf its-bytes
+    its-reading : readingFrom (fourAt clauses′ (nextSlot (x .counts) σ)) ≡ readAs (atomOf t a b c)
+    its-reading =
+        ap readingFrom its-bytes
         ∙ join-reads (variablesFor (x .free) (x .own) σ) (x .defined) t a b c (omega (arith, variables-le (x .free) (x .own) σ, d .variables)) its-terms
 
-    sections′ : (τ : Section) → testsAt clauses′ (sectionStart τ) (countOf counts′ τ) ≡ map readAs (inSection (withClause q σ (atomOf t a b c)) τ)
-    unfolding testsAt
-    sections′ τ = pick (alike σ τ) before-it its-test count-more elsewhere count-other
+    sections′ : (τ : Section) → readingsAt clauses′ (sectionStart τ) (countOf counts′ τ) ≡ map readAs (inSection (withClause q σ (atomOf t a b c)) τ)
+    unfolding readingsAt
+    sections′ τ = pick (alike σ τ) before-it its-reading count-more elsewhere count-other
       where
         pick : {σ τ : Section} → Alike σ τ → Agrees (x .clauses) clauses′ (sectionStart σ) (nextSlot (x .counts) σ)
-            → testOf (fourAt clauses′ (nextSlot (x .counts) σ)) ≡ readAs (atomOf t a b c) → countOf counts′ σ ≡ countOf (x .counts) σ + 1
+            → readingFrom (fourAt clauses′ (nextSlot (x .counts) σ)) ≡ readAs (atomOf t a b c) → countOf counts′ σ ≡ countOf (x .counts) σ + 1
             → ((υ : Section) → Apart σ υ → Agrees (x .clauses) clauses′ (sectionStart υ) (nextSlot (x .counts) υ))
             → ((υ : Section) → Apart σ υ → countOf counts′ υ ≡ countOf (x .counts) υ)
-            → testsAt clauses′ (sectionStart τ) (countOf counts′ τ) ≡ map readAs (inSection (withClause q σ (atomOf t a b c)) τ)
+            → readingsAt clauses′ (sectionStart τ) (countOf counts′ τ) ≡ map readAs (inSection (withClause q σ (atomOf t a b c)) τ)
         pick (same {σ = υ}) h e n g m =
-            ap (testsAt clauses′ (sectionStart υ)) (n ∙ add-one (countOf (x .counts) υ))
-            ∙ ap₂ (λ k y. k ++ (y ∷ [])) (tests-agree (x .clauses) clauses′ (sectionStart υ) (countOf (x .counts) υ) h ∙ d .sections υ) e
+            ap (readingsAt clauses′ (sectionStart υ)) (n ∙ add-one (countOf (x .counts) υ))
+            ∙ ap₂ (λ k y. k ++ (y ∷ [])) (readings-agree (x .clauses) clauses′ (sectionStart υ) (countOf (x .counts) υ) h ∙ d .sections υ) e
             ∙ sym (ap (map readAs) (added q υ (atomOf t a b c)) ∙ map-append readAs (inSection q υ) (atomOf t a b c ∷ []))
         pick (other {τ = υ} o) h e n g m =
-            ap (testsAt clauses′ (sectionStart υ)) (m υ o)
-            ∙ tests-agree (x .clauses) clauses′ (sectionStart υ) (countOf (x .counts) υ) (g υ o)
+            ap (readingsAt clauses′ (sectionStart υ)) (m υ o)
+            ∙ readings-agree (x .clauses) clauses′ (sectionStart υ) (countOf (x .counts) υ) (g υ o)
             ∙ d .sections υ
             ∙ ap (map readAs) (sym (o .kept q (atomOf t a b c)))
 

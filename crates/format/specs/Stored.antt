@@ -10,7 +10,7 @@ use Rattle.shares.specs.Constant.{constantLevels}
 use Rattle.shares.specs.Parts.{emptyPart, fullPart}
 use Rattle.systems.specs.Clauses.{variable, constant}
 use Rattle.systems.specs.Questions.{Kind, satisfiability, entailment, Question as Asked}
-use Rattle.systems.specs.AtLeaves.{Part, of, always, LeafTest, gives, apart, readAs}
+use Rattle.systems.specs.AtLeaves.{Part, of, always, LeafReading, joinsTo, apart, readAs}
 use Rattle.format.specs.declared.Section.{Section}
 use Rattle.format.specs.declared.Section.the-variants.{FirstPositive, FirstDisequation, SecondPositive, SecondDisequation}
 use Rattle.format.specs.declared.Test.{Test}
@@ -49,12 +49,12 @@ partByte (of (constant i)) = 0x20 + i
 partByte (always false) = emptyPart
 partByte (always true) = fullPart
 
--- a test in four bytes
-abbrev pub fourOf : LeafTest → LeafJoin
-fourOf (gives p q r) = four 0 (partByte p) (partByte q) (partByte r)
+-- a reading in four bytes; that of form 1 has 0C for a sum, which is not read
+abbrev pub fourOf : LeafReading → LeafJoin
+fourOf (joinsTo p q r) = four 0 (partByte p) (partByte q) (partByte r)
 fourOf (apart p q) = four 1 (partByte p) (partByte q) emptyPart
 
--- a test with the bytes of its terms, as what it says reads
+-- the reading of a test with the bytes of its terms
 abbrev pub joinFor : Test → ℕ → ℕ → ℕ → LeafJoin
 joinFor t a b c = fourOf (readAs (atomOf t a b c))
 
@@ -62,9 +62,9 @@ joinFor t a b c = fourOf (readAs (atomOf t a b c))
 unfoldable pub partOf : ℕ → Part
 partOf t = cond (eqb t emptyPart) (always false) (cond (eqb t fullPart) (always true) (of (termOf t)))
 
--- the test at a leaf that four bytes stand for
-unfoldable pub testOf : LeafJoin → LeafTest
-testOf j = cond (eqb (j .form) 0) (gives (partOf (j .first)) (partOf (j .second)) (partOf (j .sum))) (apart (partOf (j .first)) (partOf (j .second)))
+-- the reading that four bytes stand for
+unfoldable pub readingFrom : LeafJoin → LeafReading
+readingFrom j = cond (eqb (j .form) 0) (joinsTo (partOf (j .first)) (partOf (j .second)) (partOf (j .sum))) (apart (partOf (j .first)) (partOf (j .second)))
 
 -- ---- the clauses' bytes, section after section
 
@@ -82,10 +82,10 @@ sectionStart SecondDisequation = 640
 abbrev pub fourAt : List ℕ → ℕ → LeafJoin
 fourAt l i = four (getD l i 0) (getD l (i + 1) 0) (getD l (i + 2) 0) (getD l (i + 3) 0)
 
--- the tests of the n clauses that start at an offset, in order
-unfoldable pub testsAt : List ℕ → ℕ → ℕ → List LeafTest
-testsAt l start zero = []
-testsAt l start (suc n) = testsAt l start n ++ (testOf (fourAt l (start + 4 * n)) ∷ [])
+-- the readings of the n clauses that start at an offset, in order
+unfoldable pub readingsAt : List ℕ → ℕ → ℕ → List LeafReading
+readingsAt l start zero = []
+readingsAt l start (suc n) = readingsAt l start n ++ (readingFrom (fourAt l (start + 4 * n)) ∷ [])
 
 -- ---- what is stored of a question
 
@@ -135,7 +135,7 @@ pub record Stands (k : ℕ) (x : Stored) (q : Asked) : Type 0 where
   pub free : x .free ≡ q .free
   pub own : x .own ≡ q .own
   pub constants : q .constants ≡ record { levels = constantLevels; numbers = take (x .defined) (x .constants) }
-  pub sections : (σ : Section) → testsAt (x .clauses) (sectionStart σ) (countOf (x .counts) σ) ≡ map readAs (inSection q σ)
+  pub sections : (σ : Section) → readingsAt (x .clauses) (sectionStart σ) (countOf (x .counts) σ) ≡ map readAs (inSection q σ)
   pub variables : x .free + x .own ≤ mostVariables
   pub counted : Counted (x .counts)
   pub constantCounted : x .defined ≤ mostConstants

@@ -20,7 +20,7 @@ use Rattle.format.specs.declared.Step.{Step}
 use Rattle.format.specs.declared.Step.the-variants.{Take, Refused}
 use Rattle.format.specs.declared.Reading.{Reading}
 use Rattle.format.specs.Format.{Result, refused, accepted, readAt, fault, judged, taken, ended, go, stop, onward, turn, following, run, headFits, kindFrom, mostOf, inSection, opened, headOf, read}
-use Rattle.format.specs.Stored.{kindNumber, clauseBytes, sectionStart, testsAt, Stored, stored, storedOf, countOf, Stands, readingOf, writtenOnward, writtenBy, clausesAfter}
+use Rattle.format.specs.Stored.{kindNumber, clauseBytes, sectionStart, readingsAt, Stored, stored, storedOf, countOf, Stands, readingOf, writtenOnward, writtenBy, clausesAfter}
 use Rattle.format.specs.Keeping.{keptConstants, constantCount, keptClauses, clauseCounts, judgedOf, refusalOf, isEnd, wrongOf}
 use Rattle.format.specs.FormatLaws.{judged-take, size-some, Whole, read-whole, branch, Sound, Stay, Kept, turn-kept, head-fits, opened-sound, HeadRight, head-right}
 use Rattle.format.specs.KeepingLaws.{Bytes, ProperStep, read-proper, judged-same, kept, ZerosPast, zeros-kept, written-same, stands-taken, held-as}
@@ -50,7 +50,7 @@ kind-number kind h =
 
 stands-opened : (kind n m : ℕ) (clauses : List ℕ) → length clauses ≡ clauseBytes → headFits kind n m ≡ true
     → Stands kind (opening n m clauses) (opened kind n m)
-unfolding opened testsAt positives disequations
+unfolding opened readingsAt positives disequations
 stands-opened kind n m clauses lc e =
     let h = head-fits kind n m e in
     record {
@@ -76,7 +76,7 @@ stands-opened kind n m clauses lc e =
     counted : (σ : Section) → countOf (replicate 4 0) σ ≤ mostOf σ
     counted σ = omega (arith, empty σ)
 
-    none : (σ : Section) → testsAt clauses (sectionStart σ) (countOf (replicate 4 0) σ) ≡ map readAs (inSection (opened kind n m) σ)
+    none : (σ : Section) → readingsAt clauses (sectionStart σ) (countOf (replicate 4 0) σ) ≡ map readAs (inSection (opened kind n m) σ)
     none FirstPositive = refl
     none FirstDisequation = refl
     none SecondPositive = refl

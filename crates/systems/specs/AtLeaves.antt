@@ -19,17 +19,17 @@ pub data Part : Type 0 where
   of : Term → Part
   always : Bool → Part
 
--- the test of a join: "the first part join the second is the third"; or that the two do not overlap, whatever they give
-pub data LeafTest : Type 0 where
-  gives : Part → Part → Part → LeafTest
-  apart : Part → Part → LeafTest
+-- a reading: "the first part join the second is the third"; or that the two do not overlap, whatever they give
+pub data LeafReading : Type 0 where
+  joinsTo : Part → Part → Part → LeafReading
+  apart : Part → Part → LeafReading
 
 -- how each atom reads
-abbrev pub readAs : Atom → LeafTest
-readAs (joined a b c) = gives (of a) (of b) (of c)
-readAs (equal a b) = gives (of a) (always false) (of b)
-readAs (isFull a) = gives (of a) (always false) (always true)
-readAs (isEmpty a) = gives (of a) (always false) (always false)
+abbrev pub readAs : Atom → LeafReading
+readAs (joined a b c) = joinsTo (of a) (of b) (of c)
+readAs (equal a b) = joinsTo (of a) (always false) (of b)
+readAs (isFull a) = joinsTo (of a) (always false) (always true)
+readAs (isEmpty a) = joinsTo (of a) (always false) (always false)
 readAs (together a b) = apart (of a) (of b)
 
 -- ---- at one leaf
@@ -44,14 +44,14 @@ unfoldable pub partAt : ℕ → Constants → ℕ → (ℕ → Bool) → Part �
 partAt h cs b x (of t) = termAt h cs b x t
 partAt h cs b x (always v) = v
 
--- a test there
-unfoldable pub testAt : ℕ → Constants → ℕ → (ℕ → Bool) → LeafTest → Bool
-testAt h cs b x (gives u v w) = joins (partAt h cs b x u) (partAt h cs b x v) (partAt h cs b x w)
-testAt h cs b x (apart u v) = not (partAt h cs b x u && partAt h cs b x v)
+-- whether a reading holds there
+unfoldable pub readingAt : ℕ → Constants → ℕ → (ℕ → Bool) → LeafReading → Bool
+readingAt h cs b x (joinsTo u v w) = joins (partAt h cs b x u) (partAt h cs b x v) (partAt h cs b x w)
+readingAt h cs b x (apart u v) = not (partAt h cs b x u && partAt h cs b x v)
 
 -- an atom there
 abbrev pub atomAt : ℕ → Constants → ℕ → (ℕ → Bool) → Atom → Bool
-atomAt h cs b x a = testAt h cs b x (readAs a)
+atomAt h cs b x a = readingAt h cs b x (readAs a)
 
 -- all of some atoms
 unfoldable pub allAt : ℕ → Constants → ℕ → (ℕ → Bool) → List Atom → Bool

@@ -1,5 +1,5 @@
--- Terms and atoms at the leaves of trees: an atom holds exactly if it does as it reads, and that exactly if its test passes at every leaf,
--- for every height from h up. Assumes nothing.
+-- Terms and atoms at the leaves of trees: an atom holds exactly if its reading does, and that exactly if it does at every leaf, for every
+-- height from h up. Assumes nothing.
 use mathlib.Core.Path.{_≡_, refl, sym, ap, _∙_}
 use mathlib.Core.Bool.{Bool, true, false, not}
 use mathlib.Core.List.{List, [], _∷_, map}
@@ -23,7 +23,7 @@ use Rattle.systems.specs.Clauses.{Term, variable, constant, Atom, joined
 use Rattle.systems.specs.Questions.{satisfiability, Question, Defined, InAtom, InSystem}
 use Rattle.systems.specs.Bounds.{Within}
 use Rattle.systems.specs.SystemLaws.{InAtoms, in-positives, in-disequation}
-use Rattle.systems.specs.AtLeaves.{Part, of, always, LeafTest, gives, apart, readAs, termAt, partAt, testAt, atomAt, allAt, firstAt}
+use Rattle.systems.specs.AtLeaves.{Part, of, always, LeafReading, joinsTo, apart, readAs, termAt, partAt, readingAt, atomAt, allAt, firstAt}
 
 -- ---- an example, computed: full join full is undefined, so its negation holds
 
@@ -38,7 +38,7 @@ fullTwice = record {
 }
 
 full-twice-denied : firstAt 0 fullTwice .dis 0 0 nil ≡ true
-unfolding disequations termAt partAt testAt joins joinLeaf bit
+unfolding disequations termAt partAt readingAt joins joinLeaf bit
 full-twice-denied = refl
 
 -- ---- another: at one leaf, of a full and of an empty share, what each of the atoms without a third term reads as
@@ -54,32 +54,32 @@ read-at-a-leaf : (map (λ a. passesThere (isFull (constant a))) (0 ∷ 1 ∷ [])
     × (map (λ a. passesThere (equal (constant 0) (constant a))) (0 ∷ 1 ∷ []) ≡ true ∷ false ∷ [])
     × (map (λ a. passesThere (together (constant 0) (constant a))) (0 ∷ 1 ∷ []) ≡ false ∷ true ∷ [])
     × (map (λ a. passesThere (together (constant 1) (constant a))) (0 ∷ 1 ∷ []) ≡ true ∷ true ∷ [])
-unfolding termAt partAt testAt joins joinLeaf bit
+unfolding termAt partAt readingAt joins joinLeaf bit
 read-at-a-leaf = (refl, refl, refl, refl, refl)
 
--- ---- what a test says of trees
+-- ---- what a reading says of trees
 
 -- the tree of a part
 abbrev partTree : Constants → Assignment → Part → Tree
 partTree cs ρ (of t) = valueOf cs ρ t
 partTree cs ρ (always b) = leaf b
 
--- a test holds of trees
-abbrev TestHolds : Constants → Assignment → LeafTest → Type 0
-TestHolds cs ρ (gives u v w) = join (partTree cs ρ u) (partTree cs ρ v) ≡ some (partTree cs ρ w)
-TestHolds cs ρ (apart u v) = (t : Tree) × (join (partTree cs ρ u) (partTree cs ρ v) ≡ some t)
+-- a reading holds of trees
+abbrev ReadingHolds : Constants → Assignment → LeafReading → Type 0
+ReadingHolds cs ρ (joinsTo u v w) = join (partTree cs ρ u) (partTree cs ρ v) ≡ some (partTree cs ρ w)
+ReadingHolds cs ρ (apart u v) = (t : Tree) × (join (partTree cs ρ u) (partTree cs ρ v) ≡ some t)
 
--- P holds of a part's term, if it is one, and of every term of a test
+-- P holds of a part's term, if it is one, and of every term of a reading
 abbrev InPart : (Term → Type 0) → Part → Type 0
 InPart P (of t) = P t
 InPart P (always b) = Unit {0}
 
-abbrev InTest : (Term → Type 0) → LeafTest → Type 0
-InTest P (gives u v w) = InPart P u × InPart P v × InPart P w
-InTest P (apart u v) = InPart P u × InPart P v
+abbrev InReading : (Term → Type 0) → LeafReading → Type 0
+InReading P (joinsTo u v w) = InPart P u × InPart P v × InPart P w
+InReading P (apart u v) = InPart P u × InPart P v
 
 -- an atom reads no other terms than its own
-in-reading : (P : Term → Type 0) (a : Atom) → InAtom P a → InTest P (readAs a)
+in-reading : (P : Term → Type 0) (a : Atom) → InAtom P a → InReading P (readAs a)
 in-reading P (joined u v w) g = g
 in-reading P (equal u v) g = (g .0, tt, g .1)
 in-reading P (isFull u) g = (g, tt, tt)
@@ -123,7 +123,7 @@ module _ (n h : ℕ) (cs : Constants) (hw : h ≤ cs .levels) (k : ℕ) (hk : h 
       constant-at (cs .levels) h (getD (cs .numbers) m 0) (blockOf h k i) hw (g .1) (block-lt hk l)
       ∙ sym (blocks h k (constantTree cs m) i (g .1) hk)
 
-  -- ---- parts and tests
+  -- ---- parts and readings
 
   part-folded : (p : Part) → Folded (partTree cs ρ p)
   part-folded (of t) = term-folded t
@@ -139,33 +139,33 @@ module _ (n h : ℕ) (cs : Constants) (hw : h ≤ cs .levels) (k : ℕ) (hk : h 
   part-at (of t) g i l = term-at t g i l
   part-at (always b) g i l = sym (leafAt-leaf k b i)
 
-  -- a test passes at every leaf exactly if it holds of the trees
-  test-iff : (t : LeafTest) → InTest (Good n h cs) t → TestHolds cs ρ t ↔ ((i : ℕ) → i < 2 ^ k → T (testAt h cs (blockOf h k i) (x i) t))
-  unfolding testAt
-  test-iff (gives u v w) g =
+  -- a reading holds of trees exactly if it does at every leaf
+  reading-iff : (t : LeafReading) → InReading (Good n h cs) t → ReadingHolds cs ρ t ↔ ((i : ℕ) → i < 2 ^ k → T (readingAt h cs (blockOf h k i) (x i) t))
+  unfolding readingAt
+  reading-iff (joinsTo u v w) g =
       let J = join-iff k (partTree cs ρ u) (partTree cs ρ v) (partTree cs ρ w) (part-folded w) (part-low u (g .0)) (part-low v (g .1)) (part-low w (g .2)) in (
         λ e i l. rw (part-at u (g .0) i l, part-at v (g .1) i l, part-at w (g .2) i l) (J .0 e i l),
         λ f. J .1 (λ i l. rw (← (part-at u (g .0) i l), ← (part-at v (g .1) i l), ← (part-at w (g .2) i l)) (f i l)),
       )
-  test-iff (apart u v) g =
+  reading-iff (apart u v) g =
       let J = join-defined-iff k (partTree cs ρ u) (partTree cs ρ v) (part-low u (g .0)) (part-low v (g .1)) in (
         λ e i l. rw (part-at u (g .0) i l, part-at v (g .1) i l) (J .0 e i l),
         λ f. J .1 (λ i l. rw (← (part-at u (g .0) i l), ← (part-at v (g .1) i l)) (f i l)),
       )
 
-  -- an atom holds of the trees exactly if it does as it reads
-  reads-iff : (a : Atom) → Holds cs ρ a ↔ TestHolds cs ρ (readAs a)
+  -- an atom holds of trees exactly if its reading does
+  reads-iff : (a : Atom) → Holds cs ρ a ↔ ReadingHolds cs ρ (readAs a)
   reads-iff (joined u v w) = (λ e. e, λ e. e)
   reads-iff (equal u v) = swap (join-empty-iff (valueOf cs ρ u) (valueOf cs ρ v) (term-folded u) (term-folded v))
   reads-iff (isFull u) = swap (join-empty-iff (valueOf cs ρ u) (leaf true) (term-folded u) tt)
   reads-iff (isEmpty u) = swap (join-empty-iff (valueOf cs ρ u) (leaf false) (term-folded u) tt)
   reads-iff (together u v) = (λ e. e, λ e. e)
 
-  -- an atom holds exactly if its test passes at every leaf
+  -- an atom holds exactly if its reading does at every leaf
   atom-iff : (a : Atom) → InAtom (Good n h cs) a → Holds cs ρ a ↔ ((i : ℕ) → i < 2 ^ k → T (atomAt h cs (blockOf h k i) (x i) a))
   atom-iff a g =
       let R = reads-iff a in
-      let S = test-iff (readAs a) (in-reading (Good n h cs) a g) in
+      let S = reading-iff (readAs a) (in-reading (Good n h cs) a g) in
       (λ e. S .0 (R .0 e), λ f. R .1 (S .1 f))
 
   all-iff : (l : List Atom) → InAtoms (Good n h cs) l → AllHold cs ρ l ↔ ((i : ℕ) → i < 2 ^ k → T (allAt h cs (blockOf h k i) (x i) l))

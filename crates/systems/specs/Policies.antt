@@ -13,8 +13,8 @@ abbrev pub mayRead : Term → Clause
 mayRead a = negated (isEmpty a)
 
 -- "a and b may be held together": their join is defined
-abbrev pub mayBeHeld : Term → Term → Clause
-mayBeHeld a b = positive (together a b)
+abbrev pub mayBeHeldTogether : Term → Term → Clause
+mayBeHeldTogether a b = positive (together a b)
 
 -- a clause stands in a system
 abbrev pub Among : Clause → System → Type 0
@@ -25,4 +25,4 @@ Among c (d ∷ s) = (d ≡ c) ⊎ Among c s
 pub record WriterAndReader (a b : Term) (s : System) : Type 0 where
   pub writes : Among (mayWrite a) s
   pub reads : Among (mayRead b) s
-  pub held : Among (mayBeHeld a b) s ⊎ Among (mayBeHeld b a) s
+  pub held : Among (mayBeHeldTogether a b) s ⊎ Among (mayBeHeldTogether b a) s

@@ -7,7 +7,7 @@ use Rattle.shares.specs.Constant.{constantLevels}
 use Rattle.leaves.specs.Heights.{anyHeight, exactly}
 use Rattle.systems.specs.Clauses.{Term, variable, constant, joined, equal, Clause, positive, negated, System, Constants}
 use Rattle.systems.specs.Questions.{satisfiability, entailment, Question, WellFormed, questionHeight}
-use Rattle.systems.specs.Policies.{mayWrite, mayRead, mayBeHeld}
+use Rattle.systems.specs.Policies.{mayWrite, mayRead, mayBeHeldTogether}
 use Rattle.systems.specs.Solutions.{Solution}
 use Rattle.systems.specs.Answers.{Answer, satisfied, unsatisfied, vacuous, entailed, unmet, missed, Answers, heightGiven}
 
@@ -45,10 +45,6 @@ halves = record { levels = constantLevels; numbers = 0x00000000 ∷ 0xFFFFFFFF �
 abbrev wholes : Constants
 wholes = record { levels = constantLevels; numbers = 0x00000000 ∷ 0xFFFFFFFF ∷ [] }
 
--- none
-abbrev none : Constants
-none = record { levels = constantLevels; numbers = [] }
-
 -- the four as terms
 abbrev empty : Term
 empty = constant 0
@@ -61,6 +57,10 @@ L = constant 2
 
 abbrev R : Term
 R = constant 3
+
+-- no constant
+abbrev noConstants : Constants
+noConstants = record { levels = constantLevels; numbers = [] }
 
 -- variable number i
 abbrev v : ℕ → Term
@@ -128,13 +128,13 @@ worked =
     -- v0 is L entails v0 not empty: yes
     ∷ example (entails 1 0 halves (is (v 0) L ∷ []) (isNot (v 0) empty ∷ [])) entailed 0
     -- v0 may write, v1 may read, and the two may be held together: no
-    ∷ example (asks 2 none (mayWrite (v 0) ∷ mayRead (v 1) ∷ mayBeHeld (v 0) (v 1) ∷ [])) unsatisfied 0
+    ∷ example (asks 2 noConstants (mayWrite (v 0) ∷ mayRead (v 1) ∷ mayBeHeldTogether (v 0) (v 1) ∷ [])) unsatisfied 0
     -- v0 and v1 may read, and may be held together: yes, height 1 given; no solution has height 0
-    ∷ exampleNever (asks 2 none (mayRead (v 0) ∷ mayRead (v 1) ∷ mayBeHeld (v 0) (v 1) ∷ [])) satisfied 1 (0 ∷ [])
+    ∷ exampleNever (asks 2 noConstants (mayRead (v 0) ∷ mayRead (v 1) ∷ mayBeHeldTogether (v 0) (v 1) ∷ [])) satisfied 1 (0 ∷ [])
     -- v0 may read entails v0 may write: no, reason 2
-    ∷ example (entails 1 0 none (mayRead (v 0) ∷ []) (mayWrite (v 0) ∷ [])) unmet 1
+    ∷ example (entails 1 0 noConstants (mayRead (v 0) ∷ []) (mayWrite (v 0) ∷ [])) unmet 1
     -- v0 may write entails v0 may read: yes
-    ∷ example (entails 1 0 none (mayWrite (v 0) ∷ []) (mayRead (v 0) ∷ [])) entailed 0
+    ∷ example (entails 1 0 noConstants (mayWrite (v 0) ∷ []) (mayRead (v 0) ∷ [])) entailed 0
     -- v0 may write entails own v1 may read, held together with v0: no, reason 3 with 0, height 0
-    ∷ example (entails 1 1 none (mayWrite (v 0) ∷ []) (mayRead (v 1) ∷ mayBeHeld (v 0) (v 1) ∷ [])) (missed 0) 0
+    ∷ example (entails 1 1 noConstants (mayWrite (v 0) ∷ []) (mayRead (v 1) ∷ mayBeHeldTogether (v 0) (v 1) ∷ [])) (missed 0) 0
     ∷ []

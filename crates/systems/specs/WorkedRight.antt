@@ -20,7 +20,7 @@ use Rattle.systems.specs.Clauses.{positives, disequations}
 use Rattle.systems.specs.Questions.{Question, WellFormed, tallestConstant, questionHeight}
 use Rattle.systems.specs.Solutions.{Solution}
 use Rattle.systems.specs.Answers.{heightGiven}
-use Rattle.systems.specs.AtLeaves.{termAt, partAt, testAt, allAt, bothAt, firstAt}
+use Rattle.systems.specs.AtLeaves.{termAt, partAt, readingAt, allAt, bothAt, firstAt}
 use Rattle.systems.specs.Decide.{decideKind, decide}
 use Rattle.systems.specs.Link.{read-most}
 use Rattle.systems.specs.Exact.{to-leaves}
@@ -74,7 +74,7 @@ _also_ a b = (a, b)
 
 -- a line for each
 computed : AllComputed worked
-unfolding decideKind tallestConstant treeOf fold twins height bit joins joinLeaf positives disequations termAt partAt testAt allAt bothAt solvable plainAt specialAt someChoice everyBelow someBelow firstBelow pickRow at c meets meetsWith canBeUnmet canBeMissed firstMissed solvesTest solvableAt
+unfolding decideKind tallestConstant treeOf fold twins height bit joins joinLeaf positives disequations termAt partAt readingAt allAt bothAt solvable plainAt specialAt someChoice everyBelow someBelow firstBelow pickRow at c meets meetsWith canBeUnmet canBeMissed firstMissed solvesTest solvableAt
 computed =
     (refl, refl, refl, refl)
     also (refl, refl, refl, refl)

@@ -1,4 +1,5 @@
--- Clauses as bytes, and their tests at one leaf under a choice of Boolean values. Assumes nothing.
+-- Clauses as bytes, and their tests at one leaf under a choice of Boolean values. A term is here also one of the two numbers that are no term's
+-- (Parts). Assumes nothing.
 use mathlib.Core.Bool.{Bool, cond, not, _&&_}
 use mathlib.Core.List.{List}
 use Prim.Native.Nat.{ℕ, _+_, _-_, _*_, _<_, _≤_}
