@@ -179,18 +179,18 @@ module _ (s : List ℕ) (kind : ℕ) (x : Stored) (q₀ : Question) (l₀ : List
       end-leaves : (f : Command → ℕ → List ℕ) → writtenOnward f (x .clauses) r ≡ x .clauses
       end-leaves f = ap (writtenOnward f (x .clauses)) end-step
 
-      pub accepted-turn : next ≡ length s
-          → Gives s q₀ l₀ (record {
+      pub accepted-turn : (out : Reading) → next ≡ length s
+          → out ≡ record {
             refusal = 0;
             place = 0;
             question = record { kind = kind; free = x .free; own = x .own; constants = x .constants; defined = x .defined; counts = x .counts };
-          }) (x .clauses)
+          } → Gives s q₀ l₀ out (x .clauses)
       unfolding ended
-      accepted-turn l =
+      accepted-turn out l o =
           let a : ended s next (g .q) ≡ accepted (g .q) = simp (eq-eqb next (length s) l) in
           let z = stops (accepted (g .q)) (end-is ∙ ap stop a) in (
-            rw z (ap (λ y. record { refusal = 0; place = 0; question = y }) (held-as x (g .q) (g .stands) (g .zeros))),
-            (left end-leaves, λ q b. let y : accepted (g .q) ≡ accepted q = sym z ∙ b in let w : g .q ≡ q = cc in rw (← w) (g .stands)),
+            rw z (o ∙ ap (λ y. record { refusal = 0; place = 0; question = y }) (held-as x (g .q) (g .stands) (g .zeros))),
+            (left end-leaves, λ q b. let y : accepted (g .q) ≡ accepted q = sym z ∙ b in let w : g .q ≡ q = cc in rw (o, ← w) (g .stands)),
           )
 
       pub after-end : (out : Reading) → (next ≡ length s → ⊥) → out ≡ readingOf (refused 10 next) → Gives s q₀ l₀ out (x .clauses)

@@ -35,6 +35,16 @@ fn refused(refusal: u8, place: usize) -> Reading
     }
 }
 
+fn accepted(question: Question) -> Reading
+    ensures { λ r. ⌜ r ≡ record { refusal = 0; place = 0; question = question } ⌝ }
+{
+    Reading {
+        refusal: 0,
+        place: 0,
+        question,
+    }
+}
+
 fn is_end(command: Command) -> bool
     ensures { λ r. ⌜ r ≡ isEnd command ⌝ }
 {
@@ -80,11 +90,7 @@ fn read_commands(bytes: &[u8], kind: u8, free: usize, own: usize, clauses: &mut 
                     defined,
                     counts,
                 };
-                return Reading {
-                    refusal: 0,
-                    place: 0,
-                    question,
-                };
+                return accepted(question);
             }
             return refused(10, next);
         }

@@ -57,14 +57,17 @@ returns c =
 is-end-requires : tie.Need-is-end-requires Inv-loop μ-loop
 is-end-requires c κs = search needs
 
+accepted-requires : tie.Need-accepted-requires Inv-loop μ-loop
+accepted-requires c κs = search needs
+
 same-length-2 : tie.Need-same-length-2 Inv-loop μ-loop
 same-length-2 c = search needs
 
 returns-2 : tie.Need-returns-2 Inv-loop μ-loop
 returns-2 c =
-    let t = c .before .before .before in
+    let t = c .before .before .before .before in
     let turn = t .before .before .before in
-    accepted-turn _ _ _ _ _ _ (turn .before .before .loop .inv) _ (turn .read-command .ensures) _ _ (t .before .r .given .1) (sym (c .before .before .is-end .ensures) ∙ c .before .if1 .taken) (c .if2 .taken)
+    accepted-turn _ _ _ _ _ _ (turn .before .before .loop .inv) _ (turn .read-command .ensures) _ _ (t .before .r .given .1) (sym (c .before .before .before .is-end .ensures) ∙ c .before .before .if1 .taken) _ (c .before .if2 .taken) (c .accepted .ensures)
 
 refused-requires-2 : tie.Need-refused-requires-2 Inv-loop μ-loop
 refused-requires-2 c κs = search needs
@@ -129,6 +132,7 @@ read-commands-spec =
     same-length
     returns
     is-end-requires
+    accepted-requires
     same-length-2
     returns-2
     refused-requires-2
