@@ -212,6 +212,9 @@ FAULTS = [
     (CLAUSE + "not a not with b", f"3:7: {TWICE} 'a with b'"),
     (CLAUSE + "not a with not b", f"3:7: {TWICE} 'a with b'"),
     (CLAUSE + "a not with not b", f"3:3: {TWICE} 'a with b'"),
+    # Three, which are as one.
+    (CLAUSE + "not a not may not read", "3:7: 'may read' has no negation of its own: write 'a is o'"),
+    (CLAUSE + "not a not with not b", f"3:7: {NOT_WITH}"),
     # A join stands before 'is'.
     (CLAUSE + "c is a join b", "3:8: a join stands before 'is': write 'a join b is c'"),
     (CLAUSE + "c is not  a join b", "3:13: a join stands before 'is': write 'not a join b is c'"),
