@@ -15,6 +15,7 @@ NOT_INSIDE = ("a negated clause has one join, 'not a join b is c': give the join
               "'not t join c is d', which also asks that a join b is defined")
 NOT_WITH = ("that shares may not be held together cannot be said as one clause: give their common part a variable of its own, as in "
             "'p join q is a', 'p join r is b' and 'p may read'")
+TWICE = "two negations: write '{}'"
 
 # What stands behind 'may': the clause, and how to write that it does not hold.
 RIGHTS = {"write": (MAY_WRITE, "is not *"), "read": (MAY_READ, "is o")}
@@ -55,10 +56,30 @@ def turned(line):
     return shown(" ".join(["not"] * negated + parts + ["is"] + whole))
 
 
+def verb(line):
+    """The word behind the next shares and the joins between them; where that is 'not', the word after it."""
+    ahead = 1
+    while line.peek(ahead) == "join":
+        ahead += 2
+    return line.peek(ahead + (line.peek(ahead) == "not"))
+
+
+def beside(line):
+    """How many negations stand beside the verb, which is the next word that is none."""
+    before = line.peek() == "not"
+    return before + (line.peek(before + 1) == "not")
+
+
 def denial(line, right, joined):
     """How to write that a share has not that right. The share stands before the next word, or it is a join."""
     share, first = ("t", "give the join a variable of its own, as in 'a join b is t', and ") if joined else (shown(line.peek(-1)), "")
-    return f"{first}write '{share} {RIGHTS[right][1]}'"
+    return f"'may {right}' has no negation of its own: {first}write '{share} {RIGHTS[right][1]}'"
+
+
+def granted(line, right):
+    """How to write that what stands before the next word has that right, where it was denied twice."""
+    side = [word for word in str(line).split(" ")[:line.at] if word != "not"]
+    return TWICE.format(f"{shown(' '.join(side))} may {right}")
 
 
 class TextReader:
@@ -144,10 +165,11 @@ class TextReader:
         """A clause. The word behind its first shares says of which sort it is."""
         with line.here():
             negated = line.skip("not")
-            left = self.read_join(line, negated)
-            if line.peek() == "may":
+            word = verb(line)
+            left = self.read_join(line, 2 if negated and word not in ("may", "with") else None)
+            if word == "may":
                 self.read_may(line, negated, left)
-            elif line.peek() == "with":
+            elif word == "with":
                 self.read_with(line, negated, left)
             elif len(left) == 1:
                 self.read_equality(line, negated, left)
@@ -156,10 +178,10 @@ class TextReader:
 
     def read_may(self, line, negated, side):
         """The rest of 'a may write' or 'a may read'. Where its negation was meant, the message says how to write it."""
-        denied = line.peek(1) == "not"
-        right = line.peek(2 if denied else 1)
-        if (negated or denied) and right in RIGHTS:
-            raise line.fault(f"'may {right}' has no negation of its own: {denial(line, right, len(side) > 1)}")
+        negations = negated + beside(line)
+        right = line.peek(1 + beside(line))
+        if negations and right in RIGHTS:
+            raise line.fault(granted(line, right) if negations == 2 else denial(line, right, len(side) > 1))
         line.expect("may")
         if right not in RIGHTS:
             raise line.due("'write' or 'read'")
@@ -168,11 +190,12 @@ class TextReader:
         self.add_sides(line, RIGHTS[right][0], side)
 
     def read_with(self, line, negated, left):
-        """The rest of 'a with b'."""
-        if negated:
-            raise line.fault(NOT_WITH)
+        """The rest of 'a with b'. Where its negation was meant, the message says how to write it."""
+        negations = negated + beside(line)
+        if negations:
+            raise line.fault(TWICE.format("a with b") if negations == 2 else NOT_WITH)
         line.expect("with")
-        right = self.read_join(line, negated)
+        right = self.read_join(line)
         if line.peek() == "with":
             raise line.fault("'with' stands once in a clause: of three shares that are held together write 'a join b with c'")
         line.finish()
@@ -183,7 +206,7 @@ class TextReader:
         self.expect_is(line, negated)
         if line.peek() == "not":
             raise line.fault("the negation of a join is written 'not a join b is c'" if len(left) == 2 else NOT_INSIDE)
-        right = self.read_join(line, negated, 1)
+        right = self.read_join(line, 1 if negated else None)
         line.finish()
         if negated:
             self.add(line, NO_JOIN, left + right)
@@ -206,11 +229,11 @@ class TextReader:
         if not line.skip("is"):
             raise line.due("'is'" if negated else "'join', 'is', 'may' or 'with'", ": write 'is' for it" if line.peek() == "=" else "")
 
-    def read_join(self, line, negated, most=2):
+    def read_join(self, line, most=None):
         """Takes shares with 'join' between them; of a negated clause not more than so many."""
         terms = [self.read_share(line)]
         while line.peek() == "join":
-            if negated and len(terms) == most:
+            if len(terms) == most:
                 raise line.fault(NOT_INSIDE)
             line.take("'join'")
             terms.append(self.read_share(line))

@@ -74,6 +74,7 @@ NOT_INSIDE = "a negated clause has one join, 'not a join b is c': give the join 
 NOT_WITH = "that shares may not be held together cannot be said as one clause: give their common part a variable of its own, as in " \
     "'p join q is a', 'p join r is b' and 'p may read'"
 OF_A_JOIN = "give the join a variable of its own, as in 'a join b is t', and write"
+TWICE = "two negations: write"
 VERBS = "'join', 'is', 'may' or 'with'"
 CLAUSE = "satisfiable\nfree a b c\n"
 
@@ -161,6 +162,8 @@ FAULTS = [
     (CLAUSE + "a join b is not c join a", "3:13: the negation of a join is written 'not a join b is c'"),
     (CLAUSE + "not a join b join c is a", "3:14: " + NOT_INSIDE),
     (CLAUSE + "not a join b is c join a", "3:19: " + NOT_INSIDE),
+    (CLAUSE + "not a join b join", "3:14: " + NOT_INSIDE),
+    ("satisfiable\nfree may with\nnot may join with join may is with", "3:19: " + NOT_INSIDE),
     (CLAUSE + "not c is a join b", "3:7: the negation of an equality is written 'a is not b'"),
     (CLAUSE + "not", "3:4: a name or a tree is due here, and the line ends"),
     (CLAUSE + "not a b", "3:7: 'join' is due here, not 'b'"),
@@ -173,23 +176,45 @@ FAULTS = [
     (CLAUSE + "a may write b", "3:13: the end of the line is due here, not 'b'"),
     (CLAUSE + "a may read is b", "3:12: the end of the line is due here, not 'is'"),
     (CLAUSE + "a join b is c may write", "3:15: the end of the line is due here, not 'may'"),
+    (CLAUSE + "a not may fly", "3:3: 'may' is due here, not 'not'"),
+    (CLAUSE + "a not is b", f"3:3: {VERBS} is due here, not 'not'"),
     (CLAUSE + "may write", "3:1: nothing is named 'may': " + UNKNOWN.format("may")),
     (CLAUSE + "a with", "3:7: a name or a tree is due here, and the line ends"),
-    (CLAUSE + "a with not b", "3:8: a name or a tree is due here, not 'not'"),
     (CLAUSE + "a with d", "3:8: nothing is named 'd': " + UNKNOWN.format("d")),
     (CLAUSE + "a with b is c", "3:10: the end of the line is due here, not 'is'"),
+    (CLAUSE + "a with b not", "3:10: the end of the line is due here, not 'not'"),
     (CLAUSE + "a with b join c with a", "3:17: 'with' stands once in a clause: of three shares that are held together write 'a join b with c'"),
     (CLAUSE + "a with (oo)", "3:8: a pair of two equal leaves must be folded: write 'o' for '(oo)'"),
     (CLAUSE + "a may not write", "3:3: 'may write' has no negation of its own: write 'a is not *'"),
     (CLAUSE + "not  a may write", "3:8: 'may write' has no negation of its own: write 'a is not *'"),
     (CLAUSE + "(*o) may not read", "3:6: 'may read' has no negation of its own: write '(*o) is o'"),
     (CLAUSE + "not c may read", "3:7: 'may read' has no negation of its own: write 'c is o'"),
-    (CLAUSE + "not a may not read", "3:7: 'may read' has no negation of its own: write 'a is o'"),
+    (CLAUSE + "a not may write", "3:3: 'may write' has no negation of its own: write 'a is not *'"),
     (CLAUSE + "a join b may not write", f"3:10: 'may write' has no negation of its own: {OF_A_JOIN} 't is not *'"),
     (CLAUSE + "not a join b may read", f"3:14: 'may read' has no negation of its own: {OF_A_JOIN} 't is o'"),
-    (CLAUSE + "not a join b join c may read", "3:14: " + NOT_INSIDE),
+    (CLAUSE + "not a join b join c may read", f"3:21: 'may read' has no negation of its own: {OF_A_JOIN} 't is o'"),
+    (CLAUSE + "not a join b join c join a may write", f"3:28: 'may write' has no negation of its own: {OF_A_JOIN} 't is not *'"),
+    (CLAUSE + "not a join b join d may read", "3:19: nothing is named 'd': " + UNKNOWN.format("d")),
     (CLAUSE + "not a with b", f"3:7: {NOT_WITH}"),
     (CLAUSE + "not a join b with c", f"3:14: {NOT_WITH}"),
+    (CLAUSE + "not a join b join c with a", f"3:21: {NOT_WITH}"),
+    (CLAUSE + "a not with b", f"3:3: {NOT_WITH}"),
+    (CLAUSE + "a join b join c not with a", f"3:17: {NOT_WITH}"),
+    (CLAUSE + "a with not b", f"3:3: {NOT_WITH}"),
+    (CLAUSE + "a join b with not b join c", f"3:10: {NOT_WITH}"),
+    # Two negations.
+    (CLAUSE + "not a may not write", f"3:7: {TWICE} 'a may write'"),
+    (CLAUSE + "not (*o)  may not read b", f"3:11: {TWICE} '(*o) may read'"),
+    (CLAUSE + "not a join  b may not write", f"3:15: {TWICE} 'a join b may write'"),
+    (CLAUSE + "not a join b join c may not read", f"3:21: {TWICE} 'a join b join c may read'"),
+    (CLAUSE + "not a not may read", f"3:7: {TWICE} 'a may read'"),
+    (CLAUSE + "a not may not write", f"3:3: {TWICE} 'a may write'"),
+    (CLAUSE + "not a not with b", f"3:7: {TWICE} 'a with b'"),
+    (CLAUSE + "not a with not b", f"3:7: {TWICE} 'a with b'"),
+    (CLAUSE + "a not with not b", f"3:3: {TWICE} 'a with b'"),
+    # Three, which are as one.
+    (CLAUSE + "not a not may not read", "3:7: 'may read' has no negation of its own: write 'a is o'"),
+    (CLAUSE + "not a not with not b", f"3:7: {NOT_WITH}"),
     # A join stands before 'is'.
     (CLAUSE + "c is a join b", "3:8: a join stands before 'is': write 'a join b is c'"),
     (CLAUSE + "c is not  a join b", "3:13: a join stands before 'is': write 'not a join b is c'"),

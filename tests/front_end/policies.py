@@ -66,14 +66,22 @@ def test_older_words():
     check("every answer was seen", seen, due)
 
 
+# A clause, and a line that says it does not hold, in words that are refused; two negations say that it holds.
+DENIED = [("a may write", "a may not write"), ("a may write", "a not may write"), ("a may read", "not a may read"), ("a with b", "not a with b"),
+          ("a with b", "a not with b"), ("a with b", "a with not b"), ("a join b may write", "a join b may not write"), ("a join b may read", "not a join b may read")]
+DENIED_TWICE = [("a may write", "not a may not write"), ("a may read", "not a may not read"), ("a join b may write", "not a join b may not write"),
+                ("a join b may read", "not a join b may not read"), ("a with b", "not a not with b"), ("a with b", "not a with not b")]
+
+
 def test_denied():
-    """Where a negation was meant, the clauses that the message names hold exactly where the clause does not. Joins are to be defined."""
-    for clause, denied in [("a may write", "a may not write"), ("a may read", "not a may read"), ("a with b", "not a with b"),
-                           ("a join b may write", "a join b may not write"), ("a join b may read", "not a join b may read")]:
+    """Where a negation was meant, the clauses that the message names hold exactly where the clause does not, and with two negations exactly
+    where it does. Joins are to be defined."""
+    for clause, denied in DENIED + DENIED_TWICE:
         errors = command("ask", "-", given=f"satisfiable\nfree a b\n{denied}".encode())[2]
-        clauses = re.findall(r"'(.*?)'", errors.split("of its own", 1)[1])
+        clauses = re.findall(r"'(.*?)'", re.split("of its own|two negations", errors, maxsplit=1)[1])
         for a, b in itertools.product(TREES, repeat=2):
             head = ["satisfiable", "free p q r t", f"let a = {a}", f"let b = {b}"]
             if "join" not in clause or asked(*head, "a with b") != "answer no":
                 said = [asked(*head, *lines)[:10].strip() for lines in ([clause], clauses)]
-                check(f"{clause} and {clauses}, {a} and {b}", sorted(said), ["answer no", "answer yes"])
+                found = set(said) <= {"answer yes", "answer no"}, said[0] == said[1]
+                check(f"{denied} and {clauses}, {a} and {b}: {said}", found, (True, (clause, denied) in DENIED_TWICE))
