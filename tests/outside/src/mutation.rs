@@ -57,7 +57,7 @@ struct Run {
     random: Random,
     corpus: Vec<Vec<u8>>,
     seen: HashSet<Combination>,
-    /// The commands of questions that grew and were accepted.
+    /// The commands of questions that grew, were asked and were not refused.
     accepted: HashSet<u8>,
     round: usize,
     failures: usize,
@@ -81,7 +81,8 @@ impl Run {
         };
         for bytes in &corpus {
             if run.failures < MOST_FAILURES {
-                run.is_new(report, bytes);
+                let number = run.asked(report, bytes);
+                run.seen.extend(number.map(combination));
             }
         }
         run.corpus = corpus;
@@ -91,28 +92,34 @@ impl Run {
     fn one_round(&mut self, report: &mut Report) {
         self.round += 1;
         let bytes = mutated(&mut self.random, &self.corpus);
-        if read(&bytes).is_ok() {
+        if too_dear(&mut self.random, &bytes) {
+            return;
+        }
+        let Some(combination) = self.asked(report, &bytes).map(combination) else {
+            return;
+        };
+        if combination[0] != 0 {
             let parts = commands(&bytes).into_iter();
             self.accepted.extend(parts.map(|part| bytes[part.start]));
         }
-        if !too_dear(&mut self.random, &bytes) && self.is_new(report, &bytes) {
+        if self.seen.insert(combination) {
             self.corpus.push(bytes);
         }
     }
 
-    /// Asks, and says whether the combination is a new one.
-    fn is_new(&mut self, report: &mut Report, bytes: &[u8]) -> bool {
+    /// The number that asking gives, if nothing is wrong.
+    fn asked(&mut self, report: &mut Report, bytes: &[u8]) -> Option<u64> {
         let lengths = lengths(&mut self.random);
         match given(&mut self.random, bytes, lengths) {
             Ok(number) => {
                 report.case(Ok(()));
-                self.seen.insert(combination(number))
+                Some(number)
             }
             Err(fault) => {
                 let here = (self.seed, self.round);
                 report.case(Err(told(bytes, lengths, here, &fault)));
                 self.failures += 1;
-                false
+                None
             }
         }
     }
