@@ -27,7 +27,10 @@ pub struct Family {
 
 pub fn all() -> Vec<Family> {
     let mut families = vec![
-        by_hand("worked questions of SPEC 12", worked::WORKED),
+        by_hand(
+            "worked questions of SPEC 12, without policies",
+            worked::WORKED,
+        ),
         by_hand(
             "figure 1 of Le, Nguyen, Chin, Hobor, as entailments",
             worked::FIGURE_1,

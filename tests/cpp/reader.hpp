@@ -42,15 +42,16 @@ inline bool operator==(const Question& a, const Question& b) {
            a.clauses == b.clauses;
 }
 
-// A clause of the format: its commands in the first and in the second system, what it says, and how many terms it has.
-struct Form {
+// A row of the table of clauses: the commands in the first and in the second system, what it says, and how many terms it
+// has.
+struct Row {
     std::uint8_t commands[2];
     bool negated;
     Said said;
     std::uint8_t terms;
 };
 
-inline constexpr Form forms[] = {
+inline constexpr Row rows[] = {
     {{0x10, 0x20}, false, Said::join, 3},      // a join b is c
     {{0x11, 0x21}, true, Said::join, 3},       // not (a join b is c)
     {{0x12, 0x22}, false, Said::equal, 2},     // a is b
@@ -69,10 +70,10 @@ struct Reading {
 
 namespace parts {
 
-// The form of a clause with that command, in either system; none if it is not the command of a clause.
-inline const Form* form_of(unsigned command) {
-    for (const Form& form : forms)
-        if (form.commands[0] == command || form.commands[1] == command) return &form;
+// The row of the table with that command, in either system; none if it is not the command of a clause.
+inline const Row* row_of(unsigned command) {
+    for (const Row& row : rows)
+        if (row.commands[0] == command || row.commands[1] == command) return &row;
     return nullptr;
 }
 
@@ -84,8 +85,8 @@ inline int operands(unsigned command) {
         case 0x03: return 4;
         default: break;
     }
-    const Form* const form = form_of(command);
-    return form != nullptr ? form->terms : -1;
+    const Row* const row = row_of(command);
+    return row != nullptr ? row->terms : -1;
 }
 
 // Whether a term may stand in a clause of that system; if so, what it means.
@@ -123,13 +124,13 @@ inline unsigned constant(const std::uint8_t* operand, Question& question) {
 }
 
 inline unsigned clause(unsigned command, const std::uint8_t* operand, Question& question) {
-    const Form& form = *form_of(command);
-    Clause made{command == form.commands[1], form.negated, form.said, {}};
+    const Row& row = *row_of(command);
+    Clause made{command == row.commands[1], row.negated, row.said, {}};
     if (made.second && !question.entailment) return 9;
     unsigned alike = 0;
     for (const Clause& other : question.clauses) alike += other.second == made.second && other.negated == made.negated;
     if (alike == (made.negated ? 31u : 64u)) return 7;
-    for (int i = 0; i < form.terms; ++i) {
+    for (int i = 0; i < row.terms; ++i) {
         Term term{};
         if (!means(question, made.second, operand[i], term)) return 8;
         made.terms.push_back(term);

@@ -122,10 +122,10 @@ class Maker {
         unsigned left[2][2] = {{64, 31}, {64, 31}};
         while (data_ < end_) {
             const unsigned second = below(kind + 1), named = second == 1 ? free + own : free;
-            const reader::Form& form = reader::forms[below(std::size(reader::forms))];
-            if (named + constants == 0 || left[second][form.negated]-- == 0) break;
-            bytes.push_back(form.commands[second]);
-            for (int i = 0; i < form.terms; ++i) {
+            const reader::Row& row = reader::rows[below(std::size(reader::rows))];
+            if (named + constants == 0 || left[second][row.negated]-- == 0) break;
+            bytes.push_back(row.commands[second]);
+            for (int i = 0; i < row.terms; ++i) {
                 const unsigned term = below(named + constants);
                 bytes.push_back(byte(term < named ? term : 0x20 + term - named));
             }

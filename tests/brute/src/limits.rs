@@ -49,7 +49,7 @@ const AT_THE_EDGE: &[(&str, u8, usize, Clauses, &str, u64)] = &[
     ),
     ("64 that may write", 0, 0, &[(0x30, 64)], "00", YES),
     (
-        "31 disequations of each sort",
+        "31 disequations, of every sort",
         0,
         0,
         &[(0x11, 1), (0x13, 1), (0x31, 29)],

@@ -129,6 +129,7 @@ fn heights_without_a_solution(report: &mut Report) {
     for (text, heights) in [
         (worked::THREE_NOT_EMPTY, &[false, true, true][..]),
         (worked::FIVE_NOT_EMPTY, &[false, false, true][..]),
+        (worked::TWO_READERS, &[false, true, true][..]),
     ] {
         let question = read(&worked::bytes(text)).expect("a worked question");
         for (height, expected) in heights.iter().enumerate() {

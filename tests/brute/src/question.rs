@@ -75,16 +75,15 @@ impl Relation {
     }
 
     /// How the format says this, or its negation, if it does.
-    fn form(self, negated: bool) -> Option<&'static Form> {
+    fn row(self, negated: bool) -> Option<&'static Row> {
         let sort = discriminant(&self);
-        FORMS
-            .iter()
-            .find(|form| discriminant(&form.relation) == sort && form.negated == negated)
+        ROWS.iter()
+            .find(|row| discriminant(&row.relation) == sort && row.negated == negated)
     }
 
     /// Whether there is a clause that says this, or its negation.
     pub fn fits(self, negated: bool) -> bool {
-        self.form(negated).is_some()
+        self.row(negated).is_some()
     }
 }
 
@@ -102,8 +101,8 @@ impl Clause {
     }
 }
 
-/// How the format says a relation, or its negation.
-pub struct Form {
+/// A row of the table of clauses: how the format says a relation, or its negation.
+pub struct Row {
     /// The command in the first system, and in the second.
     pub commands: [u8; 2],
     /// The relation; its terms mean nothing here.
@@ -111,8 +110,8 @@ pub struct Form {
     pub negated: bool,
 }
 
-const fn form(commands: [u8; 2], relation: Relation, negated: bool) -> Form {
-    Form {
+const fn row(commands: [u8; 2], relation: Relation, negated: bool) -> Row {
+    Row {
         commands,
         relation,
         negated,
@@ -122,14 +121,14 @@ const fn form(commands: [u8; 2], relation: Relation, negated: bool) -> Form {
 const ANY: Term = Term::Variable(0);
 
 /// All clauses that the format has.
-pub const FORMS: &[Form] = &[
-    form([0x10, 0x20], Relation::Join(ANY, ANY, ANY), false),
-    form([0x11, 0x21], Relation::Join(ANY, ANY, ANY), true),
-    form([0x12, 0x22], Relation::Equal(ANY, ANY), false),
-    form([0x13, 0x23], Relation::Equal(ANY, ANY), true),
-    form([0x30, 0x38], Relation::Full(ANY), false),
-    form([0x31, 0x39], Relation::Empty(ANY), true),
-    form([0x32, 0x3A], Relation::Together(ANY, ANY), false),
+pub const ROWS: &[Row] = &[
+    row([0x10, 0x20], Relation::Join(ANY, ANY, ANY), false),
+    row([0x11, 0x21], Relation::Join(ANY, ANY, ANY), true),
+    row([0x12, 0x22], Relation::Equal(ANY, ANY), false),
+    row([0x13, 0x23], Relation::Equal(ANY, ANY), true),
+    row([0x30, 0x38], Relation::Full(ANY), false),
+    row([0x31, 0x39], Relation::Empty(ANY), true),
+    row([0x32, 0x3A], Relation::Together(ANY, ANY), false),
 ];
 
 /// A system's positive clauses and its disequations, each in order.
@@ -184,15 +183,15 @@ pub fn operand_count(command: u8) -> Option<usize> {
         0x00 => Some(0),
         0x01 => Some(3),
         0x03 => Some(4),
-        _ => form_of(command).map(|(form, _)| form.relation.terms().len()),
+        _ => row_of(command).map(|(row, _)| row.relation.terms().len()),
     }
 }
 
-/// The form of a clause's command, and whether it is of the second system.
-fn form_of(command: u8) -> Option<(&'static Form, bool)> {
-    FORMS.iter().find_map(|form| {
-        let system = form.commands.iter().position(|byte| *byte == command)?;
-        Some((form, system == 1))
+/// The row of the table with a clause's command, and whether it is of the second system.
+fn row_of(command: u8) -> Option<(&'static Row, bool)> {
+    ROWS.iter().find_map(|row| {
+        let system = row.commands.iter().position(|byte| *byte == command)?;
+        Some((row, system == 1))
     })
 }
 
@@ -251,8 +250,8 @@ fn read_command(question: &mut Question, command: u8, operands: &[u8]) -> Result
         0x01 => Err(4),
         0x03 => read_constant(question, operands),
         _ => {
-            let (form, second) = form_of(command).expect("a known command");
-            read_clause(question, form, second, operands)
+            let (row, second) = row_of(command).expect("a known command");
+            read_clause(question, row, second, operands)
         }
     }
 }
@@ -270,11 +269,11 @@ fn read_constant(question: &mut Question, leaves: &[u8]) -> Result<(), u8> {
 
 fn read_clause(
     question: &mut Question,
-    form: &Form,
+    row: &Row,
     second: bool,
     operands: &[u8],
 ) -> Result<(), u8> {
-    let negated = form.negated;
+    let negated = row.negated;
     if second && !question.entailment {
         return Err(9);
     }
@@ -297,7 +296,7 @@ fn read_clause(
         terms.push(read_term(question, second, operand).ok_or(8)?);
     }
     let mut terms = terms.into_iter();
-    let relation = form
+    let relation = row
         .relation
         .with(|_| terms.next().expect("an operand for each"));
     let clause = Clause { relation, negated };
@@ -331,9 +330,9 @@ pub fn term_byte(term: Term) -> u8 {
 }
 
 pub fn clause_bytes(clause: &Clause, second: bool) -> Vec<u8> {
-    let form = clause.relation.form(clause.negated);
-    let form = form.expect("a clause of the format");
-    let mut bytes = vec![form.commands[usize::from(second)]];
+    let row = clause.relation.row(clause.negated);
+    let row = row.expect("a clause of the format");
+    let mut bytes = vec![row.commands[usize::from(second)]];
     bytes.extend(clause.terms().into_iter().map(term_byte));
     bytes
 }

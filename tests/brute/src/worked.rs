@@ -81,6 +81,7 @@ pub const THREE_NOT_EMPTY: &str =
 pub const FIVE_NOT_EMPTY: &str =
     "01 00 05 00 | E | 10 00 01 02 | 10 02 03 04 | 13 00 20 | 13 01 20 \
                                   | 13 02 20 | 13 03 20 | 13 04 20 | 00";
+pub const TWO_READERS: &str = "01 00 02 00 | 31 00 | 31 01 | 32 00 01 | 00";
 
 /// The questions of SPEC 12 without permission policies. A name starts with the question's number there.
 pub const WORKED: &[Worked] = &[
@@ -433,7 +434,7 @@ pub const POLICIES: &[Worked] = &[
     // not empty" and carries o*.
     yes(
         "12.18: two readers held together",
-        "01 00 02 00 | 31 00 | 31 01 | 32 00 01 | 00",
+        TWO_READERS,
         1,
         &["(*o)", "(o*)"],
     ),

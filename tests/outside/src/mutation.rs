@@ -9,7 +9,7 @@ use crate::shrink::shrunk;
 use brute::due::decided;
 use brute::judge::ANSWER_BYTES;
 use brute::library::ASK_WORK_BYTES;
-use brute::question::{hex, read, FORMS};
+use brute::question::{hex, read, ROWS};
 use brute::random::Random;
 use brute::report::{Family, Report};
 use std::collections::HashSet;
@@ -57,7 +57,7 @@ struct Run {
     random: Random,
     corpus: Vec<Vec<u8>>,
     seen: HashSet<Combination>,
-    /// The commands of questions that grew and were accepted.
+    /// The commands of questions that grew, were asked and were not refused.
     accepted: HashSet<u8>,
     round: usize,
     failures: usize,
@@ -81,7 +81,8 @@ impl Run {
         };
         for bytes in &corpus {
             if run.failures < MOST_FAILURES {
-                run.is_new(report, bytes);
+                let number = run.asked(report, bytes);
+                run.seen.extend(number.map(combination));
             }
         }
         run.corpus = corpus;
@@ -91,28 +92,34 @@ impl Run {
     fn one_round(&mut self, report: &mut Report) {
         self.round += 1;
         let bytes = mutated(&mut self.random, &self.corpus);
-        if read(&bytes).is_ok() {
+        if too_dear(&mut self.random, &bytes) {
+            return;
+        }
+        let Some(combination) = self.asked(report, &bytes).map(combination) else {
+            return;
+        };
+        if combination[0] != 0 {
             let parts = commands(&bytes).into_iter();
             self.accepted.extend(parts.map(|part| bytes[part.start]));
         }
-        if !too_dear(&mut self.random, &bytes) && self.is_new(report, &bytes) {
+        if self.seen.insert(combination) {
             self.corpus.push(bytes);
         }
     }
 
-    /// Asks, and says whether the combination is a new one.
-    fn is_new(&mut self, report: &mut Report, bytes: &[u8]) -> bool {
+    /// The number that asking gives, if nothing is wrong.
+    fn asked(&mut self, report: &mut Report, bytes: &[u8]) -> Option<u64> {
         let lengths = lengths(&mut self.random);
         match given(&mut self.random, bytes, lengths) {
             Ok(number) => {
                 report.case(Ok(()));
-                self.seen.insert(combination(number))
+                Some(number)
             }
             Err(fault) => {
                 let here = (self.seed, self.round);
                 report.case(Err(told(bytes, lengths, here, &fault)));
                 self.failures += 1;
-                false
+                None
             }
         }
     }
@@ -138,7 +145,7 @@ fn enough_seen(report: &mut Report, seen: &HashSet<Combination>) {
 
 /// Each command of a clause stood in a question that was accepted.
 fn clauses_seen(report: &mut Report, accepted: &HashSet<u8>) {
-    for command in FORMS.iter().flat_map(|form| form.commands) {
+    for command in ROWS.iter().flat_map(|row| row.commands) {
         let there = accepted.contains(&command);
         report.same_apart("a command was seen", (command, there), (command, true));
     }
@@ -260,8 +267,8 @@ fn mutate_commands(random: &mut Random, bytes: &mut Vec<u8>, other: &[u8]) {
         }
         6 => {
             // Another command of a clause takes the operands.
-            let form = &FORMS[random.below(FORMS.len())];
-            bytes[start] = random.pick(&form.commands);
+            let row = &ROWS[random.below(ROWS.len())];
+            bytes[start] = random.pick(&row.commands);
         }
         _ => {
             // An operand takes a value that often means something.

@@ -127,11 +127,11 @@ fn buffers() -> Buffers {
     }
 }
 
-/// Some of the largest questions, every second one with permission policies.
+/// Some of the largest questions, with each change, by turns four without permission policies and four with them.
 fn large(random: &mut Random, count: usize) -> Vec<Vec<u8>> {
     let mut questions = Vec::new();
     for round in 0..count {
-        let question = largest(random, round + 4, CHANGES[round % 4], round % 2 == 1);
+        let question = largest(random, round + 4, CHANGES[round % 4], round / 4 % 2 == 1);
         questions.push(write(&question, || random.once_in(2)));
     }
     questions
