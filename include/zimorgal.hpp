@@ -193,8 +193,8 @@ struct FirstClause : Clause {};
 
 namespace detail {
 
-// A row of the table of clauses: how a relation is written and counted.
-struct Row {
+// A sort of clause: how a relation is written and counted.
+struct ClauseSort {
     std::uint8_t command[2];  // its byte, by system
     std::uint8_t terms;       // how many
     bool disequation;
@@ -202,7 +202,7 @@ struct Row {
 };
 
 // By relation, in the order of their values.
-inline constexpr Row rows[] = {
+inline constexpr ClauseSort sorts[] = {
     {{0x10, 0x20}, 3, false, {"", " join ", " is ", ""}},     // join
     {{0x11, 0x21}, 3, true, {"not ", " join ", " is ", ""}},  // not_join
     {{0x12, 0x22}, 2, false, {"", " is ", ""}},               // equal
@@ -397,21 +397,21 @@ class Question {
     [[nodiscard]] Error add(System system, const Clause& clause) noexcept {
         if (system > System::second) return Error::unknown_system;
         const auto relation = static_cast<std::size_t>(clause.relation);
-        if (relation >= std::size(detail::rows)) return Error::unknown_relation;
+        if (relation >= std::size(detail::sorts)) return Error::unknown_relation;
         const bool second = system == System::second;
         if (second && kind() == Kind::satisfiability) return Error::no_second_system;
 
-        const detail::Row& row = detail::rows[relation];
-        std::uint8_t& count = clauses_[second][row.disequation];
-        if (row.disequation && count == most_disequations) return Error::too_many_disequations;
-        if (!row.disequation && count == most_positives) return Error::too_many_positives;
+        const detail::ClauseSort& sort = detail::sorts[relation];
+        std::uint8_t& count = clauses_[second][sort.disequation];
+        if (sort.disequation && count == most_disequations) return Error::too_many_disequations;
+        if (!sort.disequation && count == most_positives) return Error::too_many_positives;
 
-        for (std::size_t i = 0; i < row.terms; ++i)
+        for (std::size_t i = 0; i < sort.terms; ++i)
             if (const Error error = judge(system, clause.terms[i]); error != Error::none) return error;
 
         std::size_t at = size_ - 1;  // over the end
-        bytes_[at++] = row.command[second];
-        for (std::size_t i = 0; i < row.terms; ++i) bytes_[at++] = byte_of(clause.terms[i]);
+        bytes_[at++] = sort.command[second];
+        for (std::size_t i = 0; i < sort.terms; ++i) bytes_[at++] = byte_of(clause.terms[i]);
         bytes_[at++] = 0x00;
         size_ = at;
         ++count;
@@ -718,25 +718,25 @@ class QuestionText : public detail::FixedText<most_question_text> {
             put_name('c', term - std::size_t{0x20});
     }
 
-    // The row of the table with this command, in either system. Every command of a clause has one.
-    static const detail::Row& row_of(std::uint8_t command) noexcept {
-        return *std::find_if(std::begin(detail::rows), std::end(detail::rows), [&](const detail::Row& row) {
-            return row.command[0] == command || row.command[1] == command;
+    // The sort of clause with this command, in either system. Every command of a clause has one.
+    static const detail::ClauseSort& sort_of(std::uint8_t command) noexcept {
+        return *std::find_if(std::begin(detail::sorts), std::end(detail::sorts), [&](const detail::ClauseSort& sort) {
+            return sort.command[0] == command || sort.command[1] == command;
         });
     }
 
     // Writes the clause that starts there, after a line that changes the system if it must. Gives the next one's start.
     const std::uint8_t* put_clause(const std::uint8_t* at, bool& second) noexcept {
         const std::uint8_t command = *at++;
-        const detail::Row& row = row_of(command);
-        if ((command == row.command[1]) != second) {
+        const detail::ClauseSort& sort = sort_of(command);
+        if ((command == sort.command[1]) != second) {
             second = !second;
             put(second ? "then\n" : "if\n");
         }
-        put(row.words[0]);
-        for (std::size_t i = 0; i < row.terms; ++i) {
+        put(sort.words[0]);
+        for (std::size_t i = 0; i < sort.terms; ++i) {
             put_term(*at++);
-            put(row.words[i + 1]);
+            put(sort.words[i + 1]);
         }
         put("\n");
         return at;

@@ -16,25 +16,25 @@ struct Clause {
     std::vector<uint8_t> terms;
 };
 
-// A row of the table of clauses: the command in either system, and how it is read.
-struct Row {
+// A sort of clause: its command in either system, and how it is read.
+struct ClauseSort {
     uint8_t first, second;
     Relation relation;
     size_t terms;
     bool disequation;
 };
 
-constexpr Row rows[] = {
+constexpr ClauseSort sorts[] = {
     {0x10, 0x20, Relation::join, 3, false},     {0x11, 0x21, Relation::join, 3, true},
     {0x12, 0x22, Relation::equal, 2, false},    {0x13, 0x23, Relation::equal, 2, true},
     {0x30, 0x38, Relation::full, 1, false},     {0x31, 0x39, Relation::empty, 1, true},
     {0x32, 0x3A, Relation::together, 2, false},
 };
 
-// The row of the table with this command. It is always found, since only accepted questions come here.
-inline const Row &row_of(uint8_t command) {
-    return *std::find_if(std::begin(rows), std::end(rows), [command](const Row &row) {
-        return row.first == command || row.second == command;
+// The sort of clause with this command. It is always found, since only accepted questions come here.
+inline const ClauseSort &sort_of(uint8_t command) {
+    return *std::find_if(std::begin(sorts), std::end(sorts), [command](const ClauseSort &sort) {
+        return sort.first == command || sort.second == command;
     });
 }
 
@@ -77,11 +77,11 @@ inline Question read(const std::vector<uint8_t> &bytes) {
             question.constants.push_back(constant);
             continue;
         }
-        const Row &row = row_of(command);
-        System &system = command == row.second ? question.second : question.first;
-        auto &section = row.disequation ? system.disequations : system.positive;
-        section.push_back({row.relation, {bytes.begin() + at, bytes.begin() + at + row.terms}});
-        at += row.terms;
+        const ClauseSort &sort = sort_of(command);
+        System &system = command == sort.second ? question.second : question.first;
+        auto &section = sort.disequation ? system.disequations : system.positive;
+        section.push_back({sort.relation, {bytes.begin() + at, bytes.begin() + at + sort.terms}});
+        at += sort.terms;
     }
     return question;
 }

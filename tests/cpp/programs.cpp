@@ -109,16 +109,16 @@ Error due_term(const Model& model, bool second, const Put& put, reader::Term& me
 
 Error due_clause(Model& model, const Step& step) {
     if (step.system > 1) return Error::unknown_system;
-    if (step.relation >= std::size(reader::rows)) return Error::unknown_relation;
-    const reader::Row& row = reader::rows[step.relation];  // which stand in the order of the relations
-    reader::Clause clause{step.system == 1, row.negated, row.said, {}};
+    if (step.relation >= std::size(reader::sorts)) return Error::unknown_relation;
+    const reader::ClauseSort& sort = reader::sorts[step.relation];  // which stand in the order of the relations
+    reader::Clause clause{step.system == 1, sort.negated, sort.said, {}};
     if (clause.second && !model.question.entailment) return Error::no_second_system;
     std::size_t alike = 0;
     for (const auto& other : model.question.clauses)
         alike += other.second == clause.second && other.negated == clause.negated;
     if (clause.negated && alike == 31) return Error::too_many_disequations;
     if (!clause.negated && alike == 64) return Error::too_many_positives;
-    for (std::size_t i = 0; i < row.terms; ++i) {
+    for (std::size_t i = 0; i < sort.terms; ++i) {
         reader::Term means{};
         if (const Error error = due_term(model, clause.second, step.terms[i], means); error != Error::none)
             return error;
@@ -274,7 +274,7 @@ class Program {
         }
         step.system = random_.below(2);
         step.sort = random_.one_in(2) ? Step::Sort::add : step.system == 0 ? Step::Sort::first : Step::Sort::second;
-        step.relation = random_.below(std::size(reader::rows));
+        step.relation = random_.below(std::size(reader::sorts));
         if (random_.one_in(wild_)) step.relation = random_.below(256);
         if (random_.one_in(wild_) && step.sort == Step::Sort::add) step.system = random_.below(256);
         for (int i = 0; i < 3; ++i) step.terms.push_back(term(model, step.system == 1));

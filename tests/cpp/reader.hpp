@@ -42,16 +42,16 @@ inline bool operator==(const Question& a, const Question& b) {
            a.clauses == b.clauses;
 }
 
-// A row of the table of clauses: the commands in the first and in the second system, what it says, and how many terms it
+// A sort of clause: its commands in the first and in the second system, what it says, and how many terms it
 // has.
-struct Row {
+struct ClauseSort {
     std::uint8_t commands[2];
     bool negated;
     Said said;
     std::uint8_t terms;
 };
 
-inline constexpr Row rows[] = {
+inline constexpr ClauseSort sorts[] = {
     {{0x10, 0x20}, false, Said::join, 3},      // a join b is c
     {{0x11, 0x21}, true, Said::join, 3},       // not (a join b is c)
     {{0x12, 0x22}, false, Said::equal, 2},     // a is b
@@ -70,10 +70,10 @@ struct Reading {
 
 namespace parts {
 
-// The row of the table with that command, in either system; none if it is not the command of a clause.
-inline const Row* row_of(unsigned command) {
-    for (const Row& row : rows)
-        if (row.commands[0] == command || row.commands[1] == command) return &row;
+// The sort of clause with that command, in either system; none if it is not the command of a clause.
+inline const ClauseSort* sort_of(unsigned command) {
+    for (const ClauseSort& sort : sorts)
+        if (sort.commands[0] == command || sort.commands[1] == command) return &sort;
     return nullptr;
 }
 
@@ -85,8 +85,8 @@ inline int operands(unsigned command) {
         case 0x03: return 4;
         default: break;
     }
-    const Row* const row = row_of(command);
-    return row != nullptr ? row->terms : -1;
+    const ClauseSort* const sort = sort_of(command);
+    return sort != nullptr ? sort->terms : -1;
 }
 
 // Whether a term may stand in a clause of that system; if so, what it means.
@@ -124,13 +124,13 @@ inline unsigned constant(const std::uint8_t* operand, Question& question) {
 }
 
 inline unsigned clause(unsigned command, const std::uint8_t* operand, Question& question) {
-    const Row& row = *row_of(command);
-    Clause made{command == row.commands[1], row.negated, row.said, {}};
+    const ClauseSort& sort = *sort_of(command);
+    Clause made{command == sort.commands[1], sort.negated, sort.said, {}};
     if (made.second && !question.entailment) return 9;
     unsigned alike = 0;
     for (const Clause& other : question.clauses) alike += other.second == made.second && other.negated == made.negated;
     if (alike == (made.negated ? 31u : 64u)) return 7;
-    for (int i = 0; i < row.terms; ++i) {
+    for (int i = 0; i < sort.terms; ++i) {
         Term term{};
         if (!means(question, made.second, operand[i], term)) return 8;
         made.terms.push_back(term);

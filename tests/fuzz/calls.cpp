@@ -122,10 +122,10 @@ class Maker {
         unsigned left[2][2] = {{64, 31}, {64, 31}};
         while (data_ < end_) {
             const unsigned second = below(kind + 1), named = second == 1 ? free + own : free;
-            const reader::Row& row = reader::rows[below(std::size(reader::rows))];
-            if (named + constants == 0 || left[second][row.negated]-- == 0) break;
-            bytes.push_back(row.commands[second]);
-            for (int i = 0; i < row.terms; ++i) {
+            const reader::ClauseSort& sort = reader::sorts[below(std::size(reader::sorts))];
+            if (named + constants == 0 || left[second][sort.negated]-- == 0) break;
+            bytes.push_back(sort.commands[second]);
+            for (int i = 0; i < sort.terms; ++i) {
                 const unsigned term = below(named + constants);
                 bytes.push_back(byte(term < named ? term : 0x20 + term - named));
             }

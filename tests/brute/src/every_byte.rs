@@ -1,6 +1,6 @@
 //! Questions that put every byte in one place.
 
-use crate::question::{Row, ROWS};
+use crate::question::{ClauseSort, SORTS};
 
 /// Heads with all small counts, and some that pass a byte.
 pub fn heads() -> Vec<Vec<u8>> {
@@ -46,8 +46,8 @@ pub fn commands() -> Vec<Vec<u8>> {
 pub fn terms() -> Vec<Vec<u8>> {
     let mut questions = Vec::new();
     for (free, own, constants) in [(2, 1, 2), (1, 0, 32), (0, 3, 1)] {
-        let each = |row: &Row| row.commands.map(|c| (c, row.relation.terms().len()));
-        for (command, count) in ROWS.iter().flat_map(each) {
+        let each = |sort: &ClauseSort| sort.commands.map(|c| (c, sort.relation.terms().len()));
+        for (command, count) in SORTS.iter().flat_map(each) {
             for place in 0..count {
                 for term in 0..=255 {
                     let mut bytes = vec![0x01, 0x01, free, own];

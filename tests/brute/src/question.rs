@@ -75,15 +75,16 @@ impl Relation {
     }
 
     /// How the format says this, or its negation, if it does.
-    fn row(self, negated: bool) -> Option<&'static Row> {
+    fn sort(self, negated: bool) -> Option<&'static ClauseSort> {
         let sort = discriminant(&self);
-        ROWS.iter()
-            .find(|row| discriminant(&row.relation) == sort && row.negated == negated)
+        SORTS
+            .iter()
+            .find(|each| discriminant(&each.relation) == sort && each.negated == negated)
     }
 
     /// Whether there is a clause that says this, or its negation.
     pub fn fits(self, negated: bool) -> bool {
-        self.row(negated).is_some()
+        self.sort(negated).is_some()
     }
 }
 
@@ -101,8 +102,8 @@ impl Clause {
     }
 }
 
-/// A row of the table of clauses: how the format says a relation, or its negation.
-pub struct Row {
+/// A sort of clause: how the format says a relation, or its negation.
+pub struct ClauseSort {
     /// The command in the first system, and in the second.
     pub commands: [u8; 2],
     /// The relation; its terms mean nothing here.
@@ -110,8 +111,8 @@ pub struct Row {
     pub negated: bool,
 }
 
-const fn row(commands: [u8; 2], relation: Relation, negated: bool) -> Row {
-    Row {
+const fn sort(commands: [u8; 2], relation: Relation, negated: bool) -> ClauseSort {
+    ClauseSort {
         commands,
         relation,
         negated,
@@ -121,14 +122,14 @@ const fn row(commands: [u8; 2], relation: Relation, negated: bool) -> Row {
 const ANY: Term = Term::Variable(0);
 
 /// All clauses that the format has.
-pub const ROWS: &[Row] = &[
-    row([0x10, 0x20], Relation::Join(ANY, ANY, ANY), false),
-    row([0x11, 0x21], Relation::Join(ANY, ANY, ANY), true),
-    row([0x12, 0x22], Relation::Equal(ANY, ANY), false),
-    row([0x13, 0x23], Relation::Equal(ANY, ANY), true),
-    row([0x30, 0x38], Relation::Full(ANY), false),
-    row([0x31, 0x39], Relation::Empty(ANY), true),
-    row([0x32, 0x3A], Relation::Together(ANY, ANY), false),
+pub const SORTS: &[ClauseSort] = &[
+    sort([0x10, 0x20], Relation::Join(ANY, ANY, ANY), false),
+    sort([0x11, 0x21], Relation::Join(ANY, ANY, ANY), true),
+    sort([0x12, 0x22], Relation::Equal(ANY, ANY), false),
+    sort([0x13, 0x23], Relation::Equal(ANY, ANY), true),
+    sort([0x30, 0x38], Relation::Full(ANY), false),
+    sort([0x31, 0x39], Relation::Empty(ANY), true),
+    sort([0x32, 0x3A], Relation::Together(ANY, ANY), false),
 ];
 
 /// A system's positive clauses and its disequations, each in order.
@@ -183,15 +184,15 @@ pub fn operand_count(command: u8) -> Option<usize> {
         0x00 => Some(0),
         0x01 => Some(3),
         0x03 => Some(4),
-        _ => row_of(command).map(|(row, _)| row.relation.terms().len()),
+        _ => sort_of(command).map(|(sort, _)| sort.relation.terms().len()),
     }
 }
 
-/// The row of the table with a clause's command, and whether it is of the second system.
-fn row_of(command: u8) -> Option<(&'static Row, bool)> {
-    ROWS.iter().find_map(|row| {
-        let system = row.commands.iter().position(|byte| *byte == command)?;
-        Some((row, system == 1))
+/// The sort of clause with a command, and whether it is of the second system.
+fn sort_of(command: u8) -> Option<(&'static ClauseSort, bool)> {
+    SORTS.iter().find_map(|sort| {
+        let system = sort.commands.iter().position(|byte| *byte == command)?;
+        Some((sort, system == 1))
     })
 }
 
@@ -250,8 +251,8 @@ fn read_command(question: &mut Question, command: u8, operands: &[u8]) -> Result
         0x01 => Err(4),
         0x03 => read_constant(question, operands),
         _ => {
-            let (row, second) = row_of(command).expect("a known command");
-            read_clause(question, row, second, operands)
+            let (sort, second) = sort_of(command).expect("a known command");
+            read_clause(question, sort, second, operands)
         }
     }
 }
@@ -269,11 +270,11 @@ fn read_constant(question: &mut Question, leaves: &[u8]) -> Result<(), u8> {
 
 fn read_clause(
     question: &mut Question,
-    row: &Row,
+    sort: &ClauseSort,
     second: bool,
     operands: &[u8],
 ) -> Result<(), u8> {
-    let negated = row.negated;
+    let negated = sort.negated;
     if second && !question.entailment {
         return Err(9);
     }
@@ -296,7 +297,7 @@ fn read_clause(
         terms.push(read_term(question, second, operand).ok_or(8)?);
     }
     let mut terms = terms.into_iter();
-    let relation = row
+    let relation = sort
         .relation
         .with(|_| terms.next().expect("an operand for each"));
     let clause = Clause { relation, negated };
@@ -330,9 +331,9 @@ pub fn term_byte(term: Term) -> u8 {
 }
 
 pub fn clause_bytes(clause: &Clause, second: bool) -> Vec<u8> {
-    let row = clause.relation.row(clause.negated);
-    let row = row.expect("a clause of the format");
-    let mut bytes = vec![row.commands[usize::from(second)]];
+    let sort = clause.relation.sort(clause.negated);
+    let sort = sort.expect("a clause of the format");
+    let mut bytes = vec![sort.commands[usize::from(second)]];
     bytes.extend(clause.terms().into_iter().map(term_byte));
     bytes
 }

@@ -9,7 +9,7 @@ use crate::shrink::shrunk;
 use brute::due::decided;
 use brute::judge::ANSWER_BYTES;
 use brute::library::ASK_WORK_BYTES;
-use brute::question::{hex, read, ROWS};
+use brute::question::{hex, read, SORTS};
 use brute::random::Random;
 use brute::report::{Family, Report};
 use std::collections::HashSet;
@@ -145,7 +145,7 @@ fn enough_seen(report: &mut Report, seen: &HashSet<Combination>) {
 
 /// Each command of a clause stood in a question that was accepted.
 fn clauses_seen(report: &mut Report, accepted: &HashSet<u8>) {
-    for command in ROWS.iter().flat_map(|row| row.commands) {
+    for command in SORTS.iter().flat_map(|sort| sort.commands) {
         let there = accepted.contains(&command);
         report.same_apart("a command was seen", (command, there), (command, true));
     }
@@ -267,8 +267,8 @@ fn mutate_commands(random: &mut Random, bytes: &mut Vec<u8>, other: &[u8]) {
         }
         6 => {
             // Another command of a clause takes the operands.
-            let row = &ROWS[random.below(ROWS.len())];
-            bytes[start] = random.pick(&row.commands);
+            let sort = &SORTS[random.below(SORTS.len())];
+            bytes[start] = random.pick(&sort.commands);
         }
         _ => {
             // An operand takes a value that often means something.
