@@ -65,13 +65,13 @@ fn is_foreign(kind: u8, section: Section) -> bool
     false
 }
 
-fn clause_fault(foreign: bool, spent: bool, named: bool) -> u8
-    ensures { λ r. ⌜ r ≡ clauseFault foreign spent named ⌝ }
+fn clause_fault(foreign: bool, filled: bool, named: bool) -> u8
+    ensures { λ r. ⌜ r ≡ clauseFault foreign filled named ⌝ }
 {
     if foreign {
         return 9;
     }
-    if spent {
+    if filled {
         return 7;
     }
     if named {

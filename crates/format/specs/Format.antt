@@ -170,7 +170,7 @@ isForeign entailment σ = false
 
 -- a clause: of a second system that is not there (9), then one too many (7), then a term that names nothing defined (8)
 abbrev pub clauseFault : Bool → Bool → Bool → ℕ
-clauseFault foreign spent named = cond foreign 9 (cond spent 7 (cond named 0 8))
+clauseFault foreign filled named = cond foreign 9 (cond filled 7 (cond named 0 8))
 
 -- a constant: after a clause (4), then one too many (6)
 abbrev pub constantFault : Bool → Bool → ℕ
