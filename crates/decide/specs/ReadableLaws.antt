@@ -24,7 +24,7 @@ use Rattle.format.specs.declared.Section.{Section}
 use Rattle.format.specs.declared.Section.the-variants.{FirstPositive, FirstDisequation, SecondPositive, SecondDisequation}
 use Rattle.beside.specs.Beside.{ReadsFree, Readable}
 
--- one of one-of-four bytes
+-- one of four bytes
 one-of-four : (l : List ℕ) (p r : ℕ) → r < 4 → getD l p 0 < 64 → getD l (p + 1) 0 < 64 → getD l (p + 2) 0 < 64 → getD l (p + 3) 0 < 64 → getD l (p + r) 0 < 64
 one-of-four l p r m b₀ b₁ b₂ b₃ = pick (ℕ-discrete r 0) (ℕ-discrete r 1) (ℕ-discrete r 2)
   where

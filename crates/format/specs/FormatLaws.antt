@@ -173,7 +173,7 @@ named-defined n cs t h = pick (ltb t 0x20) h
     pick false u = ltb→lt _ _ u
 
 -- each of the terms that a test has
-pub record EachNamed (n k : ℕ) (t : Test) (a b c : ℕ) : Type 0 where
+record EachNamed (n k : ℕ) (t : Test) (a b c : ℕ) : Type 0 where
   pub first : 0 < termCount t → T (names n k a)
   pub second : 1 < termCount t → T (names n k b)
   pub third : 2 < termCount t → T (names n k c)
@@ -181,7 +181,7 @@ pub record EachNamed (n k : ℕ) (t : Test) (a b c : ℕ) : Type 0 where
 term-named : (n k count i t : ℕ) → T (termNamed n k count i t) → i < count → T (names n k t)
 term-named n k count i t h l = rw (lt-ltb i count l) at h
 
-pub each-named : (n k : ℕ) (t : Test) (a b c : ℕ) → T (allNamed n k t a b c) → EachNamed n k t a b c
+each-named : (n k : ℕ) (t : Test) (a b c : ℕ) → T (allNamed n k t a b c) → EachNamed n k t a b c
 each-named n k t a b c h =
     let m = termCount t in
     let r = and-right (termNamed n k m 0 a) _ h in
@@ -191,19 +191,17 @@ each-named n k t a b c h =
       third = term-named n k m 2 c (and-right (termNamed n k m 1 b) _ r);
     }
 
-pub atom-defined : (n : ℕ) (cs : Constants) (t : Test) (a b c : ℕ) → T (allNamed n (length (cs .numbers)) t a b c)
-    → InAtom (Defined n cs) (atomOf t a b c)
-atom-defined n cs t a b c h = go t (each-named n (length (cs .numbers)) t a b c h)
+-- what holds of each named term holds of every term of what a test says
+pub in-test : (P : Term → Type 0) (n k : ℕ) → ((u : ℕ) → T (names n k u) → P (termOf u))
+    → (t : Test) (a b c : ℕ) → T (allNamed n k t a b c) → InAtom P (atomOf t a b c)
+in-test P n k f t a b c h = go t (each-named n k t a b c h)
   where
-    d : (u : ℕ) → T (names n (length (cs .numbers)) u) → Defined n cs (termOf u)
-    d = named-defined n cs
-
-    go : (t : Test) → EachNamed n (length (cs .numbers)) t a b c → InAtom (Defined n cs) (atomOf t a b c)
-    go Join e = (d a (e .first (lit< tt)), d b (e .second (lit< tt)), d c (e .third (lit< tt)))
-    go Equality e = (d a (e .first (lit< tt)), d b (e .second (lit< tt)))
-    go Full e = d a (e .first (lit< tt))
-    go Empty e = d a (e .first (lit< tt))
-    go Together e = (d a (e .first (lit< tt)), d b (e .second (lit< tt)))
+    go : (t : Test) → EachNamed n k t a b c → InAtom P (atomOf t a b c)
+    go Join e = (f a (e .first (lit< tt)), f b (e .second (lit< tt)), f c (e .third (lit< tt)))
+    go Equality e = (f a (e .first (lit< tt)), f b (e .second (lit< tt)))
+    go Full e = f a (e .first (lit< tt))
+    go Empty e = f a (e .first (lit< tt))
+    go Together e = (f a (e .first (lit< tt)), f b (e .second (lit< tt)))
 
 -- ---- what every question that is read so far keeps to, at the offset where reading stands
 
@@ -288,7 +286,7 @@ sound-clause q at σ t a b c d f =
     let r = withClause q σ (atomOf t a b c) in
     let k = clause-keeps q σ (atomOf t a b c) in
     record {
-      formed = formed-clause q σ (atomOf t a b c) (f .home) (d .formed) (atom-defined _ (q .constants) t a b c (f .named));
+      formed = formed-clause q σ (atomOf t a b c) (f .home) (d .formed) (in-test (Defined _ (q .constants)) _ _ (named-defined _ (q .constants)) t a b c (f .named));
       limited = record {
         variables = rw (k .free, k .own) (d .limited .variables);
         levels = ap (λ cs. cs .levels) (k .constants) ∙ d .limited .levels;

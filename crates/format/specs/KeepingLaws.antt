@@ -15,13 +15,13 @@ use lib.Seq.{length-take-le, take-suc-set, getD-set-same, getD-set-other, getD-d
 use Rattle.shares.specs.Constant.{constantLevels, number}
 use Rattle.shares.specs.Parts.{emptyPart, fullPart}
 use Rattle.shares.specs.Test.{or-right, or-cases}
-use Rattle.systems.specs.Clauses.{variable, constant}
+use Rattle.systems.specs.Clauses.{Term, variable, constant}
 use Rattle.systems.specs.Questions.{Kind, satisfiability, entailment, Question}
-use Rattle.systems.specs.AtLeaves.{of, always, readAs}
+use Rattle.systems.specs.AtLeaves.{Part, of, always, LeafReading, joinsTo, apart, readAs}
+use Rattle.systems.specs.AtomLaws.{InPart, InReading, in-reading}
 use Rattle.format.specs.declared.Section.{Section}
 use Rattle.format.specs.declared.Section.the-variants.{FirstPositive, FirstDisequation, SecondPositive, SecondDisequation}
 use Rattle.format.specs.declared.Test.{Test}
-use Rattle.format.specs.declared.Test.the-variants.{Join, Equality, Full, Empty, Together}
 use Rattle.format.specs.declared.LeafJoin.{LeafJoin}
 use Rattle.format.specs.declared.Shape.{Shape}
 use Rattle.format.specs.declared.Entry.{Entry}
@@ -31,11 +31,11 @@ use Rattle.format.specs.declared.Head.{Head}
 use Rattle.format.specs.declared.Step.{Step}
 use Rattle.format.specs.declared.Question.{Question as Struct}
 use Rattle.format.specs.declared.Step.the-variants.{Take, Refused}
-use Rattle.format.specs.Format.{mostVariables, mostConstants, constantBytes, termOf, entryOf, operands, commandOf, wholeAt, readAt, mostOf, inSection, names, variablesFor, atomOf, isForeign, constantFault, fault, judged, withClause, withConstant, taken}
-use Rattle.format.specs.Stored.{kindNumber, sectionNumber, partByte, joinFor, partOf, readingFrom, clauseBytes, sectionStart, fourAt, readingsAt, Stored, stored, countOf, Counted, partNamed, StoredClause, StoredAt, Stands, heldAs, clauseWritten, commandWritten}
+use Rattle.format.specs.Format.{mostVariables, mostConstants, constantBytes, termOf, entryOf, operands, commandOf, wholeAt, readAt, mostOf, inSection, names, variablesFor, allNamed, atomOf, isForeign, constantFault, fault, judged, withClause, withConstant, taken}
+use Rattle.format.specs.Stored.{kindNumber, sectionNumber, partByte, fourOf, joinFor, partOf, readingFrom, clauseBytes, sectionStart, fourAt, readingsAt, Stored, stored, countOf, Counted, partNamed, StoredClause, StoredAt, Stands, heldAs, clauseWritten, commandWritten}
 use Rattle.format.specs.Keeping.{nextSlot, keptConstants, constantCount, keptClauses, clauseCounts, Slot, clauseTotal, foreignTo, faultOf, judgedOf}
 use Rattle.format.specs.SectionLaws.{both-counts, added, Apart, Alike, same, other, alike, constant-sections, clause-keeps, section-below, slot-fits, variables-le}
-use Rattle.format.specs.FormatLaws.{branch, ClauseFits, clause-fits, ConstantFits, constant-fits, EachNamed, each-named}
+use Rattle.format.specs.FormatLaws.{branch, ClauseFits, clause-fits, ConstantFits, constant-fits, in-test}
 
 -- ---- what a command of bytes holds
 
@@ -175,19 +175,38 @@ pub full-part : partOf fullPart ≡ always true
 unfolding partOf
 full-part = refl
 
--- a part that is a term's reads back
-part-back : (n k t : ℕ) → n ≤ mostVariables → T (names n k t) → partOf (partByte (of (termOf t))) ≡ of (termOf t)
-part-back n k t hn h = ap partOf (byte-back t) ∙ part-of n k t hn h
+-- a term is that of its byte, which names something defined
+record NamedTerm (n k : ℕ) (u : Term) : Type 0 where
+  back : termOf (partByte (of u)) ≡ u
+  named : T (names n k (partByte (of u)))
 
--- the bytes of a test whose terms are named stand for how its atom reads
-join-reads : (n k : ℕ) (t : Test) (a b c : ℕ) → n ≤ mostVariables → EachNamed n k t a b c → readingFrom (joinFor t a b c) ≡ readAs (atomOf t a b c)
-unfolding readingFrom
-join-reads n k Join a b c hn e =
-    rw (part-back n k a hn (e .first (lit< tt)), part-back n k b hn (e .second (lit< tt)), part-back n k c hn (e .third (lit< tt))) refl
-join-reads n k Equality a b c hn e = rw (part-back n k a hn (e .first (lit< tt)), part-back n k b hn (e .second (lit< tt)), empty-part) refl
-join-reads n k Full a b c hn e = rw (part-back n k a hn (e .first (lit< tt)), empty-part, full-part) refl
-join-reads n k Empty a b c hn e = rw (part-back n k a hn (e .first (lit< tt)), empty-part) refl
-join-reads n k Together a b c hn e = rw (part-back n k a hn (e .first (lit< tt)), part-back n k b hn (e .second (lit< tt))) refl
+module _ (n k : ℕ) (few : n ≤ mostVariables) where
+  -- such is every term of a test whose bytes are named, and so of its reading
+  test-terms : (t : Test) (a b c : ℕ) → T (allNamed n k t a b c) → InReading (NamedTerm n k) (readAs (atomOf t a b c))
+  test-terms t a b c h =
+      in-reading (NamedTerm n k) (atomOf t a b c)
+      (in-test (NamedTerm n k) n k (λ u m. record { back = ap termOf (byte-back u); named = rw (byte-back u) m }) t a b c h)
+
+  part-back : (p : Part) → InPart (NamedTerm n k) p → partOf (partByte p) ≡ p
+  part-back (of u) g = part-of n k (partByte (of u)) few (g .named) ∙ ap of (g .back)
+  part-back (always false) g = empty-part
+  part-back (always true) g = full-part
+
+  -- a reading of such terms reads back from its bytes
+  reading-back : (r : LeafReading) → InReading (NamedTerm n k) r → readingFrom (fourOf r) ≡ r
+  unfolding readingFrom
+  reading-back (joinsTo p q r) g = rw (part-back p (g .0), part-back q (g .1), part-back r (g .2)) refl
+  reading-back (apart p q) g = rw (part-back p (g .0), part-back q (g .1)) refl
+
+  part-named : (p : Part) → InPart (NamedTerm n k) p → T (partNamed n k (partByte p))
+  part-named (of u) g = or-right (eqb (partByte (of u)) emptyPart) _ (or-right (eqb (partByte (of u)) fullPart) _ (g .named))
+  part-named (always false) g = tt
+  part-named (always true) g = tt
+
+  -- and its bytes are a stored clause
+  reading-stored : (r : LeafReading) → InReading (NamedTerm n k) r → StoredClause n k (fourOf r)
+  reading-stored (joinsTo p q r) g = record { form = lit< tt; first = part-named p (g .0); second = part-named q (g .1); sum = part-named r (g .2) }
+  reading-stored (apart p q) g = record { form = lit< tt; first = part-named p (g .0); second = part-named q (g .1); sum = tt }
 
 -- ---- clauses of two lists that have the same bytes
 
@@ -239,25 +258,6 @@ part-small n k t hn hk h = pick (part-cases n k t h)
     pick (inl e) = omega arith
     pick (inr (inl e)) = omega arith
     pick (inr (inr u)) = named-small n k t hn hk u
-
--- a part that is a term's
-named-part : (n k t : ℕ) → T (names n k t) → T (partNamed n k (partByte (of (termOf t))))
-named-part n k t h = rw (byte-back t) (or-right (eqb t emptyPart) _ (or-right (eqb t fullPart) _ h))
-
--- the bytes of a test whose terms are named are a stored clause
-join-stored : (n k : ℕ) (t : Test) (a b c : ℕ) → EachNamed n k t a b c → StoredClause n k (joinFor t a b c)
-join-stored n k Join a b c e = record {
-  form = lit< tt;
-  first = named-part n k a (e .first (lit< tt));
-  second = named-part n k b (e .second (lit< tt));
-  sum = named-part n k c (e .third (lit< tt));
-}
-join-stored n k Equality a b c e =
-    record { form = lit< tt; first = named-part n k a (e .first (lit< tt)); second = tt; sum = named-part n k b (e .second (lit< tt)) }
-join-stored n k Full a b c e = record { form = lit< tt; first = named-part n k a (e .first (lit< tt)); second = tt; sum = tt }
-join-stored n k Empty a b c e = record { form = lit< tt; first = named-part n k a (e .first (lit< tt)); second = tt; sum = tt }
-join-stored n k Together a b c e =
-    record { form = lit< tt; first = named-part n k a (e .first (lit< tt)); second = named-part n k b (e .second (lit< tt)); sum = tt }
 
 foreign-same : (k : Kind) (σ : Section) → foreignTo (kindNumber k) σ ≡ isForeign k σ
 foreign-same satisfiability σ = refl
@@ -386,17 +386,18 @@ module _ {kind : ℕ} (x : Stored) (q : Question) (d : Stands kind x q) where
         side (inl h) = inl (omega (arith, d .counted τ))
         side (inr h) = inr (omega (arith, clause-room))
 
-    its-terms : EachNamed (variablesFor (x .free) (x .own) σ) (x .defined) t a b c
-    its-terms = each-named _ _ t a b c (rw (d .free, d .own, ← defined-count) (f .named))
+    few : variablesFor (x .free) (x .own) σ ≤ mostVariables
+    few = omega (arith, variables-le (x .free) (x .own) σ, d .variables)
+
+    its-terms : InReading (NamedTerm (variablesFor (x .free) (x .own) σ) (x .defined)) (readAs (atomOf t a b c))
+    its-terms = test-terms _ _ few t a b c (rw (d .free, d .own, ← defined-count) (f .named))
 
     its-bytes : fourAt clauses′ (nextSlot (x .counts) σ) ≡ joinFor t a b c
     unfolding clauses′
     its-bytes = four-back (x .clauses) (nextSlot (x .counts) σ) (joinFor t a b c) (omega (arith, clause-slot, d .sizes .1))
 
     its-reading : readingFrom (fourAt clauses′ (nextSlot (x .counts) σ)) ≡ readAs (atomOf t a b c)
-    its-reading =
-        ap readingFrom its-bytes
-        ∙ join-reads (variablesFor (x .free) (x .own) σ) (x .defined) t a b c (omega (arith, variables-le (x .free) (x .own) σ, d .variables)) its-terms
+    its-reading = ap readingFrom its-bytes ∙ reading-back _ _ few _ its-terms
 
     sections′ : (τ : Section) → readingsAt clauses′ (sectionStart τ) (countOf counts′ τ) ≡ map readAs (inSection (withClause q σ (atomOf t a b c)) τ)
     unfolding readingsAt
@@ -422,7 +423,7 @@ module _ {kind : ℕ} (x : Stored) (q : Question) (d : Stands kind x q) where
     after = stored clauses′ counts′ (x .constants) (x .defined) (x .free) (x .own)
 
     new-stored : StoredAt after σ (nextSlot (x .counts) σ)
-    new-stored = subst (StoredClause _ _) (sym its-bytes) (join-stored _ _ t a b c its-terms)
+    new-stored = subst (StoredClause _ _) (sym its-bytes) (reading-stored (variablesFor (x .free) (x .own) σ) (x .defined) few (readAs (atomOf t a b c)) its-terms)
 
     all-stored : (τ : Section) (i : ℕ) → i < countOf counts′ τ → StoredAt after τ (sectionStart τ + 4 * i)
     unfolding clauses′

@@ -3,7 +3,7 @@
 use mathlib.Core.Path.{_≡_, refl, sym, ap, _∙_}
 use mathlib.Core.Bool.{Bool, true, false, not}
 use mathlib.Core.List.{List, [], _∷_, map}
-use mathlib.Core.Logic.{_↔_}
+use mathlib.Core.Logic.{_↔_, Iff·rfl, Iff·symm, Iff·trans}
 use mathlib.Core.Option.{some}
 use Prim.Native.Nat.{ℕ, _^_, _≤_, _<_, zero-le}
 use native.Mathlib.Nat.{le-trans}
@@ -14,7 +14,7 @@ use Rattle.shares.specs.BelowLaws.{Below, fails-iff}
 use Rattle.shares.specs.Blocks.{blockOf, firstOf}
 use Rattle.shares.specs.BlockLaws.{block-lt, first-lt, block-first}
 use Rattle.shares.specs.Tree.{Tree, leaf, Folded, height, leafAt, joinLeaf, joins, join}
-use Rattle.shares.specs.TreeLaws.{treeOf-folded, leafAt-leaf, blocks}
+use Rattle.shares.specs.TreeLaws.{leafAt-leaf, blocks}
 use Rattle.shares.specs.JoinLaws.{join-iff, join-defined-iff, join-empty-iff}
 use Rattle.shares.specs.Constant.{bit, numberTree}
 use Rattle.shares.specs.ConstantLaws.{leaf-number}
@@ -22,7 +22,7 @@ use Rattle.leaves.specs.Choices.{nil}
 use Rattle.systems.specs.Clauses.{Term, variable, constant, Atom, joined, equal, isFull, isEmpty, together, negated, System, positives, disequations, disequation, Constants, constantTree, Assignment, valueOf, Holds, AllHold}
 use Rattle.systems.specs.Questions.{satisfiability, Question, Defined, InAtom, InSystem}
 use Rattle.systems.specs.Bounds.{Within}
-use Rattle.systems.specs.SystemLaws.{InAtoms, in-positives, in-disequation}
+use Rattle.systems.specs.SystemLaws.{value-folded, InAtoms, in-positives, in-disequation}
 use Rattle.systems.specs.AtLeaves.{Part, of, always, LeafReading, joinsTo, apart, readAs, termAt, partAt, readingAt, atomAt, allAt, firstAt}
 
 -- ---- an example, computed: full join full is undefined, so its negation holds
@@ -70,24 +70,21 @@ ReadingHolds cs ρ (joinsTo u v w) = join (partTree cs ρ u) (partTree cs ρ v) 
 ReadingHolds cs ρ (apart u v) = (t : Tree) × (join (partTree cs ρ u) (partTree cs ρ v) ≡ some t)
 
 -- P holds of a part's term, if it is one, and of every term of a reading
-abbrev InPart : (Term → Type 0) → Part → Type 0
+abbrev pub InPart : (Term → Type 0) → Part → Type 0
 InPart P (of t) = P t
 InPart P (always b) = Unit {0}
 
-abbrev InReading : (Term → Type 0) → LeafReading → Type 0
+abbrev pub InReading : (Term → Type 0) → LeafReading → Type 0
 InReading P (joinsTo u v w) = InPart P u × InPart P v × InPart P w
 InReading P (apart u v) = InPart P u × InPart P v
 
 -- an atom reads no other terms than its own
-in-reading : (P : Term → Type 0) (a : Atom) → InAtom P a → InReading P (readAs a)
+pub in-reading : (P : Term → Type 0) (a : Atom) → InAtom P a → InReading P (readAs a)
 in-reading P (joined u v w) g = g
 in-reading P (equal u v) g = (g .0, tt, g .1)
 in-reading P (isFull u) g = (g, tt, tt)
 in-reading P (isEmpty u) g = (g, tt, tt)
 in-reading P (together u v) g = g
-
-swap : {A B : Type 0} → A ↔ B → B ↔ A
-swap f = (f .1, f .0)
 
 -- ---- terms and atoms, at every leaf
 
@@ -108,10 +105,6 @@ constant-at w h m b hw low l =
     ∙ ap (leafAt h (numberTree w m)) (block-first h w b)
 
 module _ (n h : ℕ) (cs : Constants) (hw : h ≤ cs .levels) (k : ℕ) (hk : h ≤ k) (ρ : Assignment) (x : ℕ → ℕ → Bool) (R : Reads n k ρ x) where
-  term-folded : (t : Term) → Folded (valueOf cs ρ t)
-  term-folded (variable v) = ρ v .folded
-  term-folded (constant i) = treeOf-folded (cs .levels) _
-
   term-low : (t : Term) → Good n h cs t → height (valueOf cs ρ t) ≤ k
   term-low (variable v) g = R .low v (g .0)
   term-low (constant i) g = le-trans (g .1) hk
@@ -126,7 +119,7 @@ module _ (n h : ℕ) (cs : Constants) (hw : h ≤ cs .levels) (k : ℕ) (hk : h 
   -- ---- parts and readings
 
   part-folded : (p : Part) → Folded (partTree cs ρ p)
-  part-folded (of t) = term-folded t
+  part-folded (of t) = value-folded cs ρ t
   part-folded (always b) = tt
 
   part-low : (p : Part) → InPart (Good n h cs) p → height (partTree cs ρ p) ≤ k
@@ -155,18 +148,15 @@ module _ (n h : ℕ) (cs : Constants) (hw : h ≤ cs .levels) (k : ℕ) (hk : h 
 
   -- an atom holds of trees exactly if its reading does
   reads-iff : (a : Atom) → Holds cs ρ a ↔ ReadingHolds cs ρ (readAs a)
-  reads-iff (joined u v w) = (λ e. e, λ e. e)
-  reads-iff (equal u v) = swap (join-empty-iff (valueOf cs ρ u) (valueOf cs ρ v) (term-folded u) (term-folded v))
-  reads-iff (isFull u) = swap (join-empty-iff (valueOf cs ρ u) (leaf true) (term-folded u) tt)
-  reads-iff (isEmpty u) = swap (join-empty-iff (valueOf cs ρ u) (leaf false) (term-folded u) tt)
-  reads-iff (together u v) = (λ e. e, λ e. e)
+  reads-iff (joined u v w) = Iff·rfl
+  reads-iff (equal u v) = Iff·symm (join-empty-iff (valueOf cs ρ u) (valueOf cs ρ v) (value-folded cs ρ u) (value-folded cs ρ v))
+  reads-iff (isFull u) = Iff·symm (join-empty-iff (valueOf cs ρ u) (leaf true) (value-folded cs ρ u) tt)
+  reads-iff (isEmpty u) = Iff·symm (join-empty-iff (valueOf cs ρ u) (leaf false) (value-folded cs ρ u) tt)
+  reads-iff (together u v) = Iff·rfl
 
   -- an atom holds exactly if its reading does at every leaf
   atom-iff : (a : Atom) → InAtom (Good n h cs) a → Holds cs ρ a ↔ ((i : ℕ) → i < 2 ^ k → T (atomAt h cs (blockOf h k i) (x i) a))
-  atom-iff a g =
-      let R = reads-iff a in
-      let S = reading-iff (readAs a) (in-reading (Good n h cs) a g) in
-      (λ e. S .0 (R .0 e), λ f. R .1 (S .1 f))
+  atom-iff a g = Iff·trans (reads-iff a) (reading-iff (readAs a) (in-reading (Good n h cs) a g))
 
   all-iff : (l : List Atom) → InAtoms (Good n h cs) l → AllHold cs ρ l ↔ ((i : ℕ) → i < 2 ^ k → T (allAt h cs (blockOf h k i) (x i) l))
   unfolding allAt

@@ -4,12 +4,12 @@ use mathlib.Core.Bool.{true, false}
 use mathlib.Core.List.{[], _∷_}
 use mathlib.Core.Logic.{_⊎_, inl, inr}
 use Prim.Native.Nat.{ℕ}
-use Rattle.shares.specs.Tree.{leaf, Folded}
-use Rattle.shares.specs.TreeLaws.{treeOf-folded}
+use Rattle.shares.specs.Tree.{leaf}
 use Rattle.shares.specs.JoinLaws.{join-comm, join-full}
-use Rattle.systems.specs.Clauses.{Term, variable, constant, together, Clause, System, Constants, Assignment, valueOf, Holds, ClauseHolds, SystemHolds}
+use Rattle.systems.specs.Clauses.{Term, together, Clause, System, Constants, Assignment, valueOf, Holds, ClauseHolds, SystemHolds}
 use Rattle.systems.specs.Questions.{Question}
 use Rattle.systems.specs.Solutions.{Solution}
+use Rattle.systems.specs.SystemLaws.{value-folded}
 use Rattle.systems.specs.Policies.{mayBeHeldTogether, Among, WriterAndReader}
 
 module _ (cs : Constants) (σ : Assignment) where
@@ -19,13 +19,9 @@ module _ (cs : Constants) (σ : Assignment) where
   among-holds c (d ∷ s) (inl e) h = subst (ClauseHolds cs σ) e (h .0)
   among-holds c (d ∷ s) (inr m) h = among-holds c s m (h .1)
 
-  value-folded : (t : Term) → Folded (valueOf cs σ t)
-  value-folded (variable v) = σ v .folded
-  value-folded (constant i) = treeOf-folded (cs .levels) _
-
   -- what is held together with the full share is empty
   beside-full : (a b : Term) → valueOf cs σ a ≡ leaf true → Holds cs σ (together a b) → valueOf cs σ b ≡ leaf false
-  beside-full a b e (t, j) = join-full (valueOf cs σ b) t (value-folded b) (rw e at j)
+  beside-full a b e (t, j) = join-full (valueOf cs σ b) t (value-folded cs σ b) (rw e at j)
 
   either-order : (a b : Term) (s : System) → Among (mayBeHeldTogether a b) s ⊎ Among (mayBeHeldTogether b a) s → SystemHolds cs σ s → Holds cs σ (together a b)
   either-order a b s (inl m) h = among-holds _ s m h

@@ -1,10 +1,18 @@
--- Laws of systems: a system is its positive clauses and its disequations, and so are its terms. Assumes nothing.
+-- Laws of terms and systems: a system is its positive clauses and its disequations, and so are its terms. Assumes nothing.
 use mathlib.Core.List.{List, [], _∷_}
 use Prim.Native.Nat.{ℕ, zero, suc, _<_, suc-le-suc, zero-le}
 use native.Mathlib.Nat.{not-suc-le-zero, le-of-suc-le-suc}
 use lib.ListN.{length, getD}
-use Rattle.systems.specs.Clauses.{Term, variable, Atom, joined, equal, isFull, isEmpty, together, positive, negated, System, positives, disequations, disequation, Constants, Assignment, Holds, SystemHolds, AllHold}
+use Rattle.shares.specs.Tree.{Folded}
+use Rattle.shares.specs.TreeLaws.{treeOf-folded}
+use Rattle.systems.specs.Clauses.{Term, variable, constant, Atom, joined, equal, isFull, isEmpty, together, positive, negated, System, positives, disequations, disequation, Constants, Assignment, valueOf, Holds, SystemHolds, AllHold}
 use Rattle.systems.specs.Questions.{InAtom, InSystem}
+
+-- ---- the tree of a term is folded
+
+pub value-folded : (cs : Constants) (ρ : Assignment) (t : Term) → Folded (valueOf cs ρ t)
+value-folded cs ρ (variable v) = ρ v .folded
+value-folded cs ρ (constant i) = treeOf-folded (cs .levels) _
 
 -- ---- a system holds exactly if its positive clauses and each of its disequations do
 
