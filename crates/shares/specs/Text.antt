@@ -1,7 +1,7 @@
 -- The text of a tree. Assumes nothing.
 use mathlib.Core.Bool.{true, false}
 use mathlib.Core.List.{List, [], _∷_, _++_}
-use Prim.Native.Nat.{ℕ}
+use Prim.Native.Nat.{ℕ, _*_, _-_, _^_}
 use Rattle.shares.specs.Tree.{Tree, leaf, pair}
 
 -- `o` empty, `*` full, `(` left right `)` a pair, as bytes
@@ -9,3 +9,7 @@ unfoldable pub text : Tree → List ℕ
 text (leaf false) = 0x6F ∷ []
 text (leaf true) = 0x2A ∷ []
 text (pair l r) = 0x28 ∷ (text l ++ (text r ++ (0x29 ∷ [])))
+
+-- the text of a tree of height k has at most this many bytes: 94 at height 5, 3,070 at height 10
+abbrev pub longestText : ℕ → ℕ
+longestText k = 3 * 2 ^ k - 2

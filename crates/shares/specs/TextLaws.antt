@@ -6,7 +6,7 @@ use native.Mathlib.Omega.{arith}
 use lib.ListN.{length, length-append}
 use lib.Pow.{pow-pos}
 use Rattle.shares.specs.Tree.{Tree, leaf, pair, height}
-use Rattle.shares.specs.Text.{text}
+use Rattle.shares.specs.Text.{text, longestText}
 
 text-room : (k : ℕ) (t : Tree) → height t ≤ k → length (text t) + 2 ≤ 3 * 2 ^ k
 unfolding text height
@@ -16,6 +16,6 @@ text-room zero (pair l r) h = absurd (not-suc-le-zero h)
 text-room (suc k) (pair l r) h =
     simp (length-append) (omega (arith, two-pow-succ k, text-room k l (omega arith), text-room k r (omega arith)))
 
--- at height k the text has at most 3 * 2 ^ k - 2 bytes: 3,070 at height 10
-pub text-length : (k : ℕ) (t : Tree) → height t ≤ k → length (text t) ≤ 3 * 2 ^ k - 2
+-- no text of a tree of height k is longer
+pub text-length : (k : ℕ) (t : Tree) → height t ≤ k → length (text t) ≤ longestText k
 text-length k t h = omega (arith, text-room k t h)

@@ -1,18 +1,15 @@
 -- The length of the text of a row, and of what is answered, for every height. Assumes nothing.
 use mathlib.Core.Bool.{Bool, true, false, cond}
 use mathlib.Core.List.{List}
-use Prim.Native.Nat.{ℕ, _-_, _*_, _^_, _≤_, zero-le}
+use Prim.Native.Nat.{ℕ, _≤_, zero-le}
 use lib.Dec.{eqb, leb}
 use lib.ListN.{length}
 use Rattle.shares.specs.TreeLaws.{treeOf-height}
+use Rattle.shares.specs.Text.{longestText}
 use Rattle.shares.specs.TextLaws.{text-length}
 use Rattle.rows.specs.Rows.{bytesAt, rowLeaf, rowTree}
 use Rattle.text.specs.Texts.{textLength, rowText, textAnswer}
 use Rattle.text.specs.declared.Written.the-variants.{Length, Refused}
-
--- the text of no row is longer than this: 3,070 at height 10
-abbrev pub longestText : ℕ → ℕ
-longestText k = 3 * 2 ^ k - 2
 
 pub row-text-length : (k : ℕ) (row : List ℕ) → length (rowText k row) ≤ longestText k
 unfolding rowText
