@@ -1,4 +1,5 @@
 -- The text of a tree. Assumes nothing.
+use mathlib.Core.Path.{_≡_}
 use mathlib.Core.Bool.{true, false}
 use mathlib.Core.List.{List, [], _∷_, _++_}
 use Prim.Native.Nat.{ℕ, _*_, _-_, _^_}
@@ -9,6 +10,10 @@ unfoldable pub text : Tree → List ℕ
 text (leaf false) = 0x6F ∷ []
 text (leaf true) = 0x2A ∷ []
 text (pair l r) = 0x28 ∷ (text l ++ (text r ++ (0x29 ∷ [])))
+
+-- a tree text: some tree, folded or not, is written so
+abbrev pub TreeText : List ℕ → Type 0
+TreeText s = (t : Tree) × (text t ≡ s)
 
 -- the text of a tree of height k has at most this many bytes: 94 at height 5, 3,070 at height 10
 abbrev pub longestText : ℕ → ℕ

@@ -1,6 +1,6 @@
 -- The length of a tree's text, for every height. Assumes nothing.
 use mathlib.Core.Bool.{true, false}
-use Prim.Native.Nat.{ℕ, zero, suc, _+_, _*_, _^_, _-_, _≤_}
+use Prim.Native.Nat.{ℕ, zero, suc, _+_, _*_, _^_, _≤_, _<_}
 use native.Mathlib.Nat.{not-suc-le-zero, two-pow-succ}
 use native.Mathlib.Omega.{arith}
 use lib.ListN.{length, length-append}
@@ -19,3 +19,10 @@ text-room (suc k) (pair l r) h =
 -- no text of a tree of height k is longer
 pub text-length : (k : ℕ) (t : Tree) → height t ≤ k → length (text t) ≤ longestText k
 text-length k t h = omega (arith, text-room k t h)
+
+-- a level takes at least three bytes
+pub height-text : (t : Tree) → 3 * height t < length (text t)
+unfolding text height
+height-text (leaf false) = omega arith
+height-text (leaf true) = omega arith
+height-text (pair l r) = simp (length-append) (omega (arith, height-text l, height-text r))

@@ -11,11 +11,11 @@ use native.Mathlib.Omega.{arith}
 use lib.Arith.{lt-one}
 use lib.Dec.{T}
 use lib.Pow.{pow-pos, shr-shr, field}
-use Rattle.shares.specs.Test.{is-false, beq-iff, cond-law}
+use Rattle.shares.specs.Test.{is-false, of-false, and-intro, and-left, and-right, beq-iff, cond-law}
 use Rattle.shares.specs.BelowLaws.{Below, fails-iff}
 use Rattle.shares.specs.Blocks.{blockOf, firstOf}
 use Rattle.shares.specs.BlockLaws.{block-lt, block-first}
-use Rattle.shares.specs.Tree.{Tree, leaf, pair, twins, fold, Folded, Share, height, half, full, leafAt, treeOf}
+use Rattle.shares.specs.Tree.{Tree, leaf, pair, twins, fold, Folded, isFolded, Share, height, half, full, leafAt, treeOf}
 
 -- ---- folding
 
@@ -84,10 +84,21 @@ Folded-prop (pair l r) = ×₃-prop (Bool-set (twins l r) false) (Folded-prop l)
 pub share-path : (a b : Share) → a .tree ≡ b .tree → a ≡ b
 share-path a b p i = record { tree = p i; folded = isProp→PathP (λ j. Folded (p j)) (λ j. Folded-prop (p j)) (a .folded) (b .folded) i }
 
+-- folded is what the test says
+pub folded-iff : (t : Tree) → T (isFolded t) ↔ Folded t
+unfolding isFolded
+folded-iff (leaf b) = (λ _. tt, λ _. tt)
+folded-iff (pair l r) = (
+  λ t.
+      let halves = and-right (not (twins l r)) _ t in
+      (is-false (twins l r) (and-left (not (twins l r)) _ t), folded-iff l .0 (and-left (isFolded l) _ halves), folded-iff r .0 (and-right (isFolded l) _ halves)),
+  λ (apart, fl, fr). and-intro (not (twins l r)) _ (of-false apart) (and-intro (isFolded l) _ (folded-iff l .1 fl) (folded-iff r .1 fr)),
+)
+
 -- ---- the leaves of the left half, then those of the right
 
 -- what holds of each number below 2 ^ k, and of each of those with 2 ^ k added, holds below 2 ^ (k + 1)
-halves : (P : ℕ → Type 0) (k : ℕ) → ((i : ℕ) → i < 2 ^ k → P i) → ((i : ℕ) → i < 2 ^ k → P (2 ^ k + i))
+pub halves : (P : ℕ → Type 0) (k : ℕ) → ((i : ℕ) → i < 2 ^ k → P i) → ((i : ℕ) → i < 2 ^ k → P (2 ^ k + i))
     → (i : ℕ) → i < 2 ^ suc k → P i
 halves P k low high i h = pick (decLt i (2 ^ k))
   where
@@ -95,11 +106,11 @@ halves P k low high i h = pick (decLt i (2 ^ k))
     pick (yes l) = low i l
     pick (no n) = subst P (omega (arith, two-pow-succ k)) (high (i - 2 ^ k) (omega (arith, two-pow-succ k)))
 
-leaf-left : (k : ℕ) (t : Tree) (i : ℕ) → i < 2 ^ k → leafAt (suc k) t i ≡ leafAt k (half 0 t) i
+pub leaf-left : (k : ℕ) (t : Tree) (i : ℕ) → i < 2 ^ k → leafAt (suc k) t i ≡ leafAt k (half 0 t) i
 unfolding leafAt
 leaf-left k t i h = rw (div-eq-of-lt h, mod-eq-of-lt h)
 
-leaf-right : (k : ℕ) (t : Tree) (i : ℕ) → i < 2 ^ k → leafAt (suc k) t (2 ^ k + i) ≡ leafAt k (half 1 t) i
+pub leaf-right : (k : ℕ) (t : Tree) (i : ℕ) → i < 2 ^ k → leafAt (suc k) t (2 ^ k + i) ≡ leafAt k (half 1 t) i
 unfolding leafAt
 leaf-right k t i h = rw (add-div-left i (pow-pos k), div-eq-of-lt h, add-mod-left, mod-eq-of-lt h)
 

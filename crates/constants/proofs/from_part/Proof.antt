@@ -1,0 +1,24 @@
+-- `constants::from_part` meets its contract. Assumes nothing.
+use mathlib.Core.Path.{sym, ap, _∙_}
+use native.Mathlib.Omega.{arith}
+use Rattle.shares.specs.Constant.{constantLevels}
+use Rattle.constants.specs.TextLaws.{tree-foldable, tree-tall, tree-constant}
+use Rattle.constants.specs.declared.FromText.the-variants.{Constant}
+use borrow.Author.Needs.{needs}
+use Rattle.constants.proofs.from_part.Statement.{statement}
+use Rattle.constants.proofs.from_part.Tie as tie
+
+cast-if2 : tie.Need-cast-if2
+cast-if2 c = search needs
+
+returns : tie.Need-returns
+returns c t o = sym (tree-tall constantLevels t (sym (o .folded) ∙ c .before .before .if1 .taken) (omega (arith, o .height, c .if2 .taken)))
+
+returns-2 : tie.Need-returns-2
+returns-2 c t o = sym (tree-constant constantLevels t (sym (o .folded) ∙ c .before .before .if1 .taken) (omega (arith, o .height, c .if2 .left)) ∙ ap Constant (sym (o .leaves)))
+
+returns-3 : tie.Need-returns-3
+returns-3 c t o = sym (tree-foldable constantLevels t (sym (o .folded) ∙ c .if1 .left))
+
+pub from-part-spec : {M : Type 1} → statement M
+from-part-spec = tie.close (tie.spec cast-if2 returns returns-2 returns-3)

@@ -1,0 +1,63 @@
+-- What the reader tells of a tree whose text begins at an offset. Assumes nothing.
+use mathlib.Core.Path.{_≡_}
+use mathlib.Core.Bool.{Bool, true, not, cond, _&&_}
+use mathlib.Core.List.{List, _++_}
+use Prim.Native.Nat.{ℕ, zero, suc, _+_, _*_, _-_, _^_, _≤_, _<_, max}
+use lib.Dec.{eqb}
+use lib.ListN.{length, drop}
+use Rattle.shares.specs.Tree.{Tree, isFolded, height}
+use Rattle.shares.specs.Text.{text}
+use Rattle.constants.specs.Begins.{Begins}
+use Rattle.constants.specs.Texts.{leavesNumber}
+use Rattle.constants.specs.declared.Part.{Part}
+use Rattle.constants.specs.declared.Found.{Found}
+use Rattle.constants.specs.declared.Found.the-variants as found
+
+-- the numbers of a part are a tree's, with its leaves unfolded to height k
+pub record Of (k : ℕ) (t : Tree) (p : Part) : Type 0 where
+  pub leaves : p .leaves ≡ leavesNumber k t
+  pub height : p .height ≡ height t
+  pub folded : p .folded ≡ isFolded t
+
+-- they can be reckoned with
+pub record Small (k : ℕ) (p : Part) : Type 0 where
+  pub leaves : p .leaves < 2 ^ (2 ^ k)
+  pub height : p .height < 2 ^ 31
+
+-- a tree's text stands in s from an offset on, up to the end of the part
+pub record Stands (s : List ℕ) (at : ℕ) (t : Tree) (p : Part) : Type 0 where
+  pub begins : drop at s ≡ text t ++ drop (p .end) s
+  pub inside : p .end ≤ length s
+
+-- what is found at an offset: a tree's part, or nothing where no text of a tree begins that is no taller than n
+abbrev pub Tells : ℕ → ℕ → List ℕ → ℕ → Found → Type 0
+Tells n k s at (found.Tree p) = (t : Tree) × Stands s at t p × Of k t p
+Tells n k s at found.Nothing = ¬ Begins n (drop at s)
+
+-- a leaf by its sign
+unfoldable pub leafFound : ℕ → ℕ → ℕ → Found
+leafFound k sign end =
+    cond (eqb sign 0x6F) (found.Tree (record { end = end; leaves = 0; height = 0; folded = true }))
+    (cond (eqb sign 0x2A) (found.Tree (record { end = end; leaves = 2 ^ (2 ^ k) - 1; height = 0; folded = true })) found.Nothing)
+
+-- the leaves of a pair at height k: the right half's above the left half's; at height 0 one leaf, and that is empty
+unfoldable pub pairNumber : ℕ → ℕ → ℕ → ℕ
+pairNumber zero left right = 0
+pairNumber (suc k) left right = right * 2 ^ (2 ^ k) + left
+
+-- whether two trees are equal leaves
+unfoldable pub equalLeaves : Part → Part → Bool
+equalLeaves p q = eqb (max (p .height) (q .height)) 0 && eqb (p .leaves) (q .leaves)
+
+-- whether their pair is folded
+unfoldable pub pairFolded : Part → Part → Bool
+pairFolded p q = not (equalLeaves p q) && (p .folded && q .folded)
+
+-- the part of a pair that ends at an offset
+abbrev pub pairPart : ℕ → Part → Part → ℕ → Part
+pairPart k p q end = record {
+  end = end;
+  leaves = pairNumber k (p .leaves) (q .leaves);
+  height = max (p .height) (q .height) + 1;
+  folded = pairFolded p q;
+}
