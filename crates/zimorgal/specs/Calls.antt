@@ -1,4 +1,4 @@
--- What the numbers of the row call, the text call and the join call stand for. Assumes nothing.
+-- What the numbers of the other calls stand for. Assumes nothing.
 use mathlib.Core.Bool.{cond}
 use mathlib.Core.Option.{Option, none, some}
 use Prim.Native.Nat.{ℕ, _+_, _*_, _^_}
@@ -8,6 +8,8 @@ use Rattle.shares.specs.Constant.{constant}
 use Rattle.rows.specs.declared.Range.{Range}
 use Rattle.text.specs.Texts.{textLength, textRefusal}
 use Rattle.text.specs.declared.Written.{Written}
+use Rattle.constants.specs.Texts.{constantRefusal, constantGiven}
+use Rattle.constants.specs.declared.FromText.{FromText}
 
 -- a range's offset in the low 32 bits, its length in the high 32
 abbrev pub rangeNumber : Range → ℕ
@@ -16,6 +18,10 @@ rangeNumber r = r .offset + 2 ^ 32 * r .bytes
 -- a text's length in the low 32 bits, the refusal number in the byte after them
 abbrev pub textNumber : Written → ℕ
 textNumber w = textLength w + 2 ^ 32 * textRefusal w
+
+-- the constant that a text gives in the low 32 bits, the refusal number in the byte after them
+abbrev pub constantNumber : FromText → ℕ
+constantNumber g = constantGiven g + 2 ^ 32 * constantRefusal g
 
 -- a number that is no join
 abbrev pub undefinedJoin : ℕ

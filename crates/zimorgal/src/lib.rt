@@ -1,22 +1,24 @@
 // Every call that other programs link.
 use asking::Outcome;
+use constants::FromText;
 use shares::Joined;
 use text::Written;
 ghost use mathlib.Core.Path.{_≡_};
 ghost use Prim.Native.Nat.{_≤_, _/_, _%_, _^_};
 ghost use lib.ListN.{length, take, drop};
 ghost use Rattle.shares.specs.Tree.{height, join};
-ghost use Rattle.shares.specs.Constant.{constant};
+ghost use Rattle.shares.specs.Constant.{constantLevels, constant};
 ghost use Rattle.shares.specs.Answer.{joinOf};
 ghost use Rattle.systems.specs.Questions as model;
 ghost use Rattle.rows.specs.Rows.{rowLevels, rowRange, rowPart};
 ghost use Rattle.text.specs.Texts.{textAnswer, textAfter};
+ghost use Rattle.constants.specs.Texts.{fromText};
 ghost use Rattle.asking.specs.Asking.{answered, askedWith, outcomeOf, answerAfter, workAfter};
 ghost use Rattle.asking.specs.Exact.{Exact};
 ghost use Rattle.asking.specs.Demand3.{Demand3};
 ghost use Rattle.zimorgal.specs.Packing.{packed, unpacked};
 ghost use Rattle.zimorgal.specs.PackingLaws.{InBytes};
-ghost use Rattle.zimorgal.specs.Calls.{rangeNumber, textNumber, undefinedJoin, numberJoin, versionNumber};
+ghost use Rattle.zimorgal.specs.Calls.{rangeNumber, textNumber, constantNumber, undefinedJoin, numberJoin, versionNumber};
 
 // The result as one number: each field is multiplied to its bytes.
 fn pack(outcome: Outcome) -> u64
@@ -72,6 +74,26 @@ fn text_number(written: Written) -> u64
     match written {
         Written::Length(n) => n as u64,
         Written::Refused(n) => 4294967296 * basics::wide(n),
+    }
+}
+
+// The constant that a tree text writes, in the low 32 bits, the refusal number in the byte after them.
+#[no_mangle]
+pub extern "C" fn zimorgal_constant(text: &[u8]) -> u64
+    ensures { λ r. ⌜ r ≡ constantNumber (fromText constantLevels (now (text .entry))) ⌝ }
+{
+    constant_number(constants::from_text(text))
+}
+
+// The number of a text that was read or refused.
+fn constant_number(read: FromText) -> u64
+    ensures { λ r. ⌜ r ≡ constantNumber read ⌝ }
+{
+    match read {
+        FromText::Constant(n) => n as u64,
+        FromText::NoTree => 15 * 4294967296,
+        FromText::Foldable => 16 * 4294967296,
+        FromText::TooTall => 17 * 4294967296,
     }
 }
 
