@@ -289,7 +289,7 @@ constexpr Error error_of(int refusal) noexcept {
 inline constexpr std::size_t tallest = 5;  // of a constant
 
 // Where the fault is for which the library turned a tree text away. It only looks for the place.
-inline std::size_t place_of(Error error, std::string_view text) noexcept {
+inline std::size_t place_of_fault(Error error, std::string_view text) noexcept {
     // In a tree text two equal leaves in a row are the halves of a pair.
     if (error == Error::not_folded) return std::min(text.find("oo"), text.find("**")) - 1;
     text = text.substr(0, ZIMORGAL_CONSTANT_TEXT_BYTES);
@@ -322,7 +322,7 @@ inline std::size_t place_of(Error error, std::string_view text) noexcept {
 [[nodiscard]] inline Parsed from_text(std::string_view text) noexcept {
     const std::uint64_t number = zimorgal_constant(reinterpret_cast<const std::uint8_t*>(text.data()), text.size());
     const Error error = detail::error_of(zimorgal_constant_refusal(number));
-    if (error != Error::none) return {error, 0, detail::place_of(error, text)};
+    if (error != Error::none) return {error, 0, detail::place_of_fault(error, text)};
     return {Error::none, zimorgal_constant_leaves(number), 0};
 }
 Parsed from_text(std::nullptr_t) = delete;

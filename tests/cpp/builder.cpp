@@ -708,45 +708,47 @@ void right_texts() {
     }
 }
 
+// Texts with one fault, and with several.
+const struct {
+    const char* text;
+    Error error;
+    std::size_t place;
+} refused_texts[] = {{"", Error::not_tree_text, 0},
+                     {"x", Error::not_tree_text, 0},
+                     {"O", Error::not_tree_text, 0},
+                     {" o", Error::not_tree_text, 0},
+                     {"o ", Error::not_tree_text, 1},
+                     {"oo", Error::not_tree_text, 1},
+                     {"(", Error::not_tree_text, 1},
+                     {")", Error::not_tree_text, 0},
+                     {"()", Error::not_tree_text, 1},
+                     {"(*)", Error::not_tree_text, 2},
+                     {"(*o", Error::not_tree_text, 3},
+                     {"(*o*)", Error::not_tree_text, 3},
+                     {"(*o))", Error::not_tree_text, 4},
+                     {"(* o)", Error::not_tree_text, 2},
+                     {"(*x)", Error::not_tree_text, 2},
+                     {"(*oo", Error::not_tree_text, 3},
+                     {"(oo", Error::not_tree_text, 3},
+                     {"(*(o*)", Error::not_tree_text, 6},
+                     {"(*(o*)x", Error::not_tree_text, 6},
+                     {"(oo)o", Error::not_tree_text, 4},
+                     {"((oo)(**", Error::not_tree_text, 8},
+                     {"((((((*o)o)o)o)o)x", Error::not_tree_text, 17},
+                     {"((((((oo)o)o)o)o)o", Error::not_tree_text, 18},
+                     {"(oo)", Error::not_folded, 0},
+                     {"(**)", Error::not_folded, 0},
+                     {"((oo)*)", Error::not_folded, 1},
+                     {"(*(**))", Error::not_folded, 2},
+                     {"((*o)(oo))", Error::not_folded, 5},
+                     {"((**)(oo))", Error::not_folded, 1},
+                     {"((((((**)o)o)o)o)o)", Error::not_folded, 5},
+                     {"((((((*o)o)o)o)o)(**))", Error::not_folded, 17},
+                     {"((((((*o)o)o)o)o)o)", Error::too_tall, 5},
+                     {"(o(o(o(o(o(o*))))))", Error::too_tall, 10}};
+
 void wrong_texts() {
-    const struct {
-        const char* text;
-        Error error;
-        std::size_t place;
-    } wrong[] = {{"", Error::not_tree_text, 0},
-                 {"x", Error::not_tree_text, 0},
-                 {"O", Error::not_tree_text, 0},
-                 {" o", Error::not_tree_text, 0},
-                 {"o ", Error::not_tree_text, 1},
-                 {"oo", Error::not_tree_text, 1},
-                 {"(", Error::not_tree_text, 1},
-                 {")", Error::not_tree_text, 0},
-                 {"()", Error::not_tree_text, 1},
-                 {"(*)", Error::not_tree_text, 2},
-                 {"(*o", Error::not_tree_text, 3},
-                 {"(*o*)", Error::not_tree_text, 3},
-                 {"(*o))", Error::not_tree_text, 4},
-                 {"(* o)", Error::not_tree_text, 2},
-                 {"(*x)", Error::not_tree_text, 2},
-                 {"(*oo", Error::not_tree_text, 3},
-                 {"(oo", Error::not_tree_text, 3},
-                 {"(*(o*)", Error::not_tree_text, 6},
-                 {"(*(o*)x", Error::not_tree_text, 6},
-                 {"(oo)o", Error::not_tree_text, 4},
-                 {"((oo)(**", Error::not_tree_text, 8},
-                 {"((((((*o)o)o)o)o)x", Error::not_tree_text, 17},
-                 {"((((((oo)o)o)o)o)o", Error::not_tree_text, 18},
-                 {"(oo)", Error::not_folded, 0},
-                 {"(**)", Error::not_folded, 0},
-                 {"((oo)*)", Error::not_folded, 1},
-                 {"(*(**))", Error::not_folded, 2},
-                 {"((*o)(oo))", Error::not_folded, 5},
-                 {"((**)(oo))", Error::not_folded, 1},
-                 {"((((((**)o)o)o)o)o)", Error::not_folded, 5},
-                 {"((((((*o)o)o)o)o)(**))", Error::not_folded, 17},
-                 {"((((((*o)o)o)o)o)o)", Error::too_tall, 5},
-                 {"(o(o(o(o(o(o*))))))", Error::too_tall, 10}};
-    for (const auto& text : wrong) {
+    for (const auto& text : refused_texts) {
         const Parsed parsed = from_text(text.text);
         check(parsed.error == text.error && parsed.leaves == 0 && parsed.place == text.place,
               std::string("no tree: ") + text.text);
@@ -828,7 +830,7 @@ std::string random_tree(Random& random, unsigned leaves, bool folded) {
     return "(" + random_tree(random, left, folded) + random_tree(random, leaves - left, folded) + ")";
 }
 
-// Puts one sign in the place of another, or between two, or takes one away.
+// Takes a sign away or none, and puts up to two there.
 void damage(Random& random, std::string& text) {
     const std::size_t at = random.below(static_cast<unsigned>(text.size()));
     const char sign = signs[random.below(static_cast<unsigned>(signs.size()))];
