@@ -5,6 +5,7 @@
 
    It writes examples/third_thread.out. */
 #include <stdio.h>
+#include <string.h>
 
 #include "zimorgal.h"
 
@@ -78,6 +79,26 @@ static void report(const char *asked, const uint8_t *question, size_t length) {
     write_solution(question[2]);
 }
 
+/* Reads two shares as a tester types them, and writes whether they join. */
+static void report_join(const char *left, const char *right) {
+    const char *const typed[] = {left, right};
+    uint32_t shares[2];
+    printf("Do %s and %s join?\n  ", left, right);
+    for (int i = 0; i < 2; ++i) {
+        const uint64_t read = zimorgal_constant((const uint8_t *)typed[i], strlen(typed[i]));
+        if (zimorgal_constant_refusal(read) != ZIMORGAL_ACCEPTED) {
+            printf("%s is refused: %s\n", typed[i], zimorgal_describe_refusal(zimorgal_constant_refusal(read)));
+            return;
+        }
+        shares[i] = zimorgal_constant_leaves(read);
+    }
+    const uint64_t joined = zimorgal_join(shares[0], shares[1]);
+    if (zimorgal_join_defined(joined))
+        printf("yes, to a share of height %u\n", zimorgal_height(zimorgal_join_leaves(joined)));
+    else
+        printf("no\n");
+}
+
 int main(void) {
     if (zimorgal_version() != ZIMORGAL_VERSION) {
         fprintf(stderr, "the header and the library are of two versions\n");
@@ -86,11 +107,8 @@ int main(void) {
     report("Two threads may read the cue list. May a third read it as well?", third_thread, sizeof third_thread);
     report("Is there always a part left that would make theirs whole?", part_left, sizeof part_left);
     report("And a question with a mistake?", mistaken, sizeof mistaken);
-
-    const uint64_t joined = zimorgal_join(0x0000FFFF, 0xFFFF0000);
-    printf("Do the left half and the right half join?\n  %s", zimorgal_join_defined(joined) ? "yes" : "no");
-    if (zimorgal_join_defined(joined))
-        printf(", to a share of height %u", zimorgal_height(zimorgal_join_leaves(joined)));
-    printf("\n");
+    report_join("(*o)", "(o*)");
+    report_join("(*o)", "((o*)o)");
+    report_join("(*o)", "(o(**))");
     return 0;
 }

@@ -48,11 +48,12 @@
 
 #define ZIMORGAL_VERSION (ZIMORGAL_VERSION_MAJOR * 0x10000u + ZIMORGAL_VERSION_MINOR * 0x100u + ZIMORGAL_VERSION_PATCH)
 
-#define ZIMORGAL_QUESTION_BYTES 925 /* no accepted question is longer */
-#define ZIMORGAL_ANSWER_BYTES 1536  /* an answer buffer has at least as many: 12 rows */
-#define ZIMORGAL_WORK_BYTES 4096    /* a work area has at least as many */
-#define ZIMORGAL_ROW_BYTES 128      /* a shown share, unfolded to height 10: 1,024 leaves */
-#define ZIMORGAL_TEXT_BYTES 3070    /* no tree text is longer */
+#define ZIMORGAL_QUESTION_BYTES 925     /* no accepted question is longer */
+#define ZIMORGAL_ANSWER_BYTES 1536      /* an answer buffer has at least as many: 12 rows */
+#define ZIMORGAL_WORK_BYTES 4096        /* a work area has at least as many */
+#define ZIMORGAL_ROW_BYTES 128          /* a shown share, unfolded to height 10: 1,024 leaves */
+#define ZIMORGAL_TEXT_BYTES 3070        /* no tree text of a row is longer */
+#define ZIMORGAL_CONSTANT_TEXT_BYTES 94 /* no tree text of a constant is longer */
 
 /* Enough stack for a thread that calls. Asking touches under 8 KB; the rest is for the thread, for a signal's frame
    and for buffers of the caller. tests/cpp/stack.cpp measures it, and runs threads with exactly this much. */
@@ -86,7 +87,7 @@ enum zimorgal_kind { ZIMORGAL_SATISFIABILITY = 0, ZIMORGAL_ENTAILMENT = 1 };
 
 enum zimorgal_verdict { ZIMORGAL_REFUSED = 0, ZIMORGAL_YES = 1, ZIMORGAL_NO = 2 };
 
-/* Why a question or a buffer is turned away. */
+/* Why a question, a buffer or a tree text is turned away. */
 enum zimorgal_refusal {
     ZIMORGAL_ACCEPTED = 0,
     /* whoever writes the question */
@@ -104,7 +105,11 @@ enum zimorgal_refusal {
     ZIMORGAL_ANSWER_TOO_SHORT = 11, /* an answer buffer under 1,536 bytes */
     ZIMORGAL_WORK_TOO_SHORT = 12,   /* a work area under 4,096 bytes */
     ZIMORGAL_TEXT_TOO_SHORT = 13,   /* a tree text does not fit its buffer */
-    ZIMORGAL_NOT_A_ROW = 14         /* a row that is not 128 bytes */
+    ZIMORGAL_NOT_A_ROW = 14,        /* a row that is not 128 bytes */
+    /* whoever writes the tree text of a constant */
+    ZIMORGAL_NOT_TREE_TEXT = 15, /* a text over 94 bytes, or no tree text */
+    ZIMORGAL_NOT_FOLDED = 16,    /* a pair that could be folded */
+    ZIMORGAL_TOO_TALL = 17       /* a tree taller than 5 */
 };
 
 /* Why an entailment is answered yes or no. A satisfiability question has reason 0. */
@@ -155,6 +160,12 @@ ZIMORGAL_READS(1, 2)
 ZIMORGAL_WRITES(3, 4)
 uint64_t zimorgal_text(const uint8_t *row, size_t row_length, uint8_t *text, size_t text_length);
 
+/* Reads a whole text as the tree text of a constant, as zimorgal_text writes it: folded, without spaces, without a byte
+   0 at its end. The constant in the low 32 bits, leaf i at bit i, refusal number in bits 32 to 39: 15 before 16 before
+   17, wherever in the text the faults are. A refusal gives constant 0. Nothing is written. */
+ZIMORGAL_READS(1, 2)
+uint64_t zimorgal_constant(const uint8_t *text, size_t length);
+
 /* The join of two constants, as numbers with leaf i at bit i. Exactly 2^32 if it is undefined. */
 uint64_t zimorgal_join(uint32_t a, uint32_t b);
 
@@ -188,6 +199,10 @@ ZIMORGAL_INLINE size_t zimorgal_row_length(uint64_t part) { return part >> 32; }
 ZIMORGAL_INLINE size_t zimorgal_text_length(uint64_t written) { return written & 0xFFFFFFFF; }
 ZIMORGAL_INLINE int zimorgal_text_refusal(uint64_t written) { return written >> 32 & 0xFF; } /* enum zimorgal_refusal */
 
+/* The fields of what zimorgal_constant gives. */
+ZIMORGAL_INLINE uint32_t zimorgal_constant_leaves(uint64_t read) { return read & 0xFFFFFFFF; } /* 0 if refused */
+ZIMORGAL_INLINE int zimorgal_constant_refusal(uint64_t read) { return read >> 32 & 0xFF; } /* enum zimorgal_refusal */
+
 /* The fields of what zimorgal_join gives. */
 ZIMORGAL_INLINE int zimorgal_join_defined(uint64_t joined) { return joined >> 32 == 0; }
 ZIMORGAL_INLINE uint32_t zimorgal_join_leaves(uint64_t joined) { return joined & 0xFFFFFFFF; } /* 0 if undefined */
@@ -220,6 +235,9 @@ ZIMORGAL_INLINE const char *zimorgal_describe_refusal(int refusal) {
         case ZIMORGAL_WORK_TOO_SHORT: return "the work area has under 4,096 bytes";
         case ZIMORGAL_TEXT_TOO_SHORT: return "the tree text does not fit its buffer";
         case ZIMORGAL_NOT_A_ROW: return "the row has not 128 bytes";
+        case ZIMORGAL_NOT_TREE_TEXT: return "a text over 94 bytes, or no tree text";
+        case ZIMORGAL_NOT_FOLDED: return "a pair that could be folded";
+        case ZIMORGAL_TOO_TALL: return "a tree taller than 5";
         default: return "unknown refusal";
     }
 }

@@ -75,8 +75,8 @@ enum class Error : std::uint8_t {
     names_nothing,          // a variable that the question has not, or Constant{}
     own_variable_in_first,  // an own variable in the first system
     no_second_system,       // a clause of the second system in a satisfiability question
-    not_tree_text,
-    too_tall,  // a tree taller than 5
+    not_tree_text,          // or over 94 characters
+    too_tall,               // a tree taller than 5
     not_folded,
     foreign_constant,  // of another question, or from before this one was started anew
     unknown_relation,  // a Relation that is none of the seven
@@ -276,50 +276,54 @@ struct Parsed {
 
 namespace detail {
 
-struct TreeReader {
-    std::string_view text;
-    std::size_t at = 0;  // the next character; with an error the one at fault
-    Leaves leaves = 0;
-
-    // Reads a tree into the `width` leaves from leaf `first` on, which are empty before.
-    constexpr Error read(unsigned first, unsigned width) noexcept {
-        if (at == text.size()) return Error::not_tree_text;
-        const Leaves all = (full_share >> (32 - width)) << first;
-        const std::size_t start = at;
-        switch (text[at]) {
-            case 'o': ++at; return Error::none;
-            case '*':
-                ++at;
-                leaves |= all;
-                return Error::none;
-            case '(': break;
-            default: return Error::not_tree_text;
-        }
-        if (width == 1) return Error::too_tall;
-        ++at;
-        const unsigned half = width / 2;
-        if (const Error error = read(first, half); error != Error::none) return error;
-        if (const Error error = read(first + half, half); error != Error::none) return error;
-        if (at == text.size() || text[at] != ')') return Error::not_tree_text;
-        ++at;
-        // Both halves are folded, so they are two equal leaves exactly if all leaves are the same.
-        if ((leaves & all) != 0 && (leaves & all) != all) return Error::none;
-        at = start;
-        return Error::not_folded;
+// Why the library turned a tree text away.
+constexpr Error error_of(int refusal) noexcept {
+    switch (refusal) {
+        case ZIMORGAL_ACCEPTED: return Error::none;
+        case ZIMORGAL_NOT_FOLDED: return Error::not_folded;
+        case ZIMORGAL_TOO_TALL: return Error::too_tall;
+        default: return Error::not_tree_text;
     }
-};
+}
+
+inline constexpr std::size_t tallest = 5;  // of a constant
+
+// Where the fault is for which the library turned a tree text away. It only looks for the place.
+inline std::size_t place_of_fault(Error error, std::string_view text) noexcept {
+    // In a tree text two equal leaves in a row are the halves of a pair.
+    if (error == Error::not_folded) return std::min(text.find("oo"), text.find("**")) - 1;
+    text = text.substr(0, ZIMORGAL_CONSTANT_TEXT_BYTES);
+    // How many trees are due: in the text, then in each pair that is open.
+    std::array<std::uint8_t, ZIMORGAL_CONSTANT_TEXT_BYTES + 1> due{1};
+    std::size_t open = 0, at = 0;
+    for (; at < text.size(); ++at) {
+        const char sign = text[at];
+        if (due[open] == 0) {
+            if (open == 0 || sign != ')') break;
+            --open;
+        } else if (sign == 'o' || sign == '*') {
+            --due[open];
+        } else {
+            if (sign != '(' || (error == Error::too_tall && open == tallest)) break;
+            --due[open];
+            due[++open] = 2;
+        }
+    }
+    return at;
+}
 
 }  // namespace detail
 
 // The share that a tree text stands for: o empty, * full, ( left right ) a pair, folded, at most five pairs deep, no
-// spaces. The text is judged from the left and the first fault decides. Its place is that of the character that cannot
-// stand there, of the pair that is one too deep, or of the pair that must be folded.
-[[nodiscard]] constexpr Parsed from_text(std::string_view text) noexcept {
-    detail::TreeReader reader{text};
-    Error error = reader.read(0, 32);
-    if (error == Error::none && reader.at != text.size()) error = Error::not_tree_text;
-    if (error != Error::none) return {error, 0, reader.at};
-    return {Error::none, reader.leaves, 0};
+// spaces. The library reads it. Of several faults not the first from the left decides: not_tree_text comes before
+// not_folded, and that before too_tall. The place is that of the first character that cannot stand there (the length if
+// the text ends too soon, and at most 94, where nothing can stand), of the first pair that must be folded, or of the first
+// pair that is one too deep.
+[[nodiscard]] inline Parsed from_text(std::string_view text) noexcept {
+    const std::uint64_t number = zimorgal_constant(reinterpret_cast<const std::uint8_t*>(text.data()), text.size());
+    const Error error = detail::error_of(zimorgal_constant_refusal(number));
+    if (error != Error::none) return {error, 0, detail::place_of_fault(error, text)};
+    return {Error::none, zimorgal_constant_leaves(number), 0};
 }
 Parsed from_text(std::nullptr_t) = delete;
 
@@ -572,6 +576,9 @@ enum class Refusal : std::uint8_t {
     work_too_short = ZIMORGAL_WORK_TOO_SHORT,
     text_too_short = ZIMORGAL_TEXT_TOO_SHORT,
     not_a_row = ZIMORGAL_NOT_A_ROW,
+    not_tree_text = ZIMORGAL_NOT_TREE_TEXT,
+    not_folded = ZIMORGAL_NOT_FOLDED,
+    too_tall = ZIMORGAL_TOO_TALL,
 };
 
 enum class Reason : std::uint8_t {

@@ -9,6 +9,7 @@
 #include <string>
 #include <vector>
 
+#include "reader.hpp"
 #include "zimorgal.hpp"
 
 using namespace zimorgal;
@@ -119,8 +120,7 @@ static_assert(stands_second<decltype(join(own0, v0, c0))> && stands_second<declt
 static_assert(!stands_first<decltype(equal(Term(v0), c0))>, "a term known only at run time");
 static_assert(!stands_first<Clause> && !std::is_convertible_v<int, Term> && !std::is_convertible_v<Own, Free>);
 
-static_assert(from_text("(*o)").leaves == 0x0000FFFF, "at compile time too");
-static_assert(from_text("(*x)").place == 2, "at compile time too");
+static_assert(noexcept(from_text(std::string_view())));
 static_assert(describe(Verdict::no) == "no" && decode(2).verdict == Verdict::no, "at compile time too");
 
 // Variables from any integer; one out of range names nothing, and is no undefined behaviour.
@@ -629,7 +629,7 @@ void results() {
           "each field where SPEC 4.2 has it");
     check(decode(1).verdict == Verdict::yes && decode(0).verdict == Verdict::refused, "verdicts");
 
-    for (unsigned i = 0; i <= 14; ++i)
+    for (unsigned i = 0; i <= 17; ++i)
         check(describe(static_cast<Refusal>(i)) != "unknown refusal", "a text for refusal " + std::to_string(i));
     for (unsigned i = 0; i <= 13; ++i)
         check(describe(static_cast<Error>(i)) != "unknown error", "a text for error " + std::to_string(i));
@@ -686,7 +686,7 @@ void policies() {
 
 // ---------------------------------------------------------------- Tree text
 
-void tree_text() {
+void right_texts() {
     const struct {
         const char* text;
         Leaves leaves;
@@ -706,37 +706,49 @@ void tree_text() {
         const Text text = text_of(tree.leaves);
         check(text.view() == tree.text, std::string("to text: ") + tree.text);
     }
+}
 
-    const struct {
-        const char* text;
-        Error error;
-        std::size_t place;
-    } wrong[] = {{"", Error::not_tree_text, 0},
-                 {"x", Error::not_tree_text, 0},
-                 {"O", Error::not_tree_text, 0},
-                 {" o", Error::not_tree_text, 0},
-                 {"o ", Error::not_tree_text, 1},
-                 {"oo", Error::not_tree_text, 1},
-                 {"(", Error::not_tree_text, 1},
-                 {")", Error::not_tree_text, 0},
-                 {"()", Error::not_tree_text, 1},
-                 {"(*)", Error::not_tree_text, 2},
-                 {"(*o", Error::not_tree_text, 3},
-                 {"(*o*)", Error::not_tree_text, 3},
-                 {"(*o))", Error::not_tree_text, 4},
-                 {"(* o)", Error::not_tree_text, 2},
-                 {"(*oo", Error::not_tree_text, 3},
-                 {"(oo", Error::not_tree_text, 3},
-                 {"(*(o*)", Error::not_tree_text, 6},
-                 {"(*(o*)x", Error::not_tree_text, 6},
-                 {"(oo)", Error::not_folded, 0},
-                 {"(**)", Error::not_folded, 0},
-                 {"((oo)*)", Error::not_folded, 1},
-                 {"(*(**))", Error::not_folded, 2},
-                 {"((*o)(oo))", Error::not_folded, 5},
-                 {"((((((*o)o)o)o)o)o)", Error::too_tall, 5},
-                 {"(o(o(o(o(o(o*))))))", Error::too_tall, 10}};
-    for (const auto& text : wrong) {
+// Texts with one fault, and with several.
+const struct {
+    const char* text;
+    Error error;
+    std::size_t place;
+} refused_texts[] = {{"", Error::not_tree_text, 0},
+                     {"x", Error::not_tree_text, 0},
+                     {"O", Error::not_tree_text, 0},
+                     {" o", Error::not_tree_text, 0},
+                     {"o ", Error::not_tree_text, 1},
+                     {"oo", Error::not_tree_text, 1},
+                     {"(", Error::not_tree_text, 1},
+                     {")", Error::not_tree_text, 0},
+                     {"()", Error::not_tree_text, 1},
+                     {"(*)", Error::not_tree_text, 2},
+                     {"(*o", Error::not_tree_text, 3},
+                     {"(*o*)", Error::not_tree_text, 3},
+                     {"(*o))", Error::not_tree_text, 4},
+                     {"(* o)", Error::not_tree_text, 2},
+                     {"(*x)", Error::not_tree_text, 2},
+                     {"(*oo", Error::not_tree_text, 3},
+                     {"(oo", Error::not_tree_text, 3},
+                     {"(*(o*)", Error::not_tree_text, 6},
+                     {"(*(o*)x", Error::not_tree_text, 6},
+                     {"(oo)o", Error::not_tree_text, 4},
+                     {"((oo)(**", Error::not_tree_text, 8},
+                     {"((((((*o)o)o)o)o)x", Error::not_tree_text, 17},
+                     {"((((((oo)o)o)o)o)o", Error::not_tree_text, 18},
+                     {"(oo)", Error::not_folded, 0},
+                     {"(**)", Error::not_folded, 0},
+                     {"((oo)*)", Error::not_folded, 1},
+                     {"(*(**))", Error::not_folded, 2},
+                     {"((*o)(oo))", Error::not_folded, 5},
+                     {"((**)(oo))", Error::not_folded, 1},
+                     {"((((((**)o)o)o)o)o)", Error::not_folded, 5},
+                     {"((((((*o)o)o)o)o)(**))", Error::not_folded, 17},
+                     {"((((((*o)o)o)o)o)o)", Error::too_tall, 5},
+                     {"(o(o(o(o(o(o*))))))", Error::too_tall, 10}};
+
+void wrong_texts() {
+    for (const auto& text : refused_texts) {
         const Parsed parsed = from_text(text.text);
         check(parsed.error == text.error && parsed.leaves == 0 && parsed.place == text.place,
               std::string("no tree: ") + text.text);
@@ -744,8 +756,130 @@ void tree_text() {
         const auto [error, constant, place] = question.constant(text.text);
         check(error == text.error && place == text.place, std::string("no constant: ") + text.text);
     }
-    check(from_text(std::string(1000000, '(')).error == Error::too_tall, "a text that only opens pairs");
+    const Parsed parsed = from_text(std::string(1000000, '('));
+    check(parsed.error == Error::not_tree_text && parsed.place == 94, "a text that only opens pairs");
+    check(from_text(std::string_view("o\0", 2)).place == 1, "a byte 0 is a character");
+}
 
+// Compares texts with what reader.hpp reads: what the call gives, and what from_text and a question say.
+class TextsCompared {
+  public:
+    void add(const std::string& text) {
+        const reader::TreeReading due = reader::read_tree(text);
+        const std::uint64_t number = zimorgal_constant(reinterpret_cast<const std::uint8_t*>(text.data()), text.size());
+        const Parsed parsed = from_text(text);
+        Question question;
+        const auto [error, constant, place] = question.constant(text);
+        const bool same = number == (std::uint64_t{due.refusal} << 32 | due.leaves) && parsed.error == error &&
+                          error == error_for(due.refusal) && parsed.leaves == due.leaves &&
+                          constant.leaves() == due.leaves && parsed.place == due.place && place == due.place;
+        ++seen_[static_cast<std::size_t>(error_for(due.refusal))];
+        if (!same) wrong_.push_back(text);
+    }
+
+    long seen(Error error) const { return seen_[static_cast<std::size_t>(error)]; }
+
+    void done(const std::string& which) const {
+        const std::string one = wrong_.empty() ? "" : ", one of them " + wrong_[0];
+        check(wrong_.empty(), which + ": " + std::to_string(wrong_.size()) + " wrong" + one);
+    }
+
+  private:
+    static Error error_for(unsigned refusal) {
+        const Error errors[] = {Error::not_tree_text, Error::not_folded, Error::too_tall};
+        return refusal == 0 ? Error::none : errors[refusal - 15];
+    }
+
+    std::vector<std::string> wrong_{};
+    long seen_[14] = {};  // by error
+};
+
+constexpr std::string_view signs = "o*()x";
+
+void every_short_text() {
+    TextsCompared compared;
+    std::vector<std::string> texts{""};
+    for (std::size_t i = 0; i < texts.size(); ++i) {
+        compared.add(texts[i]);
+        if (texts[i].size() == 6) continue;
+        for (const char sign : signs) texts.push_back(texts[i] + sign);
+    }
+    compared.done("every text of up to 6 signs");
+    check(compared.seen(Error::none) == 4 && compared.seen(Error::not_folded) == 2 &&
+              compared.seen(Error::not_tree_text) == 19525,
+          "o, *, (o*) and (*o) are read, (oo) and (**) could be folded, and all others are no tree text");
+}
+
+// Every byte as a tree, as a half and as the end of a pair.
+void every_sign() {
+    TextsCompared compared;
+    for (unsigned number = 0; number < 256; ++number) {
+        const std::string sign(1, static_cast<char>(number));
+        for (const std::string& text : {sign, "(o" + sign + ")", "(*o" + sign}) compared.add(text);
+    }
+    compared.done("every byte as a sign");
+    check(compared.seen(Error::none) == 4 && compared.seen(Error::not_folded) == 1,
+          "o, *, (o*) and (*o) are read, and (oo) could be folded");
+}
+
+// The tree text of some tree with so many leaves. A folded one has no pair of two equal leaves.
+std::string random_tree(Random& random, unsigned leaves, bool folded) {
+    if (leaves == 1) return random.below(2) == 0 ? "o" : "*";
+    if (leaves == 2 && folded) return random.below(2) == 0 ? "(o*)" : "(*o)";
+    const unsigned left = random.below(2) == 0 ? leaves / 2 : 1 + random.below(leaves - 1);
+    return "(" + random_tree(random, left, folded) + random_tree(random, leaves - left, folded) + ")";
+}
+
+// Takes a sign away or none, and puts up to two there.
+void damage(Random& random, std::string& text) {
+    const std::size_t at = random.below(static_cast<unsigned>(text.size()));
+    const char sign = signs[random.below(static_cast<unsigned>(signs.size()))];
+    text.replace(at, random.below(2), random.below(3), sign);
+}
+
+// Trees of 1 to 34 leaves, the last two of which are too long, as they are and damaged.
+void random_texts() {
+    Random random;
+    TextsCompared compared;
+    for (int i = 0; i < 20000; ++i) {
+        std::string text = random_tree(random, 1 + random.below(34), random.below(3) > 0);
+        if (random.below(3) == 0) damage(random, text);
+        compared.add(text);
+    }
+    compared.done("random texts");
+    for (const Error error : {Error::none, Error::not_tree_text, Error::not_folded, Error::too_tall})
+        check(compared.seen(error) > 1000, "random texts meet: " + std::string(describe(error)));
+}
+
+// The longest text has 94 characters.
+void longest_texts() {
+    const std::string halves = text_of(0x55555555u).str();
+    std::string deep = std::string(31, '(') + 'o';
+    for (int i = 0; i < 31; ++i) deep += "*)";
+    const auto says = [](const std::string& text, Error error, std::size_t place) {
+        const Parsed parsed = from_text(text);
+        check(parsed.error == error && parsed.place == place, std::to_string(text.size()) + " characters: " + text);
+    };
+    says(halves, Error::none, 0);
+    says(deep, Error::too_tall, 5);
+    deep[31] = '*';
+    says(deep, Error::not_folded, 30);
+    says("(" + halves + "o)", Error::not_tree_text, 94);
+    says(halves + "x", Error::not_tree_text, 94);
+    says("ox" + halves, Error::not_tree_text, 1);
+
+    TextsCompared compared;
+    for (const std::string& text : {halves, deep, std::string(), "(" + halves + "o)", "(o" + halves + ")"})
+        for (std::size_t length = 93; length <= 96; ++length)
+            for (const char sign : signs) {
+                std::string cut = text;
+                cut.resize(length, sign);
+                compared.add(cut);
+            }
+    compared.done("texts of 93 to 96 characters");
+}
+
+void texts_of_leaves() {
     Random random;
     long wrong_trips = 0;
     for (int i = 0; i < 3000; ++i) {
@@ -760,7 +894,9 @@ void tree_text() {
             wrong_trips += from_text(text.view().substr(0, cut)).error == Error::none;
     }
     check(wrong_trips == 0, "leaves to text and back: " + std::to_string(wrong_trips) + " wrong");
+}
 
+void texts_in_buffers() {
     Question question = satisfiability(1);
     take(question.first(equal(v0, take(question.constant("((*o)o)")))));
     Workspace workspace;
@@ -830,6 +966,8 @@ void no_heap() {
     Draft draft;
     draft.start_satisfiability(1);
     fine = fine && draft.error() == Error::none && draft.finish(drafted) == Error::none;
+    fine = fine && from_text("(o").place == 2 && from_text("(o(oo))").place == 2 &&
+           from_text("((((((o*)o)o)o)o)o)").place == 5;
     const QuestionText asked = text_of(question);
     const auto [result, solution] = ask(question, workspace);
     const Text text = solution.text(v0);
@@ -852,7 +990,14 @@ int main() {
     drafts();
     results();
     policies();
-    tree_text();
+    right_texts();
+    wrong_texts();
+    every_short_text();
+    every_sign();
+    random_texts();
+    longest_texts();
+    texts_of_leaves();
+    texts_in_buffers();
     constants();
     texts();
     no_heap();

@@ -26,9 +26,35 @@ static void calls(void) {
     const uint64_t written =
         zimorgal_text(answer + zimorgal_row_offset(row), zimorgal_row_length(row), text, sizeof text);
     check(written == 4 && memcmp(text, "(o*)", 4) == 0, "the text of row 0 is (o*)");
+    check(zimorgal_constant(text, zimorgal_text_length(written)) == 0xFFFF0000, "(o*) is read again");
     check(zimorgal_join(0x0000FFFF, 0xFFFF0000) == 0xFFFFFFFF, "the halves join to full");
     check(zimorgal_join(1, 1) == (uint64_t)1 << 32, "an undefined join is 2^32");
     check(zimorgal_height(1) == 5, "one leaf has height 5");
+}
+
+/* A text without the byte 0 at its end. */
+static uint64_t read_text(const char *words) { return zimorgal_constant((const uint8_t *)words, strlen(words)); }
+
+static void tree_texts(void) {
+    const uint64_t not_tree_text = (uint64_t)ZIMORGAL_NOT_TREE_TEXT << 32;
+    const uint64_t not_folded = (uint64_t)ZIMORGAL_NOT_FOLDED << 32, too_tall = (uint64_t)ZIMORGAL_TOO_TALL << 32;
+    check(read_text("o") == 0 && read_text("*") == 0xFFFFFFFF && read_text("(*o)") == 0x0000FFFF, "constants");
+    check(read_text("(((((o*)o)o)o)o)") == 2, "leaf 1 is bit 1");
+    check(read_text("(o*") == not_tree_text && read_text("(o*)o") == not_tree_text, "no tree text");
+    check(read_text("(oo)") == not_folded, "a pair that could be folded");
+    check(read_text("((((((o*)o)o)o)o)o)") == too_tall, "height 6");
+    check(read_text("(oo)x") == not_tree_text, "no tree text, before a pair that could be folded");
+    check(read_text("((((((o*)o)o)o)o)o") == not_tree_text, "no tree text, before height 6");
+    check(read_text("((((((o*)o)o)o)o)(oo))") == not_folded, "a pair that could be folded, before height 6");
+
+    /* Pairs in pairs, as the left halves: of height 31 with 94 bytes, of height 32 with 97. */
+    char deep[3 * 32 + 2] = "";
+    for (int height = 31; height <= 32; ++height) {
+        memset(deep, '(', (size_t)height);
+        strcpy(deep + height, "o");
+        for (int i = 0; i < height; ++i) strcat(deep, "*)");
+        check(read_text(deep) == (height == 31 ? too_tall : not_tree_text), deep);
+    }
 }
 
 static void version(void) {
@@ -55,6 +81,10 @@ static void fields(void) {
     check(zimorgal_text_refusal(0x0000000000000BFE) == ZIMORGAL_ACCEPTED, "a text that was written");
     check(zimorgal_text_length((uint64_t)13 << 32) == 0, "length of a text that was refused");
     check(zimorgal_text_refusal((uint64_t)13 << 32) == ZIMORGAL_TEXT_TOO_SHORT, "a text that was refused");
+    check(zimorgal_constant_leaves(0x00000000FFFF0001) == 0xFFFF0001, "leaves of a constant");
+    check(zimorgal_constant_refusal(0x00000000FFFF0001) == ZIMORGAL_ACCEPTED, "a constant that was read");
+    check(zimorgal_constant_leaves((uint64_t)17 << 32) == 0, "leaves of a text that was refused");
+    check(zimorgal_constant_refusal((uint64_t)17 << 32) == ZIMORGAL_TOO_TALL, "a text that is too tall");
     check(zimorgal_join_defined(0xFFFFFFFF) && zimorgal_join_leaves(0xFFFFFFFF) == 0xFFFFFFFF, "a join");
     check(!zimorgal_join_defined((uint64_t)1 << 32) && zimorgal_join_leaves((uint64_t)1 << 32) == 0, "no join");
 }
@@ -90,15 +120,17 @@ static void nothing_lent(void) {
     check(zimorgal_row(NULL, 0, 0) == 0, "NULL answer buffer for a row");
     check(zimorgal_text(NULL, 0, NULL, 0) == (uint64_t)ZIMORGAL_NOT_A_ROW << 32, "NULL row");
     check(zimorgal_text(answer, ZIMORGAL_ROW_BYTES, NULL, 0) == (uint64_t)ZIMORGAL_TEXT_TOO_SHORT << 32, "NULL text");
+    check(zimorgal_constant(NULL, 0) == (uint64_t)ZIMORGAL_NOT_TREE_TEXT << 32, "NULL tree text");
 }
 
 int main(void) {
     calls();
+    tree_texts();
     version();
     fields();
     shown_or_not();
     in_words(zimorgal_describe_verdict, ZIMORGAL_NO, "unknown verdict");
-    in_words(zimorgal_describe_refusal, ZIMORGAL_NOT_A_ROW, "unknown refusal");
+    in_words(zimorgal_describe_refusal, ZIMORGAL_TOO_TALL, "unknown refusal");
     in_words(zimorgal_describe_reason, ZIMORGAL_DISEQUATION_UNMET, "unknown reason");
     nothing_lent();
     printf("%d passed, %d failed\n", passed, failed);

@@ -1,10 +1,11 @@
-// A reader of questions, written from docs/FORMAT.md alone. It shares no code with the headers and the library, which it
-// is to be compared with.
+// A reader of questions and one of tree texts, written from docs/FORMAT.md alone. They share no code with the headers and
+// the library, which they are to be compared with.
 #ifndef ZIMORGAL_TESTS_READER_HPP
 #define ZIMORGAL_TESTS_READER_HPP
 
 #include <cstddef>
 #include <cstdint>
+#include <string>
 #include <vector>
 
 namespace reader {
@@ -170,6 +171,76 @@ inline Reading read(const std::uint8_t* bytes, std::size_t length) {
     }
     if (at + 1 < length) return refuse(10, at + 1);
     return reading;
+}
+
+// ---------------------------------------------------------------- Tree texts of constants
+
+// A tree as it is written: the sign that it starts with, where that stands, and of a pair the halves.
+struct Tree {
+    char sign;
+    std::size_t at;
+    std::vector<Tree> halves;
+};
+
+// The refusal number, 0 for none, the place of the fault, and the leaves.
+struct TreeReading {
+    unsigned refusal;
+    std::size_t place;
+    std::uint32_t leaves;
+};
+
+namespace parts {
+
+// Reads the tree that starts at an offset, which is then past it. False if it meets a character that cannot stand where it
+// is: then the offset is that one's.
+inline bool tree(const std::string& text, std::size_t& at, Tree& made) {
+    if (at >= text.size() || std::string("o*(").find(text[at]) == std::string::npos) return false;
+    made = {text[at], at, {}};
+    ++at;
+    if (made.sign != '(') return true;
+    made.halves.resize(2);
+    for (Tree& half : made.halves)
+        if (!tree(text, at, half)) return false;
+    if (at >= text.size() || text[at] != ')') return false;
+    ++at;
+    return true;
+}
+
+// The pair of two equal leaves that is closed first; none if the tree is folded.
+inline const Tree* unfolded(const Tree& tree) {
+    for (const Tree& half : tree.halves)
+        if (const Tree* const found = unfolded(half)) return found;
+    const bool equal = tree.sign == '(' && tree.halves[0].sign == tree.halves[1].sign;
+    return equal && tree.halves[0].sign != '(' ? &tree : nullptr;
+}
+
+// The pair that is opened first inside of so many others; none if the tree is no taller.
+inline const Tree* inside(const Tree& tree, unsigned others) {
+    if (tree.sign == '(' && others == 0) return &tree;
+    for (const Tree& half : tree.halves)
+        if (const Tree* const found = inside(half, others - 1)) return found;
+    return nullptr;
+}
+
+// The leaf of a tree that a path leads to, its first step in the highest of so many bits: 0 goes left, 1 goes right.
+inline bool full(const Tree& tree, unsigned path, unsigned bits) {
+    if (tree.sign != '(') return tree.sign == '*';
+    return full(tree.halves[path >> (bits - 1) & 1], path, bits - 1);
+}
+
+}  // namespace parts
+
+inline TreeReading read_tree(const std::string& text) {
+    Tree tree{};
+    std::size_t at = 0;
+    // Nothing can stand at offset 94.
+    if (!parts::tree(text.substr(0, 94), at, tree) || at < text.size()) return {15, at, 0};
+    if (const Tree* const pair = parts::unfolded(tree)) return {16, pair->at, 0};
+    if (const Tree* const pair = parts::inside(tree, 5)) return {17, pair->at, 0};
+    std::uint32_t leaves = 0;
+    for (unsigned leaf = 0; leaf < 32; ++leaf)
+        if (parts::full(tree, leaf, 5)) leaves |= std::uint32_t{1} << leaf;
+    return {0, 0, leaves};
 }
 
 }  // namespace reader

@@ -1,5 +1,5 @@
-/* Lends buffers; compiled with -DSHORT one of them is shorter than the call is told, and a compiler that knows the access
-   attribute says so. */
+/* Lends buffers; compiled with -DSHORT or -DSHORT_TEXT one of them is shorter than the call is told, and a compiler that
+   knows the access attribute says so. */
 #include "zimorgal.h"
 
 #ifdef SHORT
@@ -8,9 +8,16 @@
 #define ANSWER_BYTES ZIMORGAL_ANSWER_BYTES
 #endif
 
+#ifdef SHORT_TEXT
+#define TEXT_BYTES 3
+#else
+#define TEXT_BYTES 4
+#endif
+
 int main(void) {
     static const uint8_t question[] = {0x01, 0x00, 0x00, 0x00, 0x00};
     uint8_t answer[ANSWER_BYTES], work[ZIMORGAL_WORK_BYTES];
     const uint64_t result = zimorgal_ask(question, sizeof question, answer, ZIMORGAL_ANSWER_BYTES, work, sizeof work);
-    return zimorgal_verdict(result) != ZIMORGAL_YES;
+    static const uint8_t text[TEXT_BYTES] = {'(', '*', 'o'};
+    return zimorgal_verdict(result) != ZIMORGAL_YES || zimorgal_constant(text, 4) == 0;
 }

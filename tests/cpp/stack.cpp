@@ -1,6 +1,7 @@
 // The stack that a call takes: threads with exactly ZIMORGAL_STACK_BYTES of it, and nothing that can be read or written
-// below, ask the dearest shapes of questions. What they touched is measured too: it must leave a quarter, and a call must
-// take under 8 KB, that is, a thread that asks more than one that does nothing. By itself, from the repository's top folder:
+// below, ask the dearest shapes of questions and read the deepest tree texts. What they touched is measured too: it must
+// leave a quarter, and a call must take under 8 KB, that is, a thread that calls more than one that does nothing. By
+// itself, from the repository's top folder:
 //
 //     g++ -std=c++17 -O1 -pthread -Iinclude tests/cpp/stack.cpp target/staticlib/libzimorgal.a -o stack && ./stack
 //
@@ -11,6 +12,8 @@
 #include <algorithm>
 #include <cstdio>
 #include <cstring>
+#include <string>
+#include <utility>
 #include <vector>
 
 #include "zimorgal.hpp"
@@ -104,8 +107,29 @@ std::vector<Shape> shapes() {
     return all;
 }
 
+struct TreeText {
+    const char* name;
+    std::string text;
+    Error error;
+};
+
+// Pairs in pairs, as many as a text of 94 characters can have.
+std::vector<TreeText> tree_texts() {
+    std::string left = std::string(31, '(') + 'o', right;
+    for (int i = 0; i < 31; ++i) {
+        left += "*)";
+        right += "(o";
+    }
+    right += '*' + std::string(31, ')');
+    return {{"pairs that are only opened", std::string(94, '('), Error::not_tree_text},
+            {"pairs that are left halves", left, Error::too_tall},
+            {"pairs that are right halves", right, Error::too_tall}};
+}
+
 struct Run {
     const Shape* shape;
+    const TreeText* text;
+    Parsed parsed;
     Workspace workspace;
     Result result;
     std::size_t length;
@@ -130,6 +154,12 @@ void* ask_with_all(void* argument) {
     run.result = answer.result;
     const Text text = answer.solution.text(Free{0});
     run.length = text.view().size();
+    return nullptr;
+}
+
+void* read_text(void* argument) {
+    Run& run = *static_cast<Run*>(argument);
+    run.parsed = from_text(run.text->text);
     return nullptr;
 }
 
@@ -163,7 +193,7 @@ int main() {
     };
     static Run run;
     const std::size_t own = touched(ZIMORGAL_STACK_BYTES, do_nothing, run);
-    std::size_t most = 0, most_with_all = 0;
+    std::size_t most = 0, most_with_all = 0, most_reading = 0;
     const std::vector<Shape> all = shapes();
     check(made, "the questions", "every step is taken");
     for (const Shape& shape : all) {
@@ -176,11 +206,21 @@ int main() {
         most = std::max(most, used);
         most_with_all = std::max(most_with_all, used_with_all);
     }
-    std::printf("a thread that does nothing touches %zu bytes of its stack, one that asks %zu, so a call %zu;\n", own, most,
-                most - own);
-    std::printf("with question, buffers and text on it %zu\n", most_with_all);
-    check(own > 0 && own < most && most - own < 8192, "a call", "under 8 KB");
-    check(most > 1000 && most <= ZIMORGAL_STACK_BYTES / 4 * 3, "margin", "a quarter of the stack is left");
+    for (const TreeText& text : tree_texts()) {
+        run.text = &text;
+        const std::size_t used = touched(ZIMORGAL_STACK_BYTES, read_text, run);
+        check(used > 0 && run.parsed.error == text.error, "read", text.name);
+        most_reading = std::max(most_reading, used);
+    }
+    std::printf("a thread that does nothing touches %zu bytes of its stack, one that asks %zu, so a call %zu;\n", own,
+                most, most - own);
+    std::printf("with question, buffers and text on it %zu; one that reads a tree text %zu, so a call %zu\n",
+                most_with_all, most_reading, most_reading - own);
+    const std::pair<const char*, std::size_t> calls[] = {{"asking", most}, {"reading a tree text", most_reading}};
+    for (const auto& [name, used] : calls) {
+        check(own > 0 && own < used && used - own < 8192, "a call takes under 8 KB", name);
+        check(used > 1000 && used <= ZIMORGAL_STACK_BYTES / 4 * 3, "a quarter of the stack is left", name);
+    }
     std::printf("%d passed, %d failed\n", passed, failed);
     return failed == 0 ? 0 : 1;
 }

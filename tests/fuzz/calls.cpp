@@ -1,7 +1,7 @@
 // The C calls, for libFuzzer. The first byte of an input chooses the lengths of the lent buffers and what they hold, and
-// whether the rest is the question as it is, or numbers that one is made of which is accepted. What is checked of each
-// call is in docs/SPEC.md: 4 and 7 for asking, 6 for rows and texts. That a shown counterexample does not extend is left
-// to tests/brute. tests/fuzz/run builds and runs it.
+// whether the rest is the question as it is, or numbers that one is made of which is accepted. The rest is read as a tree
+// text as well. What is checked of each call is in docs/SPEC.md: 4 and 7 for asking, 6 for rows and texts. That a shown
+// counterexample does not extend is left to tests/brute. tests/fuzz/run builds and runs it.
 #include <algorithm>
 #include <bitset>
 #include <cstdio>
@@ -144,6 +144,19 @@ class Maker {
 
 // ---------------------------------------------------------------- The calls
 
+// The constant call, on the bytes as they are and with each taken for a sign.
+void tree_texts(const Bytes& bytes) {
+    Bytes signs = bytes;
+    for (std::uint8_t& byte : signs) byte = static_cast<std::uint8_t>("o*()x"[byte % 5]);
+    for (const Bytes& text : {bytes, signs}) {
+        const reader::TreeReading due = reader::read_tree(std::string(text.begin(), text.end()));
+        const Lent lent(text);
+        check(zimorgal_constant(lent.data.get(), lent.size) == (std::uint64_t{due.refusal} << 32 | due.leaves),
+              "a tree text is read");
+        check(lent.now() == text, "the tree text is unchanged");
+    }
+}
+
 // The row and the text call, on every row.
 std::vector<Row> rows(const Lent& answer) {
     std::vector<Row> all;
@@ -180,8 +193,12 @@ unsigned height_due(const reader::Question& question) {
     unsigned tallest = 0;
     std::size_t disequations = 0;
     for (const std::uint32_t leaves : question.constants) {
-        check(zimorgal_height(leaves) == height(row_of_leaves(leaves)), "height of a constant");
-        tallest = std::max<unsigned>(tallest, zimorgal_height(leaves));
+        unsigned tall = 0;
+        const std::string written = text(row_of_leaves(leaves), 0, 1024, tall);
+        const Lent lent(Bytes(written.begin(), written.end()));
+        check(zimorgal_height(leaves) == tall, "height of a constant");
+        check(zimorgal_constant(lent.data.get(), lent.size) == leaves, "a constant written and read again");
+        tallest = std::max(tallest, tall);
     }
     for (const reader::Clause& clause : question.clauses) disequations += clause.negated && !clause.second;
     return tallest + c(disequations + question.entailment);
@@ -191,6 +208,7 @@ unsigned height_due(const reader::Question& question) {
 
 extern "C" int LLVMFuzzerTestOneInput(const std::uint8_t* data, std::size_t size) {
     if (size == 0) return 0;
+    tree_texts(Bytes(data + 1, data + size));
     const unsigned choice = data[0];
     const std::size_t answer_bytes = choice % 8 == 1 ? 1535 : choice % 8 == 2 ? 0 : 1536 + choice % 8;
     const std::size_t work_bytes = choice / 8 % 8 == 1 ? 4095 : choice / 8 % 8 == 2 ? 0 : 4096 + choice / 8 % 8;
