@@ -9,7 +9,7 @@ from front_end.files import quote
 
 TALLEST = 5  # of a constant
 NO_TREE_TEXT, COULD_BE_FOLDED, TOO_TALL = 15, 16, 17  # refusal numbers, told in this order
-FOLDABLE = re.compile(r"\(([o*])\1\)")
+FOLDABLE = re.compile(r"\(([o*])\1\)")  # a pair of two equal leaves
 
 
 class TreeFault(Exception):

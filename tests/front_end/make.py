@@ -33,7 +33,7 @@ def random_question(random):
 
 
 def damaged(random, string, likely=LIKELY):
-    """A string after one to three changes; some are taken from strings at a limit."""
+    """A string after one to three changes, which put in likely bytes; some are taken from strings at a limit."""
     string = bytearray(string)
     for _ in range(random.randrange(1, 4)):
         at = random.randrange(len(string) + 1)
