@@ -5,8 +5,6 @@
 
 #include "zimorgal.h"
 
-uint64_t zimorgal_constant(const uint8_t *text, size_t length);
-
 int main(void) {
     static uint8_t text[1 << 20];
     size_t length;
