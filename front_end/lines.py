@@ -111,9 +111,9 @@ class Line:
         whole = "".join(word for word, _ in self.words[self.at:self.at + number])
         try:
             read_tree(whole)
-            return TreeFault(fault.at, f"tree text has no spaces: write '{whole}'")
+            return TreeFault(fault.number, fault.at, f"tree text has no spaces: write '{whole}'")
         except TreeFault:
-            return TreeFault(fault.at, "tree text has no spaces")
+            return TreeFault(fault.number, fault.at, "tree text has no spaces")
 
     def no_name(self, due):
         """The fault of a next word that is no name, where something is due."""

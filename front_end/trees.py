@@ -3,55 +3,71 @@
 Tree text is 'o' (empty), '*' (full) or '(' left right ')', always folded. The 32 leaves are a number, leaf i at bit i.
 """
 
+import re
+
 from front_end.files import quote
 
 TALLEST = 5  # of a constant
+NO_TREE_TEXT, COULD_BE_FOLDED, TOO_TALL = 15, 16, 17  # refusal numbers, told in this order
+FOLDABLE = re.compile(r"\(([o*])\1\)")  # a pair of two equal leaves
 
 
 class TreeFault(Exception):
-    """What is wrong with a tree text, and at which of its characters."""
+    """What is wrong with a tree text: the refusal number, at which of its characters, and in words."""
 
-    def __init__(self, at, what):
+    def __init__(self, number, at, what):
         super().__init__(what)
+        self.number = number
         self.at = at
         self.what = what
 
 
+def no_tree_text(at, what):
+    return TreeFault(NO_TREE_TEXT, at, f"no tree text: {what}")
+
+
+def longest(tallest=TALLEST):
+    """The most characters that the text of a folded tree has: 2^tallest leaves, and two brackets for each pair."""
+    return 3 * (1 << tallest) - 2
+
+
 def read_tree(text, tallest=TALLEST):
-    """The 2^tallest leaves of a tree text. Faults of its form come first, then a pair that could be folded, then the height."""
-    pairs = []  # the pairs that are not closed yet: where each starts, and its halves so far
-    unfolded = tall = None
+    """The 2^tallest leaves of a tree text. Faults of its form come first, its length among them, then a pair that could be folded, then the
+    height. All characters before a fault of the form are single bytes, so they are counted as bytes are."""
+    pairs = []  # of each pair that is not closed yet: how many halves it has so far
+    tall = None
     leaves = next_leaf = 0
     for at, sign in enumerate(text):
         if at > 0 and not pairs:
-            raise TreeFault(at, "no tree text: the tree ends before this character")
-        wants_half = not pairs or len(pairs[-1][1]) < 2
+            raise no_tree_text(at, "the tree ends before this character")
+        if at == longest(tallest):
+            raise no_tree_text(at, f"it is too long: a folded tree with at most {tallest} pairs one in the other has at most {at} characters")
+        wants_half = not pairs or pairs[-1] < 2
         if sign not in ("(o*" if wants_half else ")"):
             due = "'(', 'o' or '*'" if wants_half else "')'"
-            raise TreeFault(at, f"no tree text: {due} is due here, not {quote(sign)}")
+            raise no_tree_text(at, f"{due} is due here, not {quote(sign)}")
         if sign == "(":
-            pairs.append((at, []))
+            pairs.append(0)
             if len(pairs) > tallest and tall is None:
                 tall = at
             continue
         if sign == ")":
-            start, halves = pairs.pop()
-            if halves in (["o", "o"], ["*", "*"]) and unfolded is None:
-                unfolded = start, halves[0]
+            pairs.pop()
         else:
             width = (1 << tallest) >> len(pairs)
             if sign == "*":
                 leaves |= ((1 << width) - 1) << next_leaf
             next_leaf += width
         if pairs:
-            pairs[-1][1].append(sign)
+            pairs[-1] += 1
     if pairs or not text:
-        raise TreeFault(len(text), "no tree text: it ends before the tree does")
+        raise no_tree_text(len(text), "it ends before the tree does")
+    unfolded = FOLDABLE.search(text)
     if unfolded:
-        start, leaf = unfolded
-        raise TreeFault(start, f"a pair of two equal leaves must be folded: write '{leaf}' for '({leaf}{leaf})'")
+        pair, leaf = unfolded.group(0, 1)
+        raise TreeFault(COULD_BE_FOLDED, unfolded.start(), f"a pair of two equal leaves must be folded: write '{leaf}' for '{pair}'")
     if tall is not None:
-        raise TreeFault(tall, f"the tree is too tall: at most {tallest} pairs may stand one in the other")
+        raise TreeFault(TOO_TALL, tall, f"the tree is too tall: at most {tallest} pairs may stand one in the other")
     return leaves
 
 

@@ -9,6 +9,10 @@ STATUSES = ["0  yes", "1  no", "2  refused, or an error", "3  the answer could n
 WORKED = """printed no_clause joined_to_itself doubled three_not_empty five_not_empty not_the_left_half undefined_join
 no_first_solution left_half_not_inside can_be_split may_be_empty half_not_empty half_not_full""".split()
 
+# The longest tree text of a constant, and one of 97 characters without its last leaf.
+LONGEST_TREE = "(((((o*)(o*))((o*)(o*)))(((o*)(o*))((o*)(o*))))((((o*)(o*))((o*)(o*)))(((o*)(o*))((o*)(o*)))))"
+LONG_TREE = "(o" * 32 + "{}" + ")" * 32
+
 # A text, and its bytes in hexadecimal.
 BYTES = [
     ("satisfiable", "01 00 00 00 00"),
@@ -64,6 +68,7 @@ BYTES = [
     ("satisfiable\nlet unused = ((o*)(*o))", "01 00 00 00 03 00 FF FF 00 00"),
     ("satisfiable\nlet low = (((((*o)o)o)o)o)\nlet high = (o(o(o(o(o*)))))", "01 00 00 00 03 01 00 00 00 03 00 00 00 80 00"),
     ("satisfiable\nlet mixed = ((*(o*))(o(*o)))", "01 00 00 00 03 FF F0 00 0F 00"),
+    (f"satisfiable\nlet longest = {LONGEST_TREE}", "01 00 00 00 03 AA AA AA AA 00"),
 ]
 
 NAME = "a name (letters a to z, digits and '_', no digit first)"
@@ -75,6 +80,7 @@ NOT_WITH = "that shares may not be held together cannot be said as one clause: g
     "'p join q is a', 'p join r is b' and 'p may read'"
 OF_A_JOIN = "give the join a variable of its own, as in 'a join b is t', and write"
 TWICE = "two negations: write"
+TOO_LONG = "no tree text: it is too long: a folded tree with at most 5 pairs one in the other has at most 94 characters"
 VERBS = "'join', 'is', 'may' or 'with'"
 CLAUSE = "satisfiable\nfree a b c\n"
 
@@ -131,7 +137,15 @@ FAULTS = [
     (CLAUSE + "a is " + "( " * 5000, "3:7: no tree text: it ends before the tree does"),
     (CLAUSE + "a is *o", "3:7: no tree text: the tree ends before this character"),
     (CLAUSE + "a is )", "3:6: no tree text: '(', 'o' or '*' is due here, not ')'"),
-    (CLAUSE + "a is " + "(" * 5000, "3:5006: no tree text: it ends before the tree does"),
+    # Trees that are too long: nothing can stand at the 95th character.
+    (CLAUSE + "a is " + "(" * 5000, f"3:100: {TOO_LONG}"),
+    (CLAUSE + "a is " + "(" * 94 + "\u00e4", f"3:100: {TOO_LONG}"),
+    (CLAUSE + "a is " + "(" * 94, "3:100: no tree text: it ends before the tree does"),
+    (CLAUSE + "a is " + "(" * 93 + "\u00e4", "3:99: no tree text: '(', 'o' or '*' is due here, not '\u00e4'"),
+    (CLAUSE + f"a is {LONGEST_TREE}o", "3:100: no tree text: the tree ends before this character"),
+    (CLAUSE + "a is " + LONG_TREE.format("*"), f"3:100: {TOO_LONG}"),
+    ("satisfiable\nlet L = " + LONG_TREE.format("o"), f"2:103: {TOO_LONG}"),
+    ("satisfiable\nlet L = " + LONG_TREE.format(" *"), "2:73: tree text has no spaces"),
     ("satisfiable\nlet L = (oo)", "2:9: a pair of two equal leaves must be folded: write 'o' for '(oo)'"),
     (CLAUSE + "a is (o(*(**)))", "3:10: a pair of two equal leaves must be folded: write '*' for '(**)'"),
     (CLAUSE + "a is ((((((oo)o)o)o)o)o)", "3:11: a pair of two equal leaves must be folded: write 'o' for '(oo)'"),

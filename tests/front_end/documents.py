@@ -8,7 +8,7 @@ from commands import KEYS
 from front_end.answer import MEANINGS
 from front_end.question import CLAUSES, OPERANDS, read_question
 from front_end.text import RESERVED, read_text
-from harness import TOP, check, command, program
+from harness import TOP, check, command, library_reads, program
 from texts import constant_question
 
 
@@ -36,12 +36,19 @@ def tables(markdown):
             yield dict(zip(heads, cells))
 
 
+def example(cell, repeated):
+    """An example, with what is to be repeated written out."""
+    return "" if cell == "no byte" else re.sub(repeated, lambda found: found[1] * int(found[2]), cell.strip("`"))
+
+
 def example_bytes(cell):
     """The bytes of an example: hexadecimal, with (..)×N for N times over."""
-    if cell == "no byte":
-        return b""
-    text = re.sub(r"\(([0-9A-F ]+)\)×(\d+)", lambda found: (found[1] + " ") * int(found[2]), cell.strip("`"))
-    return bytes.fromhex(text)
+    return bytes.fromhex(example(cell, r"\(([0-9A-F ]+)\)×(\d+)"))
+
+
+def library_gives(cell):
+    """What the library's call gives for the tree text of an example, with [..]×N for N times over."""
+    return library_reads([example(cell, r"\[(.+?)\]×(\d+)").encode()])[0]
 
 
 def packed(lines):
@@ -111,6 +118,21 @@ def test_format():
     due = {"answer no", "v00 (o*)", "reason 0", "reason 1", "reason 2", "reason 3 1", "tree", "join", "height"}
     due |= {f"4.5.{sentence}" for sentence in range(1, 6)} | {f"`{command}`" for command in ("30", "31", "32", "38", "39", "3A")}
     check("FORMAT.md has an example of everything", due | {f"refused {number}" for number in range(1, 11)}, set(seen))
+
+
+def test_format_constants():
+    """The examples of tree text in docs/FORMAT.md are what the library's call gives."""
+    columns = {"tree text": "constant", "text": "zimorgal_constant", "without the first": "zimorgal_constant then"}
+    seen = set()
+    for row in tables((TOP / "docs" / "FORMAT.md").read_text()):
+        given = {due: library_gives(row[text]) for text, due in columns.items() if text in row and due in row}
+        for due, number in given.items():
+            check(f"FORMAT.md, {' | '.join(row.values())}: {due}", number, int(row[due].strip("`"), 16))
+        if "zimorgal_constant" in row:
+            refusals = " before ".join(str(number >> 32) for number in given.values())
+            check(f"FORMAT.md, {' | '.join(row.values())}: number", row["number"], refusals)
+            seen.add(refusals)
+    check("FORMAT.md has each refusal of a text and each order of two", seen, {"15", "16", "17", "15 before 16", "15 before 17", "16 before 17"})
 
 
 def test_format_text():

@@ -11,6 +11,7 @@ from unittest import mock
 
 TOP = Path(__file__).resolve().parent.parent.parent
 FOLDER = tempfile.TemporaryDirectory()  # the commands run here, and tests write their files here
+READER = Path(FOLDER.name, "read_constants")  # a program that calls the library
 passed = failed = 0
 
 
@@ -78,3 +79,15 @@ def program_says(string):
     """Its first line, or only 'answer' where it answers."""
     said = program(string)[0]
     return "answer" if said in ("answer yes", "answer no") else said
+
+
+def build_reader(archive):
+    """Compiles the program that calls the library."""
+    strict = ["-std=c99", "-Wall", "-Wextra", "-Werror", "-pedantic", "-Wconversion", f"-I{TOP / 'include'}"]
+    subprocess.run(["cc", *strict, TOP / "tests" / "front_end" / "read_constants.c", archive, "-o", READER], check=True)
+
+
+def library_reads(texts):
+    """What the library's call on tree text gives for each of some byte strings."""
+    given = b"".join(b"%d:%b" % (len(text), text) for text in texts)
+    return [int(line, 16) for line in subprocess.run([READER], input=given, stdout=subprocess.PIPE, check=True).stdout.split()]

@@ -32,12 +32,12 @@ def random_question(random):
     return bytes(string + [0x00])
 
 
-def damaged(random, string):
-    """A string after one to three changes; some are taken from strings at a limit."""
+def damaged(random, string, likely=LIKELY):
+    """A string after one to three changes, which put in likely bytes; some are taken from strings at a limit."""
     string = bytearray(string)
     for _ in range(random.randrange(1, 4)):
         at = random.randrange(len(string) + 1)
-        byte = random.choice(LIKELY)
+        byte = random.choice(likely)
         change = random.randrange(6)
         if change == 0:
             string[at:] = b""
