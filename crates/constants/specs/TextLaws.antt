@@ -19,18 +19,18 @@ use Rattle.constants.specs.Parts.{Stands, Tells}
 use Rattle.constants.specs.LeavesLaws.{leaves-lt, leaves-number, leaves-tree}
 use Rattle.constants.specs.declared.Part.{Part}
 use Rattle.constants.specs.declared.Found.the-variants as found
-use Rattle.constants.specs.declared.FromText.the-variants.{Constant, NoTree, Foldable, TooTall}
+use Rattle.constants.specs.declared.FromText.the-variants.{Constant, NotTreeText, NotFolded, TooTall}
 
 module _ (k : ℕ) (s : List ℕ) where
-  pub text-long : longestText k < length s → fromText k s ≡ NoTree
+  pub text-long : longestText k < length s → fromText k s ≡ NotTreeText
   unfolding fromText
   text-long l = rw (lt-ltb (longestText k) (length s) l)
 
-  pub text-none : ¬ TreeText s → fromText k s ≡ NoTree
+  pub text-none : ¬ TreeText s → fromText k s ≡ NotTreeText
   unfolding fromText
   text-none n = go (ltb (longestText k) (length s)) (isTreeText s)
     where
-      go : (b : Bool) (d : Dec (TreeText s)) → cond b NoTree (ofTree k d) ≡ NoTree
+      go : (b : Bool) (d : Dec (TreeText s)) → cond b NotTreeText (ofTree k d) ≡ NotTreeText
       go true d = refl
       go false (yes t) = absurd (n t)
       go false (no m) = refl
@@ -61,9 +61,9 @@ module _ (s : List ℕ) where
 -- ---- by the tests of a tree
 
 module _ (k : ℕ) (t : Tree) where
-  pub tree-foldable : isFolded t ≡ false → fromTree k t ≡ Foldable
+  pub tree-not-folded : isFolded t ≡ false → fromTree k t ≡ NotFolded
   unfolding fromTree
-  tree-foldable f = rw f
+  tree-not-folded f = rw f
 
   pub tree-tall : isFolded t ≡ true → k < height t → fromTree k t ≡ TooTall
   unfolding fromTree
@@ -89,14 +89,14 @@ unfolding fromText fromTree
 read-written k s n e = go (ltb (longestText k) (length s)) (isTreeText s) e
   where
     by-tree : (t : Tree) → text t ≡ s → (f : Bool) → isFolded t ≡ f → (b : Bool) → leb (height t) k ≡ b
-        → cond f (cond b (Constant (leavesNumber k t)) TooTall) Foldable ≡ Constant n → (n < 2 ^ (2 ^ k)) × (text (numberTree k n) ≡ s)
+        → cond f (cond b (Constant (leavesNumber k t)) TooTall) NotFolded ≡ Constant n → (n < 2 ^ (2 ^ k)) × (text (numberTree k n) ≡ s)
     by-tree t w true ef true eb e =
         let same : leavesNumber k t ≡ n = ap constantGiven e in
         (rw (← same) (leaves-lt k t), ap (λ n. text (numberTree k n)) (sym same) ∙ ap text (leaves-tree k t (folded-iff t .0 (of-true ef)) (leb-true (height t) k eb)) ∙ w)
     by-tree t w true ef false eb e = absurd (omega (arith, ap constantRefusal e))
     by-tree t w false ef b eb e = absurd (omega (arith, ap constantRefusal e))
 
-    go : (b : Bool) (d : Dec (TreeText s)) → cond b NoTree (ofTree k d) ≡ Constant n → (n < 2 ^ (2 ^ k)) × (text (numberTree k n) ≡ s)
+    go : (b : Bool) (d : Dec (TreeText s)) → cond b NotTreeText (ofTree k d) ≡ Constant n → (n < 2 ^ (2 ^ k)) × (text (numberTree k n) ≡ s)
     go true d e = absurd (omega (arith, ap constantRefusal e))
     go false (yes (t, w)) e = by-tree t w _ refl _ refl e
     go false (no m) e = absurd (omega (arith, ap constantRefusal e))

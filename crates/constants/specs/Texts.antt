@@ -9,20 +9,20 @@ use Rattle.shares.specs.Constant.{numberOf}
 use Rattle.shares.specs.Text.{TreeText, longestText}
 use Rattle.constants.specs.Begins.{isTreeText}
 use Rattle.constants.specs.declared.FromText.{FromText}
-use Rattle.constants.specs.declared.FromText.the-variants.{Constant, NoTree, Foldable, TooTall}
+use Rattle.constants.specs.declared.FromText.the-variants.{Constant, NotTreeText, NotFolded, TooTall}
 
 -- the refusal number: 0 where the text was read
 abbrev pub constantRefusal : FromText → ℕ
 constantRefusal (Constant n) = 0
-constantRefusal NoTree = 15
-constantRefusal Foldable = 16
+constantRefusal NotTreeText = 15
+constantRefusal NotFolded = 16
 constantRefusal TooTall = 17
 
 -- the constant given: a refusal gives 0
 abbrev pub constantGiven : FromText → ℕ
 constantGiven (Constant n) = n
-constantGiven NoTree = 0
-constantGiven Foldable = 0
+constantGiven NotTreeText = 0
+constantGiven NotFolded = 0
 constantGiven TooTall = 0
 
 -- the number that has leaf i of a tree, unfolded to height k, at bit i
@@ -31,13 +31,13 @@ leavesNumber k t = numberOf (2 ^ k) (leafAt k t)
 
 -- what a tree gives, where constants have k levels: 16 if some pair could be folded, then 17 if it is taller, or its leaves
 unfoldable pub fromTree : ℕ → Tree → FromText
-fromTree k t = cond (isFolded t) (cond (leb (height t) k) (Constant (leavesNumber k t)) TooTall) Foldable
+fromTree k t = cond (isFolded t) (cond (leb (height t) k) (Constant (leavesNumber k t)) TooTall) NotFolded
 
 -- what a text gives: that of its tree, 15 if it has none
 abbrev pub ofTree : (k : ℕ) {s : List ℕ} → Dec (TreeText s) → FromText
 ofTree k (yes (t, e)) = fromTree k t
-ofTree k (no n) = NoTree
+ofTree k (no n) = NotTreeText
 
 -- or if it is too long
 unfoldable pub fromText : ℕ → List ℕ → FromText
-fromText k s = cond (ltb (longestText k) (length s)) NoTree (ofTree k (isTreeText s))
+fromText k s = cond (ltb (longestText k) (length s)) NotTreeText (ofTree k (isTreeText s))

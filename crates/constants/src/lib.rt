@@ -19,8 +19,8 @@ const TALLEST: usize = 31;
 // What a text gives: the constant that it writes, or why it is turned away.
 pub enum FromText {
     Constant(u32),
-    NoTree,
-    Foldable,
+    NotTreeText,
+    NotFolded,
     TooTall,
 }
 
@@ -180,7 +180,7 @@ fn from_part(part: Part) -> FromText
         }
         return FromText::Constant(part.leaves);
     }
-    FromText::Foldable
+    FromText::NotFolded
 }
 
 // What a text gives.
@@ -188,13 +188,13 @@ pub fn from_text(text: &[u8]) -> FromText
     ensures { λ r. ⌜ r ≡ fromText constantLevels (now (text .entry)) ⌝ }
 {
     if text.len() > LONGEST_TEXT {
-        return FromText::NoTree;
+        return FromText::NotTreeText;
     }
     let Found::Tree(whole) = read_tree(text, 0, LEVELS, TALLEST) else {
-        return FromText::NoTree;
+        return FromText::NotTreeText;
     };
     if whole.end < text.len() {
-        return FromText::NoTree;
+        return FromText::NotTreeText;
     }
     from_part(whole)
 }

@@ -91,8 +91,8 @@ fn constant_number(read: FromText) -> u64
 {
     match read {
         FromText::Constant(n) => n as u64,
-        FromText::NoTree => 15 * 4294967296,
-        FromText::Foldable => 16 * 4294967296,
+        FromText::NotTreeText => 15 * 4294967296,
+        FromText::NotFolded => 16 * 4294967296,
         FromText::TooTall => 17 * 4294967296,
     }
 }

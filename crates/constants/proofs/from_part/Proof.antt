@@ -2,7 +2,7 @@
 use mathlib.Core.Path.{sym, ap, _∙_}
 use native.Mathlib.Omega.{arith}
 use Rattle.shares.specs.Constant.{constantLevels}
-use Rattle.constants.specs.TextLaws.{tree-foldable, tree-tall, tree-constant}
+use Rattle.constants.specs.TextLaws.{tree-not-folded, tree-tall, tree-constant}
 use Rattle.constants.specs.declared.FromText.the-variants.{Constant}
 use borrow.Author.Needs.{needs}
 use Rattle.constants.proofs.from_part.Statement.{statement}
@@ -18,7 +18,7 @@ returns-2 : tie.Need-returns-2
 returns-2 c t o = sym (tree-constant constantLevels t (sym (o .folded) ∙ c .before .before .if1 .taken) (omega (arith, o .height, c .if2 .left)) ∙ ap Constant (sym (o .leaves)))
 
 returns-3 : tie.Need-returns-3
-returns-3 c t o = sym (tree-foldable constantLevels t (sym (o .folded) ∙ c .if1 .left))
+returns-3 c t o = sym (tree-not-folded constantLevels t (sym (o .folded) ∙ c .if1 .left))
 
 pub from-part-spec : {M : Type 1} → statement M
 from-part-spec = tie.close (tie.spec cast-if2 returns returns-2 returns-3)
