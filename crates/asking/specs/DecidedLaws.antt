@@ -29,9 +29,9 @@ module _ (q : Question) (x : Stored) (f : Finding) (firsts : List ℕ) (D : Deci
 
   -- where a solution is shown its plan's rows are those of the solution
   pub answer-shown : shows (answerOf f) ≡ true → (plan : Plan) → Planned q plan → (free : ℕ) → free ≡ q .free → (answer : List ℕ)
-      → shown.shownAnswer free plan answer ≡ answerAfter (answered q) answer
+      → shown.shownAnswer (rowLevels (q .constants .levels)) free plan answer ≡ answerAfter (answered q) answer
   unfolding answerAfter
-  answer-shown s plan P free e answer = rw (e, ← (D .answer), s) (filled-ext rowLevels (q .free) _ _ (P .trees) answer)
+  answer-shown s plan P free e answer = rw (e, ← (D .answer), s) (filled-ext (rowLevels (q .constants .levels)) (q .free) _ _ (P .trees) answer)
 
   -- where none is the buffer is unchanged
   pub answer-kept : shows (answerOf f) ≡ false → (answer : List ℕ) → answer ≡ answerAfter (answered q) answer
@@ -39,7 +39,7 @@ module _ (q : Question) (x : Stored) (f : Finding) (firsts : List ℕ) (D : Deci
   answer-kept s answer = rw (← (D .answer), s)
 
 -- asking, once a question was read that both buffers are long enough for, and decided
-pub given-answer : (s answer work : List ℕ) (x : Reading) (clauses : List ℕ) (T : Taken s x clauses) → answerBytes ≤ length answer → workBytes ≤ length work
+pub given-answer : (s answer work : List ℕ) (x : Reading) (clauses : List ℕ) (T : Taken s x clauses) → answerBytes (T .question .constants .levels) ≤ length answer → workBytes ≤ length work
     → (sizes : Sizes) (f : Finding) (firsts : List ℕ) → DecidedFor sizes f firsts (T .question)
     → (r : Outcome)
     → ((q : Question) → SizedFor sizes q → r ≡ answerOutcome (answerOf f) (heightGiven (questionHeight q) q (answerOf f)))

@@ -57,7 +57,7 @@ in-append P (negated a ∷ s) t h k = (h .0, in-append P s t (h .1) k)
 abbrev pub size : Command → ℕ
 size Command.End = 1
 size Command.Head = 4
-size (Command.Constant x) = 1 + constantBytes
+size (Command.Constant x) = 1 + constantBytes constantLevels
 size (Command.Clause σ t a b c) = 1 + termCount t
 
 pub size-some : (c : Command) → 1 ≤ size c

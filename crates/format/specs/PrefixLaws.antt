@@ -8,7 +8,7 @@ use borrow.Author.Tests.{ltb-true, eqb-true, eqb-false, ne-eqb}
 use lib.Dec.{eqb, ltb, ltb→lt, lt→ltb}
 use lib.ListN.{length, getD, take, drop, length-take}
 use lib.Seq.{getD-take, take-take, take-all}
-use Rattle.shares.specs.Constant.{number}
+use Rattle.shares.specs.Constant.{constantLevels, number}
 use Rattle.shares.specs.Test.{same-test}
 use Rattle.systems.specs.Questions.{Question}
 use Rattle.format.specs.declared.Shape.{Shape}
@@ -115,7 +115,7 @@ module _ (s t : List ℕ) (k : ℕ) (e : take k s ≡ take k t) where
   unfolding commandOf
   command-same i Shape.End l = refl
   command-same i Shape.Head l = refl
-  command-same i Shape.Constant l = ap (λ p. Command.Constant (number p)) (part-same i constantBytes k s t l e)
+  command-same i Shape.Constant l = ap (λ p. Command.Constant (number p)) (part-same i (constantBytes constantLevels) k s t l e)
   command-same i (Shape.Clause σ u) l =
       let n = termCount u in
       rw (term-byte-same i n 0 l, term-byte-same i n 1 l, term-byte-same i n 2 l) refl

@@ -58,7 +58,7 @@ answer-fits q F L = record {
   verdict = omega (arith, verdict-low (decide q));
   refusal = omega arith;
   place = omega arith;
-  height = omega (arith, height-low q F L (decide q));
+  height = omega (arith, height-low q F L (decide q), L .levels);
   reason = omega (arith, reason-low (decide q));
   number = omega (arith, number-low q L (decide q) (exact q F (decide q) .1 refl .1));
 }
@@ -74,6 +74,6 @@ outcome-fits s a w = go (read s) refl
     go : (o : Result) → read s ≡ o → InBytes (outcomeOf (lentTo o a w))
     go (refused n place) h = refusal-fits n place (omega (arith, refusal-number s n place h)) (refusal-place s n place h)
     go (accepted q) h =
-        cond-law M (ltb a answerBytes) _ _ (λ _. refusal-fits 11 0 (omega arith) (omega arith))
+        cond-law M (ltb a (answerBytes (q .constants .levels))) _ _ (λ _. refusal-fits 11 0 (omega arith) (omega arith))
         (λ _. cond-law M (ltb w workBytes) _ _ (λ _. refusal-fits 12 0 (omega arith) (omega arith))
         (λ _. answer-fits q (accepted-formed s q h) (accepted-limited s q h)))
