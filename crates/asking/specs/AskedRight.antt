@@ -31,7 +31,8 @@ use Rattle.asking.specs.Given.{Given}
 
 module _ (q : Question) (F : WellFormed q) (L : Limited q) (answer : List ℕ) (room : answerBytes (q .constants .levels) ≤ length answer)
     (t : T (shows (decide q))) where
-  k : ℕ
+  -- the height of its rows
+  abbrev k : ℕ
   k = rowLevels (q .constants .levels)
 
   after : answerAfter (answered q) answer ≡ filledWith k (q .free) (shownTrees q) answer

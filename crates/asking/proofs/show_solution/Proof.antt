@@ -28,9 +28,9 @@ returns c =
     let plan = c .before .before .before .before in
     λ q D.
     c .before .before .write-rows .ensures
-    ∙ rw (levels-are _ _ (D .sizing .standing .stands)) at
-    (answer-shown q _ _ _ (D .decided) (sym (plan .before .before .is-shown .ensures) ∙ plan .before .if1 .taken) _ (plan .plan .ensures q D) _
-    (ap (λ s. s .free) (D .sizing .sized) ∙ D .sizing .standing .stands .free) _)
+    ∙ answer-shown q _ _ _ (D .decided) _ (levels-are _ _ (D .sizing .standing .stands))
+    (sym (plan .before .before .is-shown .ensures) ∙ plan .before .if1 .taken) _ (plan .plan .ensures q D) _
+    (ap (λ s. s .free) (D .sizing .sized) ∙ D .sizing .standing .stands .free) _
 
 returns-2 : tie.Need-returns-2
 returns-2 c = λ q D. answer-kept q _ _ _ (D .decided) (sym (c .before .is-shown .ensures) ∙ c .if1 .left) _
