@@ -255,7 +255,7 @@ module _ (s t : List ℕ) (k : ℕ) (e : take k s ≡ take k t) where
 abbrev pub enough : ℕ
 enough = 1024
 
-pub read-take : (k : ℕ) (s : List ℕ) → longest + 5 ≤ k → read s ≡ read (take k s)
+pub read-take : (k : ℕ) (s : List ℕ) → longest constantLevels + 5 ≤ k → read s ≡ read (take k s)
 read-take k s h = pick (read s) refl
   where
     pick : (r : Result) → read s ≡ r → read s ≡ read (take k s)

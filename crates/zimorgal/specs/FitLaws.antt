@@ -5,6 +5,7 @@ use Prim.Native.Nat.{ℕ, _≤_, _<_}
 use native.Mathlib.Omega.{arith}
 use lib.Dec.{ltb}
 use Rattle.shares.specs.Test.{cond-law}
+use Rattle.shares.specs.Constant.{constantLevels}
 use Rattle.leaves.specs.Heights.{anyHeight}
 use Rattle.systems.specs.Questions.{Question, WellFormed}
 use Rattle.systems.specs.Answers.{Answer, satisfied, unsatisfied, vacuous, entailed, unmet, missed, Says, verdict, reason, disequationNumber}
@@ -43,7 +44,7 @@ reason-low entailed = omega arith
 reason-low unmet = omega arith
 reason-low (missed j) = omega arith
 
-refusal-fits : (n place : ℕ) → n ≤ 12 → place ≤ longest → InBytes (outcomeOf (turnedAway n place))
+refusal-fits : (n place : ℕ) → n ≤ 12 → place ≤ longest constantLevels → InBytes (outcomeOf (turnedAway n place))
 refusal-fits n place l m = record {
   verdict = omega arith;
   refusal = omega arith;
