@@ -31,7 +31,7 @@ use Rattle.asking.specs.Given.{Given}
 
 module _ (q : Question) (F : WellFormed q) (L : Limited q) (answer : List ℕ) (room : answerBytes (q .constants .levels) ≤ length answer)
     (t : T (shows (decide q))) where
-  -- the height of its rows
+  -- their height
   abbrev k : ℕ
   k = rowLevels (q .constants .levels)
 
@@ -42,6 +42,7 @@ module _ (q : Question) (F : WellFormed q) (L : Limited q) (answer : List ℕ) (
   low : (v : ℕ) → height (shownTrees q v) ≤ heightGiven (questionHeight q) q (decide q)
   low v = shown-low (questionHeight q) q v (decide q) t
 
+  -- the buffer has room for them
   rows-fit : rowCount * bytesAt k ≤ length answer
   rows-fit = rw (row-bytes (q .constants .levels)) room
 

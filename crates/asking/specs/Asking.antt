@@ -60,7 +60,7 @@ outcomeOf (answered q) = answerOutcome (decide q) (heightGiven (questionHeight q
 abbrev pub shownTrees : Question → ℕ → Tree
 shownTrees q v = shownAt (questionHeight q) q v .tree
 
--- the answer buffer: a shown solution fills the bytes of its rows, a row for each variable, zero if it is no free one; otherwise it is unchanged
+-- the answer buffer: a shown solution fills its first bytes, 1,536 at 5 levels, a row for each variable, zero if it is no free one; otherwise it is unchanged
 unfoldable pub answerAfter : Asked → List ℕ → List ℕ
 answerAfter (turnedAway n place) answer = answer
 answerAfter (answered q) answer = cond (shows (decide q)) (filledWith (rowLevels (q .constants .levels)) (q .free) (shownTrees q) answer) answer

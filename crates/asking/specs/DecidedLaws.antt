@@ -28,11 +28,12 @@ module _ (q : Question) (x : Stored) (f : Finding) (firsts : List ℕ) (D : Deci
   outcome-same = ap (λ a. answerOutcome a (heightGiven (questionHeight q) q a)) (D .answer)
 
   -- where a solution is shown its plan's rows are those of the solution
-  pub answer-shown : (levels : ℕ) → q .constants .levels ≡ levels → shows (answerOf f) ≡ true → (plan : Plan) → Planned q plan → (free : ℕ) → free ≡ q .free → (answer : List ℕ)
-      → shown.shownAnswer (rowLevels levels) free plan answer ≡ answerAfter (answered q) answer
+  pub answer-shown : (levels : ℕ) → q .constants .levels ≡ levels → shows (answerOf f) ≡ true → (plan : Plan) → Planned q plan
+      → (free : ℕ) → free ≡ q .free → (answer : List ℕ) → shown.shownAnswer (rowLevels levels) free plan answer ≡ answerAfter (answered q) answer
   unfolding answerAfter
   answer-shown levels same s plan P free e answer =
-      ap (λ l. shown.shownAnswer (rowLevels l) free plan answer) (sym same) ∙ rw (e, ← (D .answer), s) (filled-ext (rowLevels (q .constants .levels)) (q .free) _ _ (P .trees) answer)
+      ap (λ l. shown.shownAnswer (rowLevels l) free plan answer) (sym same)
+      ∙ rw (e, ← (D .answer), s) (filled-ext (rowLevels (q .constants .levels)) (q .free) _ _ (P .trees) answer)
 
   -- where none is the buffer is unchanged
   pub answer-kept : shows (answerOf f) ≡ false → (answer : List ℕ) → answer ≡ answerAfter (answered q) answer

@@ -19,7 +19,7 @@ numberOf (suc w) f = numberOf w (λ i. f (suc i)) * 2 + one (f 0)
 abbrev pub numberTree : ℕ → ℕ → Tree
 numberTree k n = treeOf k (bit n)
 
--- a constant has 32 leaves, 2 ^ 5: it is the tree of a number at this many levels, and at most this tall
+-- a constant has 32 leaves: it is the tree of its number at this many levels, and at most this tall
 abbrev pub constantLevels : ℕ
 constantLevels = 5
 

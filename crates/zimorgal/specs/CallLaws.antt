@@ -51,17 +51,17 @@ not-both t e = let z : _≡_ {A = ℕ} 0 1 = cc in omega arith
 
 -- a number up to that of no join is known by the join that it stands for, so the join call's contract leaves one number
 pub join-only : (levels n m : ℕ) → n ≤ undefinedJoin levels → m ≤ undefinedJoin levels → numberJoin levels n ≡ numberJoin levels m → n ≡ m
-join-only levels n m ln lm e = go (ℕ-discrete n none-join) (ℕ-discrete m none-join)
+join-only levels n m ln lm e = go (ℕ-discrete n no-join) (ℕ-discrete m no-join)
   where
-    none-join : ℕ
-    none-join = undefinedJoin levels
+    no-join : ℕ
+    no-join = undefinedJoin levels
 
-    go : Dec (n ≡ none-join) → Dec (m ≡ none-join) → n ≡ m
+    go : Dec (n ≡ no-join) → Dec (m ≡ no-join) → n ≡ m
     go (yes a) (yes b) = omega arith
-    go (yes a) (no b) = absurd (not-both _ (rw (eq-eqb n none-join a, ne-eqb m none-join b) at e))
-    go (no a) (yes b) = absurd (not-both _ (sym (rw (ne-eqb n none-join a, eq-eqb m none-join b) at e)))
+    go (yes a) (no b) = absurd (not-both _ (rw (eq-eqb n no-join a, ne-eqb m no-join b) at e))
+    go (no a) (yes b) = absurd (not-both _ (sym (rw (ne-eqb n no-join a, eq-eqb m no-join b) at e)))
     go (no a) (no b) =
-        let same : numberTree levels n ≡ numberTree levels m = Option·some-injective _ _ (rw (ne-eqb n none-join a, ne-eqb m none-join b) at e) in
+        let same : numberTree levels n ≡ numberTree levels m = Option·some-injective _ _ (rw (ne-eqb n no-join a, ne-eqb m no-join b) at e) in
         bits-same (2 ^ levels) n m (omega arith) (omega arith)
         (λ i l. sym (leafAt-treeOf levels (bit n) i l) ∙ ap (λ t. leafAt levels t i) same ∙ leafAt-treeOf levels (bit m) i l)
 

@@ -19,7 +19,7 @@ textNumber w = textLength w + 2 ^ 32 * textRefusal w
 
 -- the number of no join, where constants have so many levels: one past the largest constant, 2 ^ 32 at 5 levels
 abbrev pub undefinedJoin : ℕ → ℕ
-undefinedJoin levels = 2 ^ 2 ^ levels
+undefinedJoin levels = 2 ^ (2 ^ levels)
 
 -- the tree that the number of a join of such constants stands for
 abbrev pub numberJoin : ℕ → ℕ → Option Tree

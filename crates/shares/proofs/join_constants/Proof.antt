@@ -20,7 +20,7 @@ add-t5 c =
     omega (arith, or-disjoint a b (c .if1 .taken), or-lt 32 a b (omega arith) (omega arith))
 
 -- what either answer stands for
-joined : (levels a b : ℕ) → a < 2 ^ 2 ^ levels → b < 2 ^ 2 ^ levels → (t : Bool) → eqb (bitAnd a b) 0 ≡ t
+joined : (levels a b : ℕ) → a < 2 ^ (2 ^ levels) → b < 2 ^ (2 ^ levels) → (t : Bool) → eqb (bitAnd a b) 0 ≡ t
     → cond t (some (numberTree levels (a + b))) none ≡ join (numberTree levels a) (numberTree levels b)
 joined levels a b ha hb t e = sym (join-numbers levels a b ha hb ∙ ap (λ (t : Bool). cond t (some (numberTree levels (a + b))) none) e)
 

@@ -25,7 +25,7 @@ text-length-requires c κs = row-inside _ (c .before .before .pre)
 returns-2 : tie.Need-returns-2
 returns-2 c =
     let start = c .before .before .before in
-    ap (λ (n : ℕ). leb n (start .args .room)) (c .text-length .ensures .0 ∙ ap length (row-text (start .args .row .now)))
+    ap (λ (n : ℕ). leb n (start .args .room)) (c .text-length .ensures .0 ∙ ap length (row-text _ (start .args .row .now)))
 
 pub text-fits-spec : {M : Type 1} → statement M
 text-fits-spec = tie.close (tie.spec returns text-length-requires returns-2)
