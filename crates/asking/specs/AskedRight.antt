@@ -1,10 +1,10 @@
 -- The theorems of asking: what it gives and shows for an answered question is exact, and the rule of heights holds of it. Assumes nothing.
 use mathlib.Core.Path.{_≡_, refl, sym, ap, _∙_, subst, subst₂, fun-ext}
 use mathlib.Core.List.{List}
-use Prim.Native.Nat.{ℕ, _≤_}
+use Prim.Native.Nat.{ℕ, _*_, _≤_}
 use native.Mathlib.Nat.{le-trans}
 use native.Mathlib.Omega.{arith}
-use lib.Dec.{T, lit≤}
+use lib.Dec.{T}
 use lib.ListN.{length}
 use Rattle.shares.specs.Test.{is-true}
 use Rattle.shares.specs.Tree.{height}
@@ -18,8 +18,8 @@ use Rattle.systems.specs.Decide.{decide, shownAt}
 use Rattle.systems.specs.ShownLaws.{shown-past, shown-low, shown-fixed}
 use Rattle.systems.specs.Heights.{height-rule, exact, verdict-exact}
 use Rattle.format.specs.FormatLaws.{Limited, accepted-formed, accepted-limited}
-use Rattle.rows.specs.Rows.{rowLevels, answerBytes, filledWith}
-use Rattle.rows.specs.RowLaws.{filled-tree, filled-zero}
+use Rattle.rows.specs.Rows.{rowLevels, rowCount, bytesAt, answerBytes, zeros, filledWith}
+use Rattle.rows.specs.RowLaws.{row-bytes, filled-tree, filled-zero}
 use Rattle.asking.specs.Asking.{Asked, turnedAway, answered, askedWith, refusalOutcome, outcomeOf, shownTrees, answerAfter, workAfter}
 use Rattle.asking.specs.AskingLaws.{granted, height-low}
 use Rattle.asking.specs.declared.Outcome.{Outcome}
@@ -29,18 +29,27 @@ use Rattle.asking.specs.Given.{Given}
 
 -- ---- the rows of the solution that is shown
 
-module _ (q : Question) (F : WellFormed q) (L : Limited q) (answer : List ℕ) (room : answerBytes ≤ length answer) (t : T (shows (decide q))) where
-  after : answerAfter (answered q) answer ≡ filledWith rowLevels (q .free) (shownTrees q) answer
+module _ (q : Question) (F : WellFormed q) (L : Limited q) (answer : List ℕ) (room : answerBytes (q .constants .levels) ≤ length answer)
+    (t : T (shows (decide q))) where
+  -- their height
+  abbrev k : ℕ
+  k = rowLevels (q .constants .levels)
+
+  after : answerAfter (answered q) answer ≡ filledWith k (q .free) (shownTrees q) answer
   unfolding answerAfter
   after = rw (is-true (shows (decide q)) t)
 
   low : (v : ℕ) → height (shownTrees q v) ≤ heightGiven (questionHeight q) q (decide q)
   low v = shown-low (questionHeight q) q v (decide q) t
 
+  -- the buffer has room for them
+  rows-fit : rowCount * bytesAt k ≤ length answer
+  rows-fit = rw (row-bytes (q .constants .levels)) room
+
   -- they are those of its shares
-  rows-are : rowShares (answerAfter (answered q) answer) ≡ shownAt (questionHeight q) q
+  rows-are : rowShares (q .constants .levels) (answerAfter (answered q) answer) ≡ shownAt (questionHeight q) q
   rows-are = rw after (fun-ext (λ v. share-path _ _
-      (filled-tree rowLevels (q .free) (shownTrees q) answer room (lit≤ tt) (omega (arith, L .variables)) v (shownAt (questionHeight q) q v .folded)
+      (filled-tree k (q .free) (shownTrees q) answer rows-fit (omega arith) (omega (arith, L .variables)) v (shownAt (questionHeight q) q v .folded)
       (le-trans (low v) (height-low q F L (decide q))) (shown-past (questionHeight q) q v (decide q)))))
 
   filled : RowsShow q (decide q) (answerAfter (answered q) answer)
@@ -48,7 +57,7 @@ module _ (q : Question) (F : WellFormed q) (L : Limited q) (answer : List ℕ) (
     fixed = rw rows-are (shown-fixed (questionHeight q) q t);
     solution = rw rows-are (height-rule q F .shown t);
     low = λ v. subst (λ σ. height (σ v .tree) ≤ heightGiven (questionHeight q) q (decide q)) (sym rows-are) (low v);
-    others = λ v l m. rw after (filled-zero rowLevels (q .free) (shownTrees q) answer room v l m);
+    others = λ v l m. rw after (filled-zero k (q .free) (shownTrees q) answer rows-fit v l m ∙ ap zeros (row-bytes (q .constants .levels)));
   }
 
 -- ---- the theorems
@@ -85,7 +94,7 @@ module _ (s answer work : List ℕ) (q : Question) (e : askedWith s answer work 
       limited : Limited q
       limited = accepted-limited s q (granted s (length answer) (length work) q e .taken)
 
-      room : answerBytes ≤ length answer
+      room : answerBytes (q .constants .levels) ≤ length answer
       room = granted s (length answer) (length work) q e .answer
 
 -- ---- what asking has to give, leave in the lent bytes, and mean

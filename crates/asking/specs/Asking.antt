@@ -27,7 +27,7 @@ pub data Asked : Type 0 where
 abbrev pub lentTo : Result → ℕ → ℕ → Asked
 lentTo (refused n place) answer work = turnedAway n place
 lentTo (accepted q) answer work =
-    cond (ltb answer answerBytes) (turnedAway 11 0)
+    cond (ltb answer (answerBytes (q .constants .levels))) (turnedAway 11 0)
     (cond (ltb work workBytes) (turnedAway 12 0)
     (answered q))
 
@@ -60,10 +60,10 @@ outcomeOf (answered q) = answerOutcome (decide q) (heightGiven (questionHeight q
 abbrev pub shownTrees : Question → ℕ → Tree
 shownTrees q v = shownAt (questionHeight q) q v .tree
 
--- the answer buffer: a shown solution fills its first 1,536 bytes, a row for each variable, zero if it is no free one; otherwise it is unchanged
+-- the answer buffer: a shown solution fills its first bytes, 1,536 at 5 levels, a row for each variable, zero if it is no free one; otherwise it is unchanged
 unfoldable pub answerAfter : Asked → List ℕ → List ℕ
 answerAfter (turnedAway n place) answer = answer
-answerAfter (answered q) answer = cond (shows (decide q)) (filledWith rowLevels (q .free) (shownTrees q) answer) answer
+answerAfter (answered q) answer = cond (shows (decide q)) (filledWith (rowLevels (q .constants .levels)) (q .free) (shownTrees q) answer) answer
 
 -- the work area: after a yes or no its first 4,096 bytes are zero, otherwise it is unchanged
 unfoldable pub workAfter : Asked → List ℕ → List ℕ

@@ -26,22 +26,22 @@ module _ (s : List ℕ) (a w : ℕ) where
   asked-refused n place e = rw e
 
   module _ (q : Question) (e : read s ≡ accepted q) where
-    pub asked-11 : a < answerBytes → asked s a w ≡ turnedAway 11 0
+    pub asked-11 : a < answerBytes (q .constants .levels) → asked s a w ≡ turnedAway 11 0
     unfolding asked
-    asked-11 l = rw (e, lt-ltb a answerBytes l)
+    asked-11 l = rw (e, lt-ltb a (answerBytes (q .constants .levels)) l)
 
-    pub asked-12 : answerBytes ≤ a → w < workBytes → asked s a w ≡ turnedAway 12 0
+    pub asked-12 : answerBytes (q .constants .levels) ≤ a → w < workBytes → asked s a w ≡ turnedAway 12 0
     unfolding asked
-    asked-12 l m = rw (e, le-ltb a answerBytes l, lt-ltb w workBytes m)
+    asked-12 l m = rw (e, le-ltb a (answerBytes (q .constants .levels)) l, lt-ltb w workBytes m)
 
-    pub asked-answered : answerBytes ≤ a → workBytes ≤ w → asked s a w ≡ answered q
+    pub asked-answered : answerBytes (q .constants .levels) ≤ a → workBytes ≤ w → asked s a w ≡ answered q
     unfolding asked
-    asked-answered l m = rw (e, le-ltb a answerBytes l, le-ltb w workBytes m)
+    asked-answered l m = rw (e, le-ltb a (answerBytes (q .constants .levels)) l, le-ltb w workBytes m)
 
 -- a question that is answered was accepted, and the buffers are long enough
 pub record Granted (s : List ℕ) (a w : ℕ) (q : Question) : Type 0 where
   pub taken : read s ≡ accepted q
-  pub answer : answerBytes ≤ a
+  pub answer : answerBytes (q .constants .levels) ≤ a
   pub work : workBytes ≤ w
 
 same-question : (q p : Question) → answered q ≡ answered p → q ≡ p
@@ -52,25 +52,27 @@ never n place q e = let z : _≡_ {A = ℕ} 0 1 = cc in absurd (omega arith)
 
 pub granted : (s : List ℕ) (a w : ℕ) (q : Question) → asked s a w ≡ answered q → Granted s a w q
 unfolding asked
-granted s a w q e = go (read s) refl (ltb a answerBytes) refl (ltb w workBytes) refl e
+granted s a w q e = go (read s) refl e
   where
-    go : (o : Result) → read s ≡ o → (x : Bool) → ltb a answerBytes ≡ x → (y : Bool) → ltb w workBytes ≡ y
-        → lentTo o a w ≡ answered q → Granted s a w q
-    go (refused n place) h x hx y hy k = never n place q k
-    go (accepted p) h true hx y hy k = never 11 0 q (rw hx at k)
-    go (accepted p) h false hx true hy k = never 12 0 q (rw (hx, hy) at k)
-    go (accepted p) h false hx false hy k = record {
-      taken = h ∙ ap accepted (same-question p q (rw (hx, hy) at k));
-      answer = ltb-false a answerBytes hx;
-      work = ltb-false w workBytes hy;
-    }
+    lent : (p : Question) → read s ≡ accepted p → (x : Bool) → ltb a (answerBytes (p .constants .levels)) ≡ x → (y : Bool) → ltb w workBytes ≡ y
+        → lentTo (accepted p) a w ≡ answered q → Granted s a w q
+    lent p h true hx y hy k = never 11 0 q (rw hx at k)
+    lent p h false hx true hy k = never 12 0 q (rw (hx, hy) at k)
+    lent p h false hx false hy k =
+        let same : p ≡ q = same-question p q (rw (hx, hy) at k) in
+        record {
+          taken = h ∙ ap accepted same;
+          answer = rw (← same) (ltb-false a (answerBytes (p .constants .levels)) hx);
+          work = ltb-false w workBytes hy;
+        }
+
+    go : (o : Result) → read s ≡ o → lentTo o a w ≡ answered q → Granted s a w q
+    go (refused n place) h k = never n place q k
+    go (accepted p) h k = lent p h (ltb a (answerBytes (p .constants .levels))) refl (ltb w workBytes) refl k
 
 -- ---- the height given
 
 module _ (q : Question) (F : WellFormed q) (L : Limited q) where
-  level-low : questionHeight q ≤ 5
-  level-low = omega (arith, question-bounds q F .low, L .levels)
-
   first-low : c (firstCount q) ≤ 5
   first-low = c-most (firstCount q) 5 (omega (arith, L .sections FirstDisequation))
 
@@ -78,13 +80,13 @@ module _ (q : Question) (F : WellFormed q) (L : Limited q) where
   more-low = c-most (firstCount q + 1) 5 (omega (arith, L .sections FirstDisequation))
 
   -- the height given is at most that of a row
-  pub height-low : (a : Answer) → heightGiven (questionHeight q) q a ≤ rowLevels
-  height-low satisfied = omega (arith, level-low, first-low)
+  pub height-low : (a : Answer) → heightGiven (questionHeight q) q a ≤ rowLevels (q .constants .levels)
+  height-low satisfied = omega (arith, question-bounds q F .low, first-low)
   height-low unsatisfied = omega arith
   height-low vacuous = omega arith
   height-low entailed = omega arith
-  height-low unmet = omega (arith, level-low, more-low)
-  height-low (missed j) = omega (arith, level-low, more-low)
+  height-low unmet = omega (arith, question-bounds q F .low, more-low)
+  height-low (missed j) = omega (arith, question-bounds q F .low, more-low)
 
 -- ---- the work area
 

@@ -1,5 +1,5 @@
 -- From a decision to what asking gives and shows. Assumes nothing.
-use mathlib.Core.Path.{_≡_, ap, _∙_}
+use mathlib.Core.Path.{_≡_, sym, ap, _∙_}
 use mathlib.Core.Bool.{true, false}
 use mathlib.Core.List.{List, _++_}
 use Prim.Native.Nat.{ℕ, _≤_}
@@ -28,10 +28,12 @@ module _ (q : Question) (x : Stored) (f : Finding) (firsts : List ℕ) (D : Deci
   outcome-same = ap (λ a. answerOutcome a (heightGiven (questionHeight q) q a)) (D .answer)
 
   -- where a solution is shown its plan's rows are those of the solution
-  pub answer-shown : shows (answerOf f) ≡ true → (plan : Plan) → Planned q plan → (free : ℕ) → free ≡ q .free → (answer : List ℕ)
-      → shown.shownAnswer free plan answer ≡ answerAfter (answered q) answer
+  pub answer-shown : (levels : ℕ) → q .constants .levels ≡ levels → shows (answerOf f) ≡ true → (plan : Plan) → Planned q plan
+      → (free : ℕ) → free ≡ q .free → (answer : List ℕ) → shown.shownAnswer (rowLevels levels) free plan answer ≡ answerAfter (answered q) answer
   unfolding answerAfter
-  answer-shown s plan P free e answer = rw (e, ← (D .answer), s) (filled-ext rowLevels (q .free) _ _ (P .trees) answer)
+  answer-shown levels same s plan P free e answer =
+      ap (λ l. shown.shownAnswer (rowLevels l) free plan answer) (sym same)
+      ∙ rw (e, ← (D .answer), s) (filled-ext (rowLevels (q .constants .levels)) (q .free) _ _ (P .trees) answer)
 
   -- where none is the buffer is unchanged
   pub answer-kept : shows (answerOf f) ≡ false → (answer : List ℕ) → answer ≡ answerAfter (answered q) answer
@@ -39,7 +41,7 @@ module _ (q : Question) (x : Stored) (f : Finding) (firsts : List ℕ) (D : Deci
   answer-kept s answer = rw (← (D .answer), s)
 
 -- asking, once a question was read that both buffers are long enough for, and decided
-pub given-answer : (s answer work : List ℕ) (x : Reading) (clauses : List ℕ) (T : Taken s x clauses) → answerBytes ≤ length answer → workBytes ≤ length work
+pub given-answer : (s answer work : List ℕ) (x : Reading) (clauses : List ℕ) (T : Taken s x clauses) → answerBytes (T .question .constants .levels) ≤ length answer → workBytes ≤ length work
     → (sizes : Sizes) (f : Finding) (firsts : List ℕ) → DecidedFor sizes f firsts (T .question)
     → (r : Outcome)
     → ((q : Question) → SizedFor sizes q → r ≡ answerOutcome (answerOf f) (heightGiven (questionHeight q) q (answerOf f)))

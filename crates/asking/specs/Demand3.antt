@@ -14,20 +14,20 @@ use Rattle.systems.specs.HeightRule.{HeightRule}
 use Rattle.rows.specs.Rows.{rowLevels, rowBytes, rowCount, rowTree, rowPart, zeros}
 use Rattle.asking.specs.declared.Outcome.{Outcome}
 
--- the shares that the rows of an answer buffer stand for
-abbrev pub rowShares : List ℕ → Assignment
-rowShares answer v = record { tree = rowTree rowLevels (rowPart rowLevels answer v); folded = treeOf-folded rowLevels _ }
+-- the shares that the rows of an answer buffer stand for, where the constants of its question have so many levels
+abbrev pub rowShares : ℕ → List ℕ → Assignment
+rowShares levels answer v = record { tree = rowTree (rowLevels levels) (rowPart (rowLevels levels) answer v); folded = treeOf-folded (rowLevels levels) _ }
 
 -- an answer buffer shows the solution that goes with the answer a
 pub record RowsShow (q : Question) (a : Answer) (answer : List ℕ) : Type 0 where
   -- the rows' shares are the fixed ones, which are as the words say
-  pub fixed : ShownFixed (questionHeight q) q a (rowShares answer)
+  pub fixed : ShownFixed (questionHeight q) q a (rowShares (q .constants .levels) answer)
   -- they solve the first system, are no taller than the height given and, for a no, do not extend, for the reason given
-  pub solution : Shown (questionHeight q) q a (rowShares answer)
+  pub solution : Shown (questionHeight q) q a (rowShares (q .constants .levels) answer)
   -- no row is taller than the height given
-  pub low : (v : ℕ) → tree.height (rowShares answer v .tree) ≤ heightGiven (questionHeight q) q a
+  pub low : (v : ℕ) → tree.height (rowShares (q .constants .levels) answer v .tree) ≤ heightGiven (questionHeight q) q a
   -- rows of own and absent variables are zero
-  pub others : (v : ℕ) → q .free ≤ v → v < rowCount → rowPart rowLevels answer v ≡ zeros rowBytes
+  pub others : (v : ℕ) → q .free ≤ v → v < rowCount → rowPart (rowLevels (q .constants .levels)) answer v ≡ zeros (rowBytes (q .constants .levels))
 
 -- the claim: where a is the right answer to q
 pub record Demand3 (q : Question) (r : Outcome) (answer : List ℕ) : Type 0 where

@@ -7,6 +7,7 @@ ghost use mathlib.Core.Path.{_≡_};
 ghost use mathlib.Core.List.{_++_};
 ghost use Prim.Native.Nat.{_≤_};
 ghost use lib.ListN.{length, drop};
+ghost use Rattle.shares.specs.Constant.{constantLevels};
 ghost use Rattle.systems.specs.Questions as model;
 ghost use Rattle.systems.specs.Answers.{heightGiven};
 ghost use Rattle.rows.specs.Rows.{answerBytes, zeros};
@@ -81,7 +82,7 @@ fn found(sizes: Sizes, finding: Finding) -> Outcome
 
 // Shows the solution of what was found, where there is one to show.
 fn show_solution(answer: &mut [u8], sizes: Sizes, finding: Finding, firsts: &[u64; 128])
-    requires { ⌜ answerBytes ≤ length (now answer) ⌝ }
+    requires { ⌜ answerBytes constantLevels ≤ length (now answer) ⌝ }
     requires { ⌜ ((q : model.Question) × DecidedFor sizes finding (now firsts) q) ⌝ }
     ensures { λ _. ⌜ ((q : model.Question) → DecidedFor sizes finding (now (firsts .entry)) q → now (answer .exit) ≡ answerAfter (answered q) (now (answer .entry))) ⌝ }
 {

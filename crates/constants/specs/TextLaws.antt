@@ -6,6 +6,7 @@ use Prim.Native.Nat.{ℕ, _+_, _*_, _^_, _≤_, _<_}
 use native.Mathlib.Omega.{arith}
 use borrow.Author.Tests.{lt-ltb, le-ltb, le-leb, lt-leb, leb-true, ltb-false}
 use lib.Dec.{leb, ltb}
+use lib.Pow.{pow-pos}
 use lib.ListN.{length, drop, length-drop, drop-of-length-le}
 use Rattle.shares.specs.Test.{is-true, of-true}
 use Rattle.shares.specs.Tree.{Tree, isFolded, height}
@@ -19,6 +20,7 @@ use Rattle.constants.specs.Parts.{Stands, Tells}
 use Rattle.constants.specs.LeavesLaws.{leaves-lt, leaves-number, leaves-tree}
 use Rattle.constants.specs.declared.Part.{Part}
 use Rattle.constants.specs.declared.Found.the-variants as found
+use Rattle.constants.specs.declared.FromText.{FromText}
 use Rattle.constants.specs.declared.FromText.the-variants.{Constant, NotTreeText, NotFolded, TooTall}
 
 module _ (k : ℕ) (s : List ℕ) where
@@ -100,3 +102,13 @@ read-written k s n e = go (ltb (longestText k) (length s)) (isTreeText s) e
     go true d e = absurd (omega (arith, ap constantRefusal e))
     go false (yes (t, w)) e = by-tree t w _ refl _ refl e
     go false (no m) e = absurd (omega (arith, ap constantRefusal e))
+
+-- what is given is a constant of so many levels
+pub given-low : (k : ℕ) (s : List ℕ) → constantGiven (fromText k s) < 2 ^ (2 ^ k)
+given-low k s = go (fromText k s) refl
+  where
+    go : (g : FromText) → fromText k s ≡ g → constantGiven g < 2 ^ (2 ^ k)
+    go (Constant n) e = read-written k s n e .0
+    go NotTreeText e = pow-pos (2 ^ k)
+    go NotFolded e = pow-pos (2 ^ k)
+    go TooTall e = pow-pos (2 ^ k)

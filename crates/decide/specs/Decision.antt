@@ -104,6 +104,6 @@ outlineOf q search = record {
 
 -- a plan of the solution that is shown: its trees are the solution's, and its height is the one given
 pub record Planned (q : Asked) (plan : Plan) : Type 0 where
-  pub formed : shown.Showable rowLevels plan
+  pub formed : shown.Showable (rowLevels (q .constants .levels)) plan
   pub high : plan .high ≡ heightGiven (questionHeight q) q (decide q)
   pub trees : (v : ℕ) → v < q .free → shown.planTrees (q .free) plan v ≡ shownAt (questionHeight q) q v .tree

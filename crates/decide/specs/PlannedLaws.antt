@@ -32,6 +32,7 @@ use Rattle.systems.specs.AtLeaves.{firstAt}
 use Rattle.systems.specs.Decide.{canSolve, someUnmet, lowestMissed, decideKind, decide, sharesOf, fixed, shownWith}
 use Rattle.format.specs.Stored.{Stored, Stands}
 use Rattle.format.specs.KeepingLaws.{section-count}
+use Rattle.format.specs.Callers.{levels-are}
 use Rattle.format.specs.declared.Section.the-variants.{SecondDisequation}
 use Rattle.plans.specs.declared.Plan.{Plan}
 use Rattle.plans.specs.Shown as shown
@@ -125,10 +126,10 @@ module _ {kind : ℕ} (x : Stored) (q : Question) (St : Stands kind x q) where
 
       module _ (plan : Plan) (M : Made (q .free) H R k plan) where
         -- a plan of it can be shown
-        formed : shown.Showable rowLevels plan
+        formed : shown.Showable (rowLevels (q .constants .levels)) plan
         formed = record {
           below = omega (arith, M .low, M .high);
-          within = omega (arith, M .high, splits-few x q St search, question-low x q St);
+          within = omega (arith, M .high, splits-few x q St search, question-low x q St, levels-are x q St);
           blocks = omega (arith, M .low, question-low x q St);
           few = let p : 2 ^ k ≤ 2 ^ 5 = pow-mono {j = 5} (splits-few x q St search) in omega (arith, M .count, room);
           sub-leaves = λ j l.

@@ -24,7 +24,7 @@ use Rattle.format.specs.declared.Head.the-variants.{Opens, Wrong}
 use Rattle.format.specs.declared.Step.{Step}
 use Rattle.format.specs.declared.Step.the-variants.{Take, Refused}
 use Rattle.format.specs.SectionLaws.{both-counts, added, Alike, same, other, alike, constant-sections, clause-keeps}
-use Rattle.format.specs.Format.{Result, refused, accepted, mostVariables, mostConstants, constantBytes, entryOf, termCount, operands, commandOf, wholeAt, readAt, isSecond, mostOf, inSection, termOf, names, variablesFor, termNamed, allNamed, atomOf, isForeign, clauseFault, constantFault, fault, judged, begun, withFirst, withSecond, withClause, withConstant, taken, ended, Turn, go, stop, onward, turn, following, run, headFits, opened, headOf, afterHead, read}
+use Rattle.format.specs.Format.{Result, refused, accepted, mostVariables, mostConstants, mostPositive, mostDisequations, constantBytes, entryOf, termCount, operands, commandOf, wholeAt, readAt, isSecond, mostOf, inSection, termOf, names, variablesFor, termNamed, allNamed, atomOf, isForeign, clauseFault, constantFault, fault, judged, begun, withFirst, withSecond, withClause, withConstant, taken, ended, Turn, go, stop, onward, turn, following, run, headFits, opened, headOf, afterHead, read}
 
 -- ---- the statements
 
@@ -35,14 +35,14 @@ pub record Limited (q : Question) : Type 0 where
   pub constants : length (q .constants .numbers) ≤ mostConstants
   pub sections : (σ : Section) → length (inSection q σ) ≤ mostOf σ
 
--- the longest accepted question: a head, all constants, all clauses with three terms, the end
-abbrev pub longest : ℕ
-longest = 925
+-- the longest accepted question, with constants of so many levels: a head, all constants, all clauses with three terms, the end; 925 bytes at 5 levels
+abbrev pub longest : ℕ → ℕ
+longest levels = 4 + (1 + constantBytes levels) * mostConstants + 4 * (2 * (mostPositive + mostDisequations)) + 1
 
 -- what a result keeps to
 abbrev pub Kept : List ℕ → Result → Type 0
-Kept s (refused n place) = (1 ≤ n) × (n ≤ 10) × (place ≤ longest)
-Kept s (accepted q) = WellFormed q × Limited q × (length s ≤ longest)
+Kept s (refused n place) = (1 ≤ n) × (n ≤ 10) × (place ≤ longest constantLevels)
+Kept s (accepted q) = WellFormed q × Limited q × (length s ≤ longest constantLevels)
 
 -- ---- a system with one clause more
 
@@ -57,7 +57,7 @@ in-append P (negated a ∷ s) t h k = (h .0, in-append P s t (h .1) k)
 abbrev pub size : Command → ℕ
 size Command.End = 1
 size Command.Head = 4
-size (Command.Constant x) = 1 + constantBytes
+size (Command.Constant x) = 1 + constantBytes constantLevels
 size (Command.Clause σ t a b c) = 1 + termCount t
 
 pub size-some : (c : Command) → 1 ≤ size c
@@ -208,10 +208,10 @@ in-test P n k f t a b c h = go t (each-named n k t a b c h)
 pub record Sound (q : Question) (at : ℕ) : Type 0 where
   pub formed : WellFormed q
   pub limited : Limited q
-  pub reach : at ≤ 4 + 5 * length (q .constants .numbers) + 4 * (length (q .first) + length (q .second))
+  pub reach : at ≤ 4 + (1 + constantBytes constantLevels) * length (q .constants .numbers) + 4 * (length (q .first) + length (q .second))
 
 -- so reading stands before the last byte of the longest question
-pub sound-place : (q : Question) (at : ℕ) → Sound q at → at < longest
+pub sound-place : (q : Question) (at : ℕ) → Sound q at → at < longest constantLevels
 sound-place q at d =
     omega (
       arith,
@@ -229,7 +229,7 @@ none-in : (P : Term → Type 0) (s : System) → length s ≡ 0 → InSystem P s
 none-in P [] e = tt
 none-in P (c ∷ s) e = absurd (omega arith)
 
-sound-constant : (q : Question) (at x : ℕ) → Sound q at → ConstantFits q → Sound (withConstant q x) (at + 5)
+sound-constant : (q : Question) (at x : ℕ) → Sound q at → ConstantFits q → Sound (withConstant q x) (at + (1 + constantBytes constantLevels))
 sound-constant q at x d f = record {
   formed = record {
     alone = d .formed .alone;
@@ -435,11 +435,11 @@ accepted-formed s q e = subst (Kept s) e (read-kept s) .0
 pub accepted-limited : (s : List ℕ) (q : Question) → read s ≡ accepted q → Limited q
 accepted-limited s q e = subst (Kept s) e (read-kept s) .1
 
-pub accepted-short : (s : List ℕ) (q : Question) → read s ≡ accepted q → length s ≤ longest
+pub accepted-short : (s : List ℕ) (q : Question) → read s ≡ accepted q → length s ≤ longest constantLevels
 accepted-short s q e = subst (Kept s) e (read-kept s) .2
 
 pub refusal-number : (s : List ℕ) (n place : ℕ) → read s ≡ refused n place → (1 ≤ n) × (n ≤ 10)
 refusal-number s n place e = let k = subst (Kept s) e (read-kept s) in (k .0, k .1)
 
-pub refusal-place : (s : List ℕ) (n place : ℕ) → read s ≡ refused n place → place ≤ longest
+pub refusal-place : (s : List ℕ) (n place : ℕ) → read s ≡ refused n place → place ≤ longest constantLevels
 refusal-place s n place e = subst (Kept s) e (read-kept s) .2

@@ -61,7 +61,7 @@ take-bytes (suc n) (a ∷ l) h (suc j) = take-bytes n l (λ i. h (suc i)) j
 abbrev pub Proper : Command → Type 0
 Proper Command.End = Unit {0}
 Proper Command.Head = Unit {0}
-Proper (Command.Constant x) = x < 2 ^ (8 * constantBytes)
+Proper (Command.Constant x) = x < 2 ^ (8 * constantBytes constantLevels)
 Proper (Command.Clause σ t a b c) = Unit {0}
 
 abbrev pub ProperStep : Step → Type 0
@@ -73,9 +73,9 @@ unfolding commandOf
 command-proper s h i Shape.End = tt
 command-proper s h i Shape.Head = tt
 command-proper s h i Shape.Constant =
-    let l = take constantBytes (drop i s) in
-    let n : 8 * length l ≤ 8 * constantBytes = simp length-take (omega arith) in
-    le-trans (number-fits l (take-bytes constantBytes (drop i s) (λ j. rw getD-drop (h (i + j))))) (pow-mono n)
+    let l = take (constantBytes constantLevels) (drop i s) in
+    let n : 8 * length l ≤ 8 * constantBytes constantLevels = simp length-take (omega arith) in
+    le-trans (number-fits l (take-bytes (constantBytes constantLevels) (drop i s) (λ j. rw getD-drop (h (i + j))))) (pow-mono n)
 command-proper s h i (Shape.Clause σ t) = tt
 
 pub read-proper : (s : List ℕ) → Bytes s → (at : ℕ) → ProperStep (readAt s at)
@@ -324,7 +324,7 @@ module _ {kind : ℕ} (x : Stored) (q : Question) (d : Stands kind x q) where
   no-clause f SecondPositive = omega (arith, section-count SecondPositive, both-counts (q .second), f .before)
   no-clause f SecondDisequation = omega (arith, section-count SecondDisequation, both-counts (q .second), f .before)
 
-  stands-constant : (v : ℕ) → v < 2 ^ (8 * constantBytes) → ConstantFits q → Stands kind (kept x (Command.Constant v)) (withConstant q v)
+  stands-constant : (v : ℕ) → v < 2 ^ (8 * constantBytes constantLevels) → ConstantFits q → Stands kind (kept x (Command.Constant v)) (withConstant q v)
   stands-constant v small f =
       let n = x .defined in
       let l = x .constants in
@@ -346,7 +346,7 @@ module _ {kind : ℕ} (x : Stored) (q : Question) (d : Stands kind x q) where
         sizes = (simp length-set (d .sizes .0), d .sizes .1, d .sizes .2);
       }
     where
-      below : (i : ℕ) → (i ≡ x .defined) ⊎ (i < x .defined) → x .defined < length (x .constants) → getD (set (x .constants) (x .defined) v) i 0 < 2 ^ (8 * constantBytes)
+      below : (i : ℕ) → (i ≡ x .defined) ⊎ (i < x .defined) → x .defined < length (x .constants) → getD (set (x .constants) (x .defined) v) i 0 < 2 ^ (8 * constantBytes constantLevels)
       below i (inl e) fits = rw e (rw (getD-set-same (x .constants) (x .defined) v 0 fits) small)
       below i (inr h) fits = rw (getD-set-other (x .constants) (x .defined) i v 0 (omega arith)) (d .small i h)
 

@@ -139,7 +139,7 @@ pub record Stands (k : ℕ) (x : Stored) (q : Asked) : Type 0 where
   pub variables : x .free + x .own ≤ mostVariables
   pub counted : Counted (x .counts)
   pub constantCounted : x .defined ≤ mostConstants
-  pub small : (i : ℕ) → i < x .defined → getD (x .constants) i 0 < 2 ^ (8 * constantBytes)
+  pub small : (i : ℕ) → i < x .defined → getD (x .constants) i 0 < 2 ^ (8 * constantBytes constantLevels)
   pub clauses : (σ : Section) (i : ℕ) → i < countOf (x .counts) σ → StoredAt x σ (sectionStart σ + 4 * i)
   pub sizes : (length (x .constants) ≡ mostConstants) × (length (x .clauses) ≡ clauseBytes) × (length (x .counts) ≡ 4)
 

@@ -29,13 +29,13 @@ use Rattle.steps.specs.declared.Search.the-variants.{Missed}
 use Rattle.steps.specs.declared.Seen.{Seen}
 
 -- only the values of the constants that are defined are set
-pub values-within : (constants : List ℕ) (defined h b : ℕ) → Within defined (valuesAt constants defined h b)
+pub values-within : (levels : ℕ) (constants : List ℕ) (defined h b : ℕ) → Within defined (valuesAt levels constants defined h b)
 unfolding valuesAt
-values-within constants defined h b i l = go (decLt i 64)
+values-within levels constants defined h b i l = go (decLt i 64)
   where
-    go : Dec (i < 64) → bit (valuesAt constants defined h b) i ≡ false
+    go : Dec (i < 64) → bit (valuesAt levels constants defined h b) i ≡ false
     go (yes m) = bit-number 64 _ i m ∙ rw (le-ltb i defined l)
-    go (no m) = bit-beyond 64 (valuesAt constants defined h b) i (number-lt 64 _) (omega arith)
+    go (no m) = bit-beyond 64 (valuesAt levels constants defined h b) i (number-lt 64 _) (omega arith)
 
 -- one key more
 pub keys-more : (f : ℕ → ℕ) (keys : List ℕ) (b x : ℕ) → b < length keys → x ≡ f b → ((i : ℕ) → i < b → getD keys i 0 ≡ f i)

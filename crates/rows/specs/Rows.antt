@@ -10,9 +10,9 @@ use Rattle.rows.specs.declared.Range.{Range}
 
 -- ---- the numbers
 
--- a row of the answer buffer is unfolded to this height
-abbrev pub rowLevels : ℕ
-rowLevels = 10
+-- where the constants of a question have so many levels, a row of the answer is unfolded to this height: 10 at 5 levels
+abbrev pub rowLevels : ℕ → ℕ
+rowLevels levels = levels + 5
 
 -- an answer has this many rows
 abbrev pub rowCount : ℕ
@@ -22,12 +22,13 @@ rowCount = 12
 abbrev pub bytesAt : ℕ → ℕ
 bytesAt k = 2 ^ k / 8
 
-abbrev pub rowBytes : ℕ
-rowBytes = bytesAt rowLevels
+-- a row of the answer has this many bytes: 128 at 5 levels
+abbrev pub rowBytes : ℕ → ℕ
+rowBytes levels = 2 ^ (levels + 2)
 
--- the rows of an answer have this many bytes: 1,536 at height 10
-abbrev pub answerBytes : ℕ
-answerBytes = rowCount * rowBytes
+-- the rows of an answer have this many bytes: 1,536 at 5 levels
+abbrev pub answerBytes : ℕ → ℕ
+answerBytes levels = rowCount * rowBytes levels
 
 -- ---- a row as a tree, and a tree as a row
 

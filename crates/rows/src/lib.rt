@@ -4,6 +4,7 @@ pub mod blocks;
 ghost use mathlib.Core.Path.{_≡_};
 ghost use Prim.Native.Nat.{_+_};
 ghost use lib.ListN.{length};
+ghost use Rattle.shares.specs.Constant.{constantLevels};
 ghost use Rattle.rows.specs.Rows.{rowLevels, emptyRange, rowRange, rowPart};
 
 // A row of the answer buffer is a tree unfolded to this height, in this many bytes.
@@ -34,7 +35,7 @@ fn nothing() -> Range
 
 // Where the row of a variable lies in an answer buffer of so many bytes; the empty part if there is none.
 pub fn row_range(bytes: usize, variable: usize) -> Range
-    ensures { λ r. ⌜ r ≡ rowRange rowLevels bytes variable ⌝ }
+    ensures { λ r. ⌜ r ≡ rowRange (rowLevels constantLevels) bytes variable ⌝ }
 {
     if variable < ROW_COUNT {
         if ANSWER_BYTES <= bytes {
@@ -50,8 +51,8 @@ pub fn row_range(bytes: usize, variable: usize) -> Range
 
 // The row of a variable, as that very part of the answer buffer: what it holds, and where it lies.
 pub fn row(answer: &[u8], variable: usize) -> &[u8]
-    ensures part { λ r. ⌜ now r ≡ rowPart rowLevels (now (answer .entry)) variable ⌝ }
-    ensures lies { λ r. ⌜ (r .ptr .0 ≡ answer .entry .ptr .0) × (r .ptr .1 ≡ answer .entry .ptr .1 + rowRange rowLevels (length (now (answer .entry))) variable .offset) ⌝ }
+    ensures part { λ r. ⌜ now r ≡ rowPart (rowLevels constantLevels) (now (answer .entry)) variable ⌝ }
+    ensures lies { λ r. ⌜ (r .ptr .0 ≡ answer .entry .ptr .0) × (r .ptr .1 ≡ answer .entry .ptr .1 + rowRange (rowLevels constantLevels) (length (now (answer .entry))) variable .offset) ⌝ }
 {
     let range = row_range(answer.len(), variable);
     let start = range.offset;

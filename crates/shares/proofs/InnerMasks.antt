@@ -12,7 +12,7 @@ use Rattle.shares.specs.Test.{and-left, and-right, beq-iff}
 use Rattle.shares.specs.Below.{everyBelow}
 use Rattle.shares.specs.BelowLaws.{every-at}
 use Rattle.shares.specs.Tree.{height}
-use Rattle.shares.specs.Constant.{constantLevels, bit, constant}
+use Rattle.shares.specs.Constant.{constantLevels, bit, numberTree}
 use Rattle.shares.specs.ConstantLaws.{inner, InnerMask, height-mask-iff}
 
 abbrev pub masks : List ℕ
@@ -38,5 +38,5 @@ masks-right h l =
     )
 
 -- a constant is no taller than h exactly if no leaf differs from its neighbour under mask h
-pub constant-height-iff : (h a : ℕ) → h < constantLevels → (height (constant a) ≤ h) ↔ (bitAnd (bitXor a (a / 2)) (getD masks h 0) ≡ 0)
+pub constant-height-iff : (h a : ℕ) → h < constantLevels → (height (numberTree constantLevels a) ≤ h) ↔ (bitAnd (bitXor a (a / 2)) (getD masks h 0) ≡ 0)
 constant-height-iff h a l = height-mask-iff h constantLevels a (getD masks h 0) (le-of-lt l) (masks-right h l)

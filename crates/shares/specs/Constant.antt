@@ -19,13 +19,9 @@ numberOf (suc w) f = numberOf w (λ i. f (suc i)) * 2 + one (f 0)
 abbrev pub numberTree : ℕ → ℕ → Tree
 numberTree k n = treeOf k (bit n)
 
--- a constant has 32 leaves: it is at most this tall
+-- a constant has 32 leaves: it is the tree of its number at this many levels, and at most this tall
 abbrev pub constantLevels : ℕ
 constantLevels = 5
-
--- the constant that the number n stands for
-abbrev pub constant : ℕ → Tree
-constant n = numberTree constantLevels n
 
 -- the number that bytes make, the lowest first
 unfoldable pub number : List ℕ → ℕ

@@ -5,7 +5,7 @@ use mathlib.Core.List.{[], _∷_}
 use mathlib.Core.Option.{none, some}
 use Rattle.shares.specs.Below.{everyBelow}
 use Rattle.shares.specs.Tree.{Tree, leaf, pair, twins, fold, height, half, full, leafAt, treeOf, joinLeaf, treeIf, joinAt, join}
-use Rattle.shares.specs.Constant.{bit, constant, number}
+use Rattle.shares.specs.Constant.{bit, numberTree, constantLevels, number}
 use Rattle.shares.specs.Text.{text}
 
 -- the left half
@@ -34,15 +34,17 @@ unfolding height
 heights = (refl, refl, refl, refl)
 
 -- leaf i is at bit i
-constants : (constant 0x0000FFFF ≡ L) × (constant 0xFFFF0000 ≡ R) × (constant 0 ≡ leaf false) × (constant 0xFFFFFFFF ≡ leaf true)
+constants : (numberTree constantLevels 0x0000FFFF ≡ L) × (numberTree constantLevels 0xFFFF0000 ≡ R)
+    × (numberTree constantLevels 0 ≡ leaf false) × (numberTree constantLevels 0xFFFFFFFF ≡ leaf true)
 unfolding treeOf fold twins bit
 constants = (refl, refl, refl, refl)
 
-constants-joined : join (constant 0x00000001) (constant 0x00000002) ≡ some (constant 0x00000003)
+constants-joined : join (numberTree constantLevels 0x00000001) (numberTree constantLevels 0x00000002) ≡ some (numberTree constantLevels 0x00000003)
 unfolding treeOf fold twins bit joinLeaf treeIf join joinAt everyBelow leafAt half full height
 constants-joined = refl
 
-constant-heights : (height (constant 0xFFFF0001) ≡ 5) × (height (constant 0x80000000) ≡ 5) × (height (constant 0x00FF00FF) ≡ 2) × (height (constant 0) ≡ 0)
+constant-heights : (height (numberTree constantLevels 0xFFFF0001) ≡ 5) × (height (numberTree constantLevels 0x80000000) ≡ 5)
+    × (height (numberTree constantLevels 0x00FF00FF) ≡ 2) × (height (numberTree constantLevels 0) ≡ 0)
 unfolding treeOf fold twins bit height
 constant-heights = (refl, refl, refl, refl)
 

@@ -1,7 +1,7 @@
 // Constants are shares of 32 leaves, held in one number with leaf i at bit i: their join and their height.
 ghost use mathlib.Core.Path.{_≡_};
 ghost use Rattle.shares.specs.Tree.{height, join};
-ghost use Rattle.shares.specs.Constant.{constant};
+ghost use Rattle.shares.specs.Constant.{constantLevels, numberTree};
 ghost use Rattle.shares.specs.Answer.{joinOf};
 
 // What joining two constants gives.
@@ -12,7 +12,7 @@ pub enum Joined {
 
 // The join of two constants. All leaves at once: it is undefined where a bit is set in both, and otherwise the sum.
 pub fn join_constants(a: u32, b: u32) -> Joined
-    ensures { λ r. ⌜ joinOf r ≡ join (constant a) (constant b) ⌝ }
+    ensures { λ r. ⌜ joinOf constantLevels r ≡ join (numberTree constantLevels a) (numberTree constantLevels b) ⌝ }
 {
     if a & b == 0 {
         return Joined::Constant(a + b);
@@ -31,7 +31,7 @@ const INNER: [u32; 5] = [
 
 // The height of a constant: the least h at which no leaf differs from its neighbour in its block.
 pub fn constant_height(a: u32) -> u32
-    ensures { λ r. ⌜ r ≡ height (constant a) ⌝ }
+    ensures { λ r. ⌜ r ≡ height (numberTree constantLevels a) ⌝ }
 {
     let differs = a ^ (a >> 1);
     let mut h: usize = 0;

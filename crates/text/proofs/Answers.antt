@@ -7,8 +7,9 @@ use native.Mathlib.Omega.{arith}
 use borrow.Author.Tests.{eq-eqb, ne-eqb, leb-true}
 use lib.Dec.{leb}
 use lib.ListN.{length}
+use Rattle.shares.specs.Constant.{constantLevels}
 use Rattle.shares.specs.Text.{text}
-use Rattle.rows.specs.Rows.{rowLevels, rowBytes}
+use Rattle.rows.specs.Rows.{rowLevels, bytesAt, rowBytes}
 use Rattle.rows.specs.Blocks.{Inside, blockTree}
 use Rattle.rows.specs.BlockLaws.{block-row}
 use Rattle.text.specs.Texts.{rowText, textAnswer, textAfter}
@@ -17,29 +18,29 @@ use Rattle.text.specs.declared.Written.the-variants.{Length, Refused}
 use Rattle.text.proofs.Steps.{put-first}
 
 -- a whole row is one block
-pub row-inside : (n : ℕ) → n ≡ rowBytes → Inside rowLevels 0 n
+pub row-inside : (n : ℕ) → n ≡ rowBytes constantLevels → Inside (rowLevels constantLevels) 0 n
 row-inside n e = record { low = omega arith; few = omega arith; fits = omega arith }
 
-pub row-text : (row : List ℕ) → text (blockTree row rowLevels 0) ≡ rowText rowLevels row
+pub row-text : (k : ℕ) (row : List ℕ) → text (blockTree row k 0) ≡ rowText k row
 unfolding rowText
-row-text row = ap text (block-row row rowLevels)
+row-text k row = ap text (block-row row k)
 
-module _ (row buffer : List ℕ) where
-  module _ (whole : length row ≡ rowBytes) (t : Bool) (test : t ≡ leb (length (rowText rowLevels row)) (length buffer)) where
-    pub room : t ≡ true → 0 + length (text (blockTree row rowLevels 0)) ≤ length buffer
-    room e = let l = leb-true (length (rowText rowLevels row)) (length buffer) (sym test ∙ e) in omega (arith, ap length (row-text row))
+module _ (k : ℕ) (row buffer : List ℕ) where
+  module _ (whole : length row ≡ bytesAt k) (t : Bool) (test : t ≡ leb (length (rowText k row)) (length buffer)) where
+    pub room : t ≡ true → 0 + length (text (blockTree row k 0)) ≤ length buffer
+    room e = let l = leb-true (length (rowText k row)) (length buffer) (sym test ∙ e) in omega (arith, ap length (row-text k row))
 
-    pub written : t ≡ true → (n : ℕ) (after : List ℕ) → Put (text (blockTree row rowLevels 0)) buffer 0 n after
-        → (Length n ≡ textAnswer rowLevels row buffer) × (after ≡ textAfter rowLevels row buffer)
+    pub written : t ≡ true → (n : ℕ) (after : List ℕ) → Put (text (blockTree row k 0)) buffer 0 n after
+        → (Length n ≡ textAnswer k row buffer) × (after ≡ textAfter k row buffer)
     unfolding textAnswer textAfter
     written e n after w =
-        let (end, bytes) = put-first (rowText rowLevels row) buffer after n (leb-true (length (rowText rowLevels row)) (length buffer) (sym test ∙ e)) (rw (row-text row) at w) in
-        (rw (eq-eqb (length row) rowBytes whole, ← test, e, end), rw (eq-eqb (length row) rowBytes whole, ← test, e) bytes)
+        let (end, bytes) = put-first (rowText k row) buffer after n (leb-true (length (rowText k row)) (length buffer) (sym test ∙ e)) (rw (row-text k row) at w) in
+        (rw (eq-eqb (length row) (bytesAt k) whole, ← test, e, end), rw (eq-eqb (length row) (bytesAt k) whole, ← test, e) bytes)
 
-    pub too-long : t ≡ false → (Refused 13 ≡ textAnswer rowLevels row buffer) × (buffer ≡ textAfter rowLevels row buffer)
+    pub too-long : t ≡ false → (Refused 13 ≡ textAnswer k row buffer) × (buffer ≡ textAfter k row buffer)
     unfolding textAnswer textAfter
-    too-long e = (rw (eq-eqb (length row) rowBytes whole, ← test, e), rw (eq-eqb (length row) rowBytes whole, ← test, e))
+    too-long e = (rw (eq-eqb (length row) (bytesAt k) whole, ← test, e), rw (eq-eqb (length row) (bytesAt k) whole, ← test, e))
 
-  pub not-a-row : (length row ≡ rowBytes → ⊥) → (Refused 14 ≡ textAnswer rowLevels row buffer) × (buffer ≡ textAfter rowLevels row buffer)
+  pub not-a-row : (length row ≡ bytesAt k → ⊥) → (Refused 14 ≡ textAnswer k row buffer) × (buffer ≡ textAfter k row buffer)
   unfolding textAnswer textAfter
-  not-a-row n = (rw (ne-eqb (length row) rowBytes n), rw (ne-eqb (length row) rowBytes n))
+  not-a-row n = (rw (ne-eqb (length row) (bytesAt k) n), rw (ne-eqb (length row) (bytesAt k) n))

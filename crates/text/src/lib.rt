@@ -6,6 +6,7 @@ ghost use mathlib.Core.Path.{_≡_};
 ghost use Prim.Native.Nat.{_+_, _*_, _^_, _≤_};
 ghost use lib.Dec.{leb};
 ghost use lib.ListN.{length, getD};
+ghost use Rattle.shares.specs.Constant.{constantLevels};
 ghost use Rattle.shares.specs.Text.{text};
 ghost use Rattle.rows.specs.Rows.{rowLevels, rowBytes};
 ghost use Rattle.rows.specs.Blocks.{Inside, blockTree};
@@ -69,8 +70,8 @@ fn write_text(row: &[u8], height: usize, q: usize, buffer: &mut [u8], at: usize)
 
 // Whether the text of a row fits so many bytes.
 fn text_fits(row: &[u8], room: usize) -> bool
-    requires { ⌜ length (now row) ≡ rowBytes ⌝ }
-    ensures { λ r. ⌜ r ≡ leb (length (rowText rowLevels (now (row .entry)))) room ⌝ }
+    requires { ⌜ length (now row) ≡ rowBytes constantLevels ⌝ }
+    ensures { λ r. ⌜ r ≡ leb (length (rowText (rowLevels constantLevels) (now (row .entry)))) room ⌝ }
 {
     if LONGEST_TEXT <= room {
         return true;
@@ -80,8 +81,8 @@ fn text_fits(row: &[u8], room: usize) -> bool
 
 // Writes the text of a row to the buffer.
 pub fn tree_text(row: &[u8], buffer: &mut [u8]) -> Written
-    ensures answer { λ r. ⌜ r ≡ textAnswer rowLevels (now (row .entry)) (now (buffer .entry)) ⌝ }
-    ensures buffer { λ _. ⌜ now (buffer .exit) ≡ textAfter rowLevels (now (row .entry)) (now (buffer .entry)) ⌝ }
+    ensures answer { λ r. ⌜ r ≡ textAnswer (rowLevels constantLevels) (now (row .entry)) (now (buffer .entry)) ⌝ }
+    ensures buffer { λ _. ⌜ now (buffer .exit) ≡ textAfter (rowLevels constantLevels) (now (row .entry)) (now (buffer .entry)) ⌝ }
 {
     if row.len() == ROW_BYTES {
         if text_fits(row, buffer.len()) {

@@ -7,16 +7,16 @@ use lib.Dec.{ltb}
 use lib.ListN.{getD}
 use Rattle.shares.specs.Below.{someBelow}
 use Rattle.shares.specs.Blocks.{firstOf}
-use Rattle.shares.specs.Constant.{constantLevels, bit, numberOf}
+use Rattle.shares.specs.Constant.{bit, numberOf}
 use Rattle.words.specs.Clause.{clauseTest, allClauses, termValue}
 
 -- how many words hold 2 ^ d choices: 2 ^ (d - 6), which is 1 where d is below 6
 unfoldable pub wordCount : ℕ → ℕ
 wordCount d = 2 ^ (d - 6)
 
--- the values of the first `defined` constants at leaf b of 2 ^ h, constant i at bit i
-unfoldable pub valuesAt : List ℕ → ℕ → ℕ → ℕ → ℕ
-valuesAt constants defined h b = numberOf 64 (λ i. ltb i defined && bit (getD constants i 0) (firstOf h constantLevels b))
+-- the values of the first `defined` constants, of so many levels, at leaf b of 2 ^ h, constant i at bit i
+unfoldable pub valuesAt : ℕ → List ℕ → ℕ → ℕ → ℕ → ℕ
+valuesAt levels constants defined h b = numberOf 64 (λ i. ltb i defined && bit (getD constants i 0) (firstOf h levels b))
 
 -- all clauses of a section pass in choice z
 unfoldable pub allPass : List ℕ → ℕ → ℕ → ℕ → ℕ → ℕ → ℕ → Bool

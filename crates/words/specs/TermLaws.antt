@@ -10,7 +10,7 @@ use lib.Dec.{ltb, eqb}
 use lib.ListN.{getD}
 use borrow.Author.Tests.{lt-ltb, le-ltb}
 use Rattle.shares.specs.Blocks.{firstOf}
-use Rattle.shares.specs.Constant.{constantLevels, bit}
+use Rattle.shares.specs.Constant.{bit}
 use Rattle.shares.specs.BitLaws.{bits-same, number-lt, bit-number}
 use Rattle.shares.specs.Parts.{fullPart}
 use Rattle.words.specs.Clause.{clauseTest, allClauses, position, termValue}
@@ -49,10 +49,10 @@ has-digit n m p h = (position-lt n m p h, position-twice n m p h)
 -- ---- the values of the constants
 
 -- a word whose bits are the values at a leaf is their number
-pub values-is : (constants : List ℕ) (defined h b r : ℕ) → r < 2 ^ 64
-    → ((i : ℕ) → bit r i ≡ (ltb i defined && bit (getD constants i 0) (firstOf h constantLevels b))) → r ≡ valuesAt constants defined h b
+pub values-is : (levels : ℕ) (constants : List ℕ) (defined h b r : ℕ) → r < 2 ^ 64
+    → ((i : ℕ) → bit r i ≡ (ltb i defined && bit (getD constants i 0) (firstOf h levels b))) → r ≡ valuesAt levels constants defined h b
 unfolding valuesAt
-values-is constants defined h b r small bits = bits-same 64 r _ small (number-lt 64 _) (λ i l. bits i ∙ sym (bit-number 64 _ i l))
+values-is levels constants defined h b r small bits = bits-same 64 r _ small (number-lt 64 _) (λ i l. bits i ∙ sym (bit-number 64 _ i l))
 
 -- ---- a term's value by its kind
 

@@ -7,7 +7,7 @@ ghost use Prim.Native.Nat.{ℕ, _+_, _-_, _*_, _^_, _<_, _≤_};
 ghost use lib.Dec.{ltb};
 ghost use lib.ListN.{length, getD};
 ghost use Rattle.shares.specs.Below.{firstBelow};
-ghost use Rattle.shares.specs.Constant.{bit};
+ghost use Rattle.shares.specs.Constant.{constantLevels, bit};
 ghost use Rattle.words.specs.Clause.{testValue, clauseTest, allClauses, position, Clauses};
 ghost use Rattle.words.specs.Choices.{wordCount, valuesAt};
 ghost use Rattle.words.specs.Table.{Terms, Changed, Within};
@@ -92,7 +92,7 @@ fn leaf_values(constants: &[u64; 32], count: usize, leaf: usize) -> u64
 // The values of the constants at leaf b of 2^h.
 pub fn values_at(constants: &[u64; 32], defined: usize, h: usize, b: usize) -> u64
     requires { ⌜ (defined ≤ 32) × (h ≤ 5) × (b < 2 ^ h) ⌝ }
-    ensures { λ r. ⌜ r ≡ valuesAt (now (constants .entry)) defined h b ⌝ }
+    ensures { λ r. ⌜ r ≡ valuesAt constantLevels (now (constants .entry)) defined h b ⌝ }
 {
     leaf_values(constants, defined, b * (1 << (5 - h)))
 }

@@ -4,7 +4,7 @@ use mathlib.Core.Option.{Option, none, some}
 use Prim.Native.Nat.{ℕ, _+_, _*_, _^_}
 use lib.Dec.{eqb}
 use Rattle.shares.specs.Tree.{Tree}
-use Rattle.shares.specs.Constant.{constant}
+use Rattle.shares.specs.Constant.{numberTree}
 use Rattle.rows.specs.declared.Range.{Range}
 use Rattle.text.specs.Texts.{textLength, textRefusal}
 use Rattle.text.specs.declared.Written.{Written}
@@ -23,13 +23,13 @@ textNumber w = textLength w + 2 ^ 32 * textRefusal w
 abbrev pub constantNumber : FromText → ℕ
 constantNumber g = constantGiven g + 2 ^ 32 * constantRefusal g
 
--- a number that is no join
-abbrev pub undefinedJoin : ℕ
-undefinedJoin = 2 ^ 32
+-- the number of no join, where constants have so many levels: one past the largest constant, 2 ^ 32 at 5 levels
+abbrev pub undefinedJoin : ℕ → ℕ
+undefinedJoin levels = 2 ^ (2 ^ levels)
 
--- the tree that a join's number stands for
-abbrev pub numberJoin : ℕ → Option Tree
-numberJoin n = cond (eqb n undefinedJoin) none (some (constant n))
+-- the tree that the number of a join of such constants stands for
+abbrev pub numberJoin : ℕ → ℕ → Option Tree
+numberJoin levels n = cond (eqb n (undefinedJoin levels)) none (some (numberTree levels n))
 
 -- a version's three numbers, a byte each, the last lowest
 abbrev pub versionNumber : ℕ → ℕ → ℕ → ℕ

@@ -5,6 +5,7 @@ use Prim.Native.Nat.{ℕ, _≤_, _<_}
 use native.Mathlib.Omega.{arith}
 use lib.Dec.{ltb}
 use Rattle.shares.specs.Test.{cond-law}
+use Rattle.shares.specs.Constant.{constantLevels}
 use Rattle.leaves.specs.Heights.{anyHeight}
 use Rattle.systems.specs.Questions.{Question, WellFormed}
 use Rattle.systems.specs.Answers.{Answer, satisfied, unsatisfied, vacuous, entailed, unmet, missed, Says, verdict, reason, disequationNumber}
@@ -43,7 +44,7 @@ reason-low entailed = omega arith
 reason-low unmet = omega arith
 reason-low (missed j) = omega arith
 
-refusal-fits : (n place : ℕ) → n ≤ 12 → place ≤ longest → InBytes (outcomeOf (turnedAway n place))
+refusal-fits : (n place : ℕ) → n ≤ 12 → place ≤ longest constantLevels → InBytes (outcomeOf (turnedAway n place))
 refusal-fits n place l m = record {
   verdict = omega arith;
   refusal = omega arith;
@@ -58,7 +59,7 @@ answer-fits q F L = record {
   verdict = omega (arith, verdict-low (decide q));
   refusal = omega arith;
   place = omega arith;
-  height = omega (arith, height-low q F L (decide q));
+  height = omega (arith, height-low q F L (decide q), L .levels);
   reason = omega (arith, reason-low (decide q));
   number = omega (arith, number-low q L (decide q) (exact q F (decide q) .1 refl .1));
 }
@@ -74,6 +75,6 @@ outcome-fits s a w = go (read s) refl
     go : (o : Result) → read s ≡ o → InBytes (outcomeOf (lentTo o a w))
     go (refused n place) h = refusal-fits n place (omega (arith, refusal-number s n place h)) (refusal-place s n place h)
     go (accepted q) h =
-        cond-law M (ltb a answerBytes) _ _ (λ _. refusal-fits 11 0 (omega arith) (omega arith))
+        cond-law M (ltb a (answerBytes (q .constants .levels))) _ _ (λ _. refusal-fits 11 0 (omega arith) (omega arith))
         (λ _. cond-law M (ltb w workBytes) _ _ (λ _. refusal-fits 12 0 (omega arith) (omega arith))
         (λ _. answer-fits q (accepted-formed s q h) (accepted-limited s q h)))

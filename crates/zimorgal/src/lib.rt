@@ -7,7 +7,7 @@ ghost use mathlib.Core.Path.{_≡_};
 ghost use Prim.Native.Nat.{_≤_, _/_, _%_, _^_};
 ghost use lib.ListN.{length, take, drop};
 ghost use Rattle.shares.specs.Tree.{height, join};
-ghost use Rattle.shares.specs.Constant.{constantLevels, constant};
+ghost use Rattle.shares.specs.Constant.{constantLevels, numberTree};
 ghost use Rattle.shares.specs.Answer.{joinOf};
 ghost use Rattle.systems.specs.Questions as model;
 ghost use Rattle.rows.specs.Rows.{rowLevels, rowRange, rowPart};
@@ -49,10 +49,10 @@ pub extern "C" fn zimorgal_ask(question: &[u8], answer: &mut [u8], work: &mut [u
 // that `rows::row` hands back.
 #[no_mangle]
 pub extern "C" fn zimorgal_row(answer: &[u8], variable: usize) -> u64
-    ensures range { λ r. ⌜ r ≡ rangeNumber (rowRange rowLevels (length (now (answer .entry))) variable) ⌝ }
-    ensures offset { λ r. ⌜ r % 2 ^ 32 ≡ rowRange rowLevels (length (now (answer .entry))) variable .offset ⌝ }
-    ensures length { λ r. ⌜ r / 2 ^ 32 ≡ rowRange rowLevels (length (now (answer .entry))) variable .bytes ⌝ }
-    ensures part { λ r. ⌜ take (r / 2 ^ 32) (drop (r % 2 ^ 32) (now (answer .entry))) ≡ rowPart rowLevels (now (answer .entry)) variable ⌝ }
+    ensures range { λ r. ⌜ r ≡ rangeNumber (rowRange (rowLevels constantLevels) (length (now (answer .entry))) variable) ⌝ }
+    ensures offset { λ r. ⌜ r % 2 ^ 32 ≡ rowRange (rowLevels constantLevels) (length (now (answer .entry))) variable .offset ⌝ }
+    ensures length { λ r. ⌜ r / 2 ^ 32 ≡ rowRange (rowLevels constantLevels) (length (now (answer .entry))) variable .bytes ⌝ }
+    ensures part { λ r. ⌜ take (r / 2 ^ 32) (drop (r % 2 ^ 32) (now (answer .entry))) ≡ rowPart (rowLevels constantLevels) (now (answer .entry)) variable ⌝ }
 {
     let range = rows::row_range(answer.len(), variable);
     (range.offset as u64) + 4294967296 * (range.bytes as u64)
@@ -61,8 +61,8 @@ pub extern "C" fn zimorgal_row(answer: &[u8], variable: usize) -> u64
 // The text of a row: the length in the low 32 bits, the refusal number in the byte after them.
 #[no_mangle]
 pub extern "C" fn zimorgal_text(row: &[u8], text: &mut [u8]) -> u64
-    ensures answer { λ r. ⌜ r ≡ textNumber (textAnswer rowLevels (now (row .entry)) (now (text .entry))) ⌝ }
-    ensures text { λ _. ⌜ now (text .exit) ≡ textAfter rowLevels (now (row .entry)) (now (text .entry)) ⌝ }
+    ensures answer { λ r. ⌜ r ≡ textNumber (textAnswer (rowLevels constantLevels) (now (row .entry)) (now (text .entry))) ⌝ }
+    ensures text { λ _. ⌜ now (text .exit) ≡ textAfter (rowLevels constantLevels) (now (row .entry)) (now (text .entry)) ⌝ }
 {
     text_number(text::tree_text(row, text))
 }
@@ -100,14 +100,14 @@ fn constant_number(read: FromText) -> u64
 // The join of two constants in the low 32 bits; 2^32 where it is undefined.
 #[no_mangle]
 pub extern "C" fn zimorgal_join(a: u32, b: u32) -> u64
-    ensures { λ r. ⌜ (r ≤ undefinedJoin) × (numberJoin r ≡ join (constant a) (constant b)) ⌝ }
+    ensures { λ r. ⌜ (r ≤ undefinedJoin constantLevels) × (numberJoin constantLevels r ≡ join (numberTree constantLevels a) (numberTree constantLevels b)) ⌝ }
 {
     join_number(shares::join_constants(a, b))
 }
 
 // The number of a join.
 fn join_number(joined: Joined) -> u64
-    ensures { λ r. ⌜ (r ≤ undefinedJoin) × (numberJoin r ≡ joinOf joined) ⌝ }
+    ensures { λ r. ⌜ (r ≤ undefinedJoin constantLevels) × (numberJoin constantLevels r ≡ joinOf constantLevels joined) ⌝ }
 {
     match joined {
         Joined::Constant(n) => n as u64,
@@ -118,7 +118,7 @@ fn join_number(joined: Joined) -> u64
 // The height of a constant.
 #[no_mangle]
 pub extern "C" fn zimorgal_height(a: u32) -> u32
-    ensures { λ r. ⌜ r ≡ height (constant a) ⌝ }
+    ensures { λ r. ⌜ r ≡ height (numberTree constantLevels a) ⌝ }
 {
     shares::constant_height(a)
 }

@@ -11,6 +11,7 @@ ghost use mathlib.Core.List.{[], _∷_};
 ghost use Prim.Native.Nat.{_+_, _/_, _%_};
 ghost use lib.Dec.{eqb};
 ghost use lib.ListN.{getD};
+ghost use Rattle.shares.specs.Constant.{constantLevels};
 ghost use Rattle.rows.specs.Rows.{rowLevels};
 ghost use Rattle.text.specs.Texts.{textAfter};
 
@@ -73,7 +74,7 @@ fn name_of(variable: usize) -> [u8; 4]
 
 // The line of one variable. Every row of an answer has a text, and it fits.
 fn say_row(variable: usize, row: &[u8], text: &mut [u8]) -> bool
-    ensures { λ _. ⌜ now (text .exit) ≡ textAfter rowLevels (now (row .entry)) (now (text .entry)) ⌝ }
+    ensures { λ _. ⌜ now (text .exit) ≡ textAfter (rowLevels constantLevels) (now (row .entry)) (now (text .entry)) ⌝ }
 {
     let written = text::tree_text(row, text);
     let Written::Length(n) = written else {

@@ -1,6 +1,6 @@
 -- `asking::ask` meets its contract: each refusal by what was read and the lengths, an answer by what was decided. Assumes nothing.
 use lib.ListN.{length}
-use Rattle.format.specs.Callers.{Taken, answer-taken, answer-refused}
+use Rattle.format.specs.Callers.{Taken, answer-taken, answer-refused, levels-are}
 use Rattle.asking.specs.AskingLaws.{asked-refused, asked-11, asked-12}
 use Rattle.asking.specs.AskedRight.{given-refused}
 use Rattle.asking.specs.DecidedLaws.{given-answer}
@@ -32,7 +32,7 @@ returns-2 c =
     let T = answer-taken (start .question .now) _ (reading .read .ensures .0) _ (reading .read .ensures .1 .1) (c .before .before .if1 .left) in
     given-refused (start .question .now) (start .answer .now) (start .work .now) 11 0
     (asked-11 (start .question .now) (length (start .answer .now)) (length (start .work .now)) (T .question) (T .read)
-    (c .before .if2 .taken)) _ (c .refused2 .ensures)
+    (rw (levels-are _ _ (T .stands)) (c .before .if2 .taken))) _ (c .refused2 .ensures)
 
 refused-requires-3 : tie.Need-refused-requires-3
 refused-requires-3 c κs = search needs
@@ -44,7 +44,7 @@ returns-3 c =
     let T = answer-taken (start .question .now) _ (reading .read .ensures .0) _ (reading .read .ensures .1 .1) (c .before .before .before .if1 .left) in
     given-refused (start .question .now) (start .answer .now) (start .work .now) 12 0
     (asked-12 (start .question .now) (length (start .answer .now)) (length (start .work .now)) (T .question) (T .read)
-    (c .before .before .if2 .left) (c .before .if3 .taken)) _ (c .refused3 .ensures)
+    (rw (levels-are _ _ (T .stands)) (c .before .before .if2 .left)) (c .before .if3 .taken)) _ (c .refused3 .ensures)
 
 -- what was read, once the tests are passed
 taken : (c : tie.Else3) → (
@@ -98,8 +98,8 @@ returns-4 c =
     let passed = found .before .before .before .before in
     let start = passed .before .before .before .before .before .before .before .before .before .args in
     let T = taken passed in
-    given-answer (start .question .now) (start .answer .now) (start .work .now) _ _ T (passed .before .if2 .left) (passed .if3 .left)
-    _ _ _
+    given-answer (start .question .now) (start .answer .now) (start .work .now) _ _ T
+    (rw (levels-are _ _ (T .stands)) (passed .before .if2 .left)) (passed .if3 .left) _ _ _
     (record {
       sizing = record { question = _; standing = record { clauses = _; stands = T .stands }; sized = found .before .before .before .sizes-of .ensures };
       decided = found .decide .ensures (T .question) (T .stands) (T .formed);

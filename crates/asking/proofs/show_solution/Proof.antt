@@ -3,6 +3,7 @@ use mathlib.Core.Path.{sym, ap, _∙_}
 use native.Mathlib.Omega.{arith}
 use borrow.Author.Needs.{needs}
 use Rattle.shares.specs.Test.{of-true}
+use Rattle.format.specs.Callers.{levels-are}
 use Rattle.asking.specs.DecidedLaws.{answer-shown, answer-kept}
 use Rattle.asking.proofs.show_solution.Statement.{statement}
 use Rattle.asking.proofs.show_solution.Tie as tie
@@ -17,7 +18,7 @@ write-rows-requires : tie.Need-write-rows-requires
 write-rows-requires c κs =
     let start = c .before .before .before .before .before in
     let (q, D) = start .pre .1 in
-    (c .before .plan .ensures q D .formed, (start .pre .0, omega (arith, ap (λ s. s .free) (D .sizing .sized), D .sizing .standing .stands .variables)))
+    (rw (levels-are _ _ (D .sizing .standing .stands)) at (c .before .plan .ensures q D .formed), (start .pre .0, omega (arith, ap (λ s. s .free) (D .sizing .sized), D .sizing .standing .stands .variables)))
 
 same-length : tie.Need-same-length
 same-length c = search needs
@@ -27,7 +28,8 @@ returns c =
     let plan = c .before .before .before .before in
     λ q D.
     c .before .before .write-rows .ensures
-    ∙ answer-shown q _ _ _ (D .decided) (sym (plan .before .before .is-shown .ensures) ∙ plan .before .if1 .taken) _ (plan .plan .ensures q D) _
+    ∙ answer-shown q _ _ _ (D .decided) _ (levels-are _ _ (D .sizing .standing .stands))
+    (sym (plan .before .before .is-shown .ensures) ∙ plan .before .if1 .taken) _ (plan .plan .ensures q D) _
     (ap (λ s. s .free) (D .sizing .sized) ∙ D .sizing .standing .stands .free) _
 
 returns-2 : tie.Need-returns-2

@@ -75,7 +75,7 @@ visit-requires : tie.Need-visit-requires Inv-loop μ-loop
 visit-requires c κs =
     let s = c .before .before .before .before .before .before .before .before .before .before .before .before .before in
     let l = c .before .before .before .before .before .before .before .loop in
-    (s .pre .0, (s .pre .1 .0, omega (arith, few-leaves s, c .before .before .before .before .before .before .before .before .before .power .ensures), s .pre .1 .1, rw (c .before .before .before .before .before .values-at .ensures) (values-within _ _ _ _), l .inv .2))
+    (s .pre .0, (s .pre .1 .0, omega (arith, few-leaves s, c .before .before .before .before .before .before .before .before .before .power .ensures), s .pre .1 .1, rw (c .before .before .before .before .before .values-at .ensures) (values-within _ _ _ _ _), l .inv .2))
 
 add-digit : tie.Need-add-digit Inv-loop μ-loop
 add-digit c = omega (arith, few-leaves (c .before .before .before .before .before .before .before .before .before .before .before .before .before .before), c .before .before .before .before .before .before .before .before .before .before .power .ensures)

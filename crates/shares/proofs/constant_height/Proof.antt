@@ -4,13 +4,13 @@ use native.Mathlib.Nat.{le-antisymm}
 use native.Mathlib.Omega.{arith}
 use Rattle.shares.specs.Tree.{height}
 use Rattle.shares.specs.TreeLaws.{treeOf-height}
-use Rattle.shares.specs.Constant.{constantLevels, bit, constant}
+use Rattle.shares.specs.Constant.{constantLevels, bit, numberTree}
 use Rattle.shares.proofs.InnerMasks.{constant-height-iff}
 use Rattle.shares.proofs.constant_height.Statement.{statement}
 use Rattle.shares.proofs.constant_height.Tie as tie
 
 abbrev Inv-loop : tie.InvT-loop
-Inv-loop a differs h₀ h = (h ≤ 5) × (h ≤ height (constant a))
+Inv-loop a differs h₀ h = (h ≤ 5) × (h ≤ height (numberTree constantLevels a))
 
 abbrev μ-loop : tie.MeasureT-loop
 μ-loop a differs h₀ h = 5 - h
@@ -40,7 +40,7 @@ loop-less c = omega arith
 
 loop-again : tie.Need-loop-again Inv-loop μ-loop
 loop-again c =
-    let taller : ¬ (height (constant (c .before .before .before .args .a)) ≤ c .before .before .loop .h) =
+    let taller : ¬ (height (numberTree constantLevels (c .before .before .before .args .a)) ≤ c .before .before .loop .h) =
     λ low. c .if1 .left (constant-height-iff (c .before .before .loop .h) _ (c .before .loop-test .taken) .0 low) in
     (omega arith, omega arith)
 

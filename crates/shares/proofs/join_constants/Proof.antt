@@ -8,7 +8,7 @@ use lib.Bits.{bitAnd, or-disjoint, or-lt}
 use lib.Dec.{eqb}
 use borrow.Author.Tests.{eq-eqb, ne-eqb}
 use Rattle.shares.specs.Tree.{join}
-use Rattle.shares.specs.Constant.{constantLevels, constant}
+use Rattle.shares.specs.Constant.{constantLevels, numberTree}
 use Rattle.shares.specs.ConstantLaws.{join-numbers}
 use Rattle.shares.proofs.join_constants.Statement.{statement}
 use Rattle.shares.proofs.join_constants.Tie as tie
@@ -20,14 +20,15 @@ add-t5 c =
     omega (arith, or-disjoint a b (c .if1 .taken), or-lt 32 a b (omega arith) (omega arith))
 
 -- what either answer stands for
-joined : (a b : ℕ) → a < 2 ^ 32 → b < 2 ^ 32 → (t : Bool) → eqb (bitAnd a b) 0 ≡ t → cond t (some (constant (a + b))) none ≡ join (constant a) (constant b)
-joined a b ha hb t e = sym (join-numbers constantLevels a b ha hb ∙ ap (λ (t : Bool). cond t (some (constant (a + b))) none) e)
+joined : (levels a b : ℕ) → a < 2 ^ (2 ^ levels) → b < 2 ^ (2 ^ levels) → (t : Bool) → eqb (bitAnd a b) 0 ≡ t
+    → cond t (some (numberTree levels (a + b))) none ≡ join (numberTree levels a) (numberTree levels b)
+joined levels a b ha hb t e = sym (join-numbers levels a b ha hb ∙ ap (λ (t : Bool). cond t (some (numberTree levels (a + b))) none) e)
 
 returns : tie.Need-returns
-returns c = joined (c .before .args .a) (c .before .args .b) (omega arith) (omega arith) true (eq-eqb _ 0 (c .if1 .taken))
+returns c = joined constantLevels (c .before .args .a) (c .before .args .b) (omega arith) (omega arith) true (eq-eqb _ 0 (c .if1 .taken))
 
 returns-2 : tie.Need-returns-2
-returns-2 c = joined (c .before .args .a) (c .before .args .b) (omega arith) (omega arith) false (ne-eqb _ 0 (c .if1 .left))
+returns-2 c = joined constantLevels (c .before .args .a) (c .before .args .b) (omega arith) (omega arith) false (ne-eqb _ 0 (c .if1 .left))
 
 pub join-constants-spec : {M : Type 1} → statement M
 join-constants-spec = tie.close (tie.spec add-t5 returns returns-2)

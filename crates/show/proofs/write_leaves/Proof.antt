@@ -7,7 +7,7 @@ use Prim.Native.Nat.{ℕ, _-_, _^_, _≤_, _<_}
 use lib.Dec.{lit≤}
 use lib.ListN.{length, getD}
 use lib.Pow.{pow-mono}
-use Rattle.shares.specs.Constant.{bit}
+use Rattle.shares.specs.Constant.{constantLevels, bit}
 use Rattle.shares.specs.BlockLaws.{block-lt}
 use Rattle.rows.specs.Rows.{rowLevels, rowBytes}
 use Rattle.rows.specs.RowLaws.{zeros-length}
@@ -35,7 +35,7 @@ power-requires c κs = omega arith
 loop-holds : tie.Need-loop-holds Inv-loop μ-loop
 loop-holds c =
     let start = c .before .before in
-    (omega arith, refl, rw (start .pre .1) (blocks-none _ (digits (start .args .plain .now) (start .args .p)) rowBytes))
+    (omega arith, refl, rw (start .pre .1) (blocks-none _ (digits (start .args .plain .now) (start .args .p)) (rowBytes constantLevels)))
 
 mul-digit-of : tie.Need-mul-digit-of Inv-loop μ-loop
 mul-digit-of c = omega (arith, pow-mono (c .before .before .before .before .before .pre .0))
@@ -50,10 +50,10 @@ change-block-requires : tie.Need-change-block-requires Inv-loop μ-loop
 change-block-requires c κs =
     let start = c .before .before .before .before .before .before .before in
     let l = c .before .before .before .before .loop in
-    let within : start .args .low ≤ rowLevels = omega arith in
+    let within : start .args .low ≤ rowLevels constantLevels = omega arith in
     let below : l .k < 2 ^ start .args .low = omega arith in
-    let size = l .inv .1 ∙ ap length (start .pre .1) ∙ zeros-length rowBytes in (
-      subst (Inside (rowLevels - start .args .low) (l .k)) (sym size) (leaf-inside (lit≤ tt) (lit≤ tt) within below),
+    let size = l .inv .1 ∙ ap length (start .pre .1) ∙ zeros-length (rowBytes constantLevels) in (
+      subst (Inside (rowLevels constantLevels - start .args .low) (l .k)) (sym size) (leaf-inside (lit≤ tt) (lit≤ tt) within below),
       blocks-next _ (digits (start .args .plain .now) (start .args .p)) _ (l .row) (l .inv .2),
     )
 
@@ -78,7 +78,7 @@ same-length c = c .before .loop .inv .1
 returns : tie.Need-returns Inv-loop μ-loop
 returns c =
     let start = c .before .before .before .before in
-    let within : start .args .low ≤ rowLevels = omega arith in
+    let within : start .args .low ≤ rowLevels constantLevels = omega arith in
     λ i l. blocks-all _ (digits (start .args .plain .now) (start .args .p)) _ (c .before .loop .row) (c .before .loop .inv .2) i (omega (arith, block-lt within l))
 
 pub write-leaves-spec : {M : Type 1} → statement M

@@ -2,6 +2,7 @@
 use mathlib.Core.Path.{ap, _∙_}
 use lib.Dec.{lit≤}
 use lib.ListN.{length}
+use Rattle.shares.specs.Constant.{constantLevels}
 use Rattle.rows.specs.Rows.{rowLevels, rowBytes}
 use Rattle.rows.specs.RowLaws.{zeros-length}
 use Rattle.show.specs.PlanLaws.{shows-plain, shows-all}
@@ -17,9 +18,9 @@ write-sub-leaves-requires c κs =
     let start = c .before .before .before .before .before .before in (
       start .pre .0,
       (
-        c .before .before .before .write-leaves .kept .0 ∙ ap length (start .pre .1 .0) ∙ zeros-length rowBytes,
+        c .before .before .before .write-leaves .kept .0 ∙ ap length (start .pre .1 .0) ∙ zeros-length (rowBytes constantLevels),
         start .pre .1 .2,
-        shows-plain rowLevels _ (start .pre .0) _ _ (rw (start .pre .1 .1) at (c .before .before .before .write-leaves .ensures)),
+        shows-plain (rowLevels constantLevels) _ (start .pre .0) _ _ (rw (start .pre .1 .1) at (c .before .before .before .write-leaves .ensures)),
       ),
     )
 
@@ -29,8 +30,8 @@ same-length c = search needs
 returns : tie.Need-returns
 returns c =
     let start = c .before .before .before .before .before .before .before .before .before in
-    shows-all rowLevels _ (start .pre .0) _ (lit≤ tt) _
-    (c .before .before .write-sub-leaves .kept .0 ∙ c .before .before .before .before .before .before .write-leaves .kept .0 ∙ ap length (start .pre .1 .0) ∙ zeros-length rowBytes)
+    shows-all (rowLevels constantLevels) _ (start .pre .0) _ (lit≤ tt) _
+    (c .before .before .write-sub-leaves .kept .0 ∙ c .before .before .before .before .before .before .write-leaves .kept .0 ∙ ap length (start .pre .1 .0) ∙ zeros-length (rowBytes constantLevels))
     (λ j. c .slice-known3 .given j .fits) (c .before .before .write-sub-leaves .ensures)
 
 pub write-row-spec : {M : Type 1} → statement M

@@ -3,17 +3,18 @@ use native.Mathlib.Omega.{arith}
 use mathlib.Core.Path.{_≡_, refl, ap, _∙_}
 use Prim.Native.Nat.{ℕ, _+_, _*_, _-_, _≤_, _<_}
 use lib.ListN.{length}
+use Rattle.shares.specs.Constant.{constantLevels}
 use Rattle.plans.specs.Shown.{planTrees}
 use Rattle.rows.specs.Rows.{rowLevels, rowBytes, rowCount, filledWith}
 use Rattle.rows.specs.RowLaws.{filled-length, filled-emptied, filled-none, filled-next, filled-more}
 use Rattle.show.proofs.write_rows.Statement.{statement}
 use Rattle.show.proofs.write_rows.Tie as tie
 
-part-size : (k : ℕ) → k + rowBytes - k ≡ rowBytes
+part-size : (k : ℕ) → k + rowBytes constantLevels - k ≡ rowBytes constantLevels
 part-size k = omega arith
 
 abbrev Inv-loop : tie.InvT-loop
-Inv-loop answer₀ n plan plain v₀ answer v = (v ≤ n) × (length answer ≡ length answer₀) × (answer ≡ filledWith rowLevels v (planTrees n plan) answer₀)
+Inv-loop answer₀ n plan plain v₀ answer v = (v ≤ n) × (length answer ≡ length answer₀) × (answer ≡ filledWith (rowLevels constantLevels) v (planTrees n plan) answer₀)
 
 abbrev μ-loop : tie.MeasureT-loop
 μ-loop answer₀ n plan plain v₀ answer v = n - v
@@ -24,7 +25,7 @@ empty-rows-requires c κs = c .before .before .pre .1 .0
 loop-holds : tie.Need-loop-holds Inv-loop μ-loop
 loop-holds c =
     let a = c .before .before .before .before .before .before .args in
-    (omega arith, refl, rw (c .before .before .before .empty-rows .ensures) (filled-none rowLevels (planTrees (a .n) (a .plan)) (a .answer .now)))
+    (omega arith, refl, rw (c .before .before .before .empty-rows .ensures) (filled-none (rowLevels constantLevels) (planTrees (a .n) (a .plan)) (a .answer .now)))
 
 mul-write-row : tie.Need-mul-write-row Inv-loop μ-loop
 mul-write-row c = omega arith
@@ -57,7 +58,7 @@ write-row-requires c κs =
     let next : l .v < rowCount = omega arith in (
       start .pre .0,
       (
-        filled-next rowLevels (planTrees (start .args .n) (start .args .plan)) _ (l .v) _ (l .answer) next (part-size (l .v * rowBytes)) (l .inv .2),
+        filled-next (rowLevels constantLevels) (planTrees (start .args .n) (start .args .plan)) _ (l .v) _ (l .answer) next (part-size (l .v * rowBytes constantLevels)) (l .inv .2),
         refl,
         omega arith,
       ),
@@ -75,8 +76,8 @@ loop-again c =
     let l = c .before .before .before .before .before .before .loop in
     let next : l .v < rowCount = omega arith in
     let trees = planTrees (start .args .n) (start .args .plan) in
-    let e = filled-more rowLevels trees _ (l .v) _ (l .answer) next (part-size (l .v * rowBytes)) (l .inv .2) _ (c .before .before .write-row .ensures) in
-    (omega arith, ap length e ∙ filled-length rowLevels _ trees _ (omega arith), e)
+    let e = filled-more (rowLevels constantLevels) trees _ (l .v) _ (l .answer) next (part-size (l .v * rowBytes constantLevels)) (l .inv .2) _ (c .before .before .write-row .ensures) in
+    (omega arith, ap length e ∙ filled-length (rowLevels constantLevels) _ trees _ (omega arith), e)
 
 same-length : tie.Need-same-length Inv-loop μ-loop
 same-length c = omega arith
@@ -86,7 +87,7 @@ returns c =
     let start = c .before .before .before .before .before .before .before .before in
     let all : c .before .loop .v ≡ start .args .n = omega arith in
     rw (all, c .before .before .before .before .before .empty-rows .ensures) at (c .before .loop .inv .2)
-    ∙ filled-emptied rowLevels (planTrees (start .args .n) (start .args .plan)) (start .args .answer .now) (start .args .n)
+    ∙ filled-emptied (rowLevels constantLevels) (planTrees (start .args .n) (start .args .plan)) (start .args .answer .now) (start .args .n)
 
 pub write-rows-spec : {M : Type 1} → statement M
 write-rows-spec =

@@ -8,19 +8,19 @@ text-fits-requires : tie.Need-text-fits-requires
 text-fits-requires c κs = search needs
 
 write-text-requires : tie.Need-write-text-requires
-write-text-requires c κs = (row-inside _ (c .before .before .before .if1 .taken), room (c .before .before .before .before .before .before .args .row .now) (c .before .before .before .before .before .before .args .buffer .now) (c .before .before .before .if1 .taken) _ (c .before .before .text-fits .ensures) (c .before .if2 .taken))
+write-text-requires c κs = (row-inside _ (c .before .before .before .if1 .taken), room _ (c .before .before .before .before .before .before .args .row .now) (c .before .before .before .before .before .before .args .buffer .now) (c .before .before .before .if1 .taken) _ (c .before .before .text-fits .ensures) (c .before .if2 .taken))
 
 same-length : tie.Need-same-length
 same-length c = search needs
 
 returns : tie.Need-returns
-returns c = written (c .before .before .before .before .before .before .before .before .before .args .row .now) (c .before .before .before .before .before .before .before .before .before .args .buffer .now) (c .before .before .before .before .before .before .if1 .taken) _ (c .before .before .before .before .before .text-fits .ensures) (c .before .before .before .before .if2 .taken) _ _ (c .before .before .write-text .ensures)
+returns c = written _ (c .before .before .before .before .before .before .before .before .before .args .row .now) (c .before .before .before .before .before .before .before .before .before .args .buffer .now) (c .before .before .before .before .before .before .if1 .taken) _ (c .before .before .before .before .before .text-fits .ensures) (c .before .before .before .before .if2 .taken) _ _ (c .before .before .write-text .ensures)
 
 returns-2 : tie.Need-returns-2
-returns-2 c = too-long (c .before .before .before .before .before .args .row .now) (c .before .before .before .before .before .args .buffer .now) (c .before .before .if1 .taken) _ (c .before .text-fits .ensures) (c .if2 .left)
+returns-2 c = too-long _ (c .before .before .before .before .before .args .row .now) (c .before .before .before .before .before .args .buffer .now) (c .before .before .if1 .taken) _ (c .before .text-fits .ensures) (c .if2 .left)
 
 returns-3 : tie.Need-returns-3
-returns-3 c = not-a-row (c .before .before .before .args .row .now) (c .before .before .before .args .buffer .now) (c .if1 .left)
+returns-3 c = not-a-row _ (c .before .before .before .args .row .now) (c .before .before .before .args .buffer .now) (c .if1 .left)
 
 pub tree-text-spec : {M : Type 1} → statement M
 tree-text-spec =

@@ -2,6 +2,7 @@
 use mathlib.Core.Path.{_≡_}
 use Prim.Native.Nat.{_-_, _*_, _%_, _^_, _<_}
 use native.Mathlib.Omega.{arith}
+use Rattle.shares.specs.Constant.{constantLevels}
 use Rattle.shares.specs.BlockLaws.{first-lt}
 use Rattle.words.specs.Shifts.{power-shift}
 use Rattle.words.specs.TermLaws.{values-is}
@@ -31,7 +32,7 @@ leaf-values-requires c κs = (c .pre .0, omega (arith, leaf-lt c))
 
 returns : tie.Need-returns
 returns c =
-    values-is _ _ _ _ (c .leaf-values .result) (c .leaf-values .ok) (λ i. rw (power (c .before)) at (c .leaf-values .ensures i))
+    values-is constantLevels _ _ _ _ (c .leaf-values .result) (c .leaf-values .ok) (λ i. rw (power (c .before)) at (c .leaf-values .ensures i))
 
 pub values-at-spec : {M : Type 1} → statement M
 values-at-spec =
