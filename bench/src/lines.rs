@@ -9,7 +9,7 @@ use std::time::Duration;
 const LONG_ENOUGH: Duration = Duration::from_millis(150);
 
 /// The call that a line measures.
-#[derive(Clone, Copy, PartialEq, Eq)]
+#[derive(Clone, Copy)]
 pub enum Call {
     Ask,
     Constant,

@@ -58,7 +58,7 @@ mod tests {
     use super::{all, TEXTS};
     use brute::tree_text::constant_of_text;
 
-    /// How many are read and what the others are refused by, family by family.
+    /// The refusal number of all texts of each family, 0 for those that are read, and how long the repeated ones are.
     #[test]
     fn what_reading_gives() {
         let due = [0, 0, 0, 0, 15, 15, 16, 17];

@@ -22,7 +22,7 @@ pub const FAMILIES: &[Family] = &[
     ("mistyped tree texts", mistyped_texts),
 ];
 
-/// 0 stands for what was read.
+/// The refusal numbers; 0 stands for none.
 const ALL_NUMBERS: [u8; 4] = [0, NO_TREE_TEXT, COULD_BE_FOLDED, TALLER];
 
 /// Reads one text after the other in the same memory.
@@ -70,6 +70,7 @@ impl Reading<'_> {
         }
     }
 
+    /// The same without the reader here.
     fn told(&mut self, text: &[u8], due: Read) {
         self.seen.note_refusal(due.err().unwrap_or(0));
         let fault = self.fault_of_call(text, due);
@@ -120,7 +121,7 @@ impl Reading<'_> {
     }
 
     /// Each of these numbers was seen so often.
-    fn refused_each(&mut self, numbers: &[u8], least: usize) {
+    fn seen_each(&mut self, numbers: &[u8], least: usize) {
         let numbers: Vec<usize> = numbers.iter().map(|n| usize::from(*n)).collect();
         self.seen.refused(self.report, &numbers, least);
     }
@@ -133,9 +134,9 @@ fn shown(text: &[u8]) -> String {
 fn by_hand(report: &mut Report) {
     let mut reading = Reading::new(report);
     for (text, due) in BY_HAND {
-        reading.known(text.as_bytes(), *due);
+        reading.told(text.as_bytes(), *due);
     }
-    reading.refused_each(&ALL_NUMBERS, 4);
+    reading.seen_each(&ALL_NUMBERS, 4);
 }
 
 fn every_short_text(report: &mut Report) {
@@ -178,10 +179,10 @@ fn every_byte(report: &mut Report) {
             }
         }
     }
-    reading.refused_each(&ALL_NUMBERS, 20);
+    reading.seen_each(&ALL_NUMBERS, 20);
 }
 
-/// All constants no taller than 4, and random ones.
+/// All constants no taller than 4; those with one or two leaves full, and with one or two empty; and random ones.
 fn written_and_read(report: &mut Report) {
     let mut reading = Reading::new(report);
     let low = (0..=u16::MAX).map(|halves| {
@@ -189,6 +190,8 @@ fn written_and_read(report: &mut Report) {
         (0..16).map(twice).sum()
     });
     let mut constants: Vec<u32> = low.collect();
+    let two = (0..32).flat_map(|one| (0..=one).map(move |other| 1 << one | 1 << other));
+    constants.extend(two.flat_map(|two: u32| [two, !two]));
     for _ in 0..reading.report.rounds(20_000) {
         constants.push(random_leaves(&mut reading.random, CONSTANT_HEIGHT));
         constants.push(reading.random.number() as u32);
@@ -217,7 +220,7 @@ fn round_the_longest(report: &mut Report) {
             }
         }
     }
-    reading.refused_each(&ALL_NUMBERS, 2);
+    reading.seen_each(&ALL_NUMBERS, 2);
 }
 
 /// Trees of every height that a text of up to 94 bytes can have.
@@ -229,7 +232,7 @@ fn grown_texts(report: &mut Report) {
             reading.grown(&text, height);
         }
     }
-    reading.refused_each(&[0, COULD_BE_FOLDED, TALLER], 500);
+    reading.seen_each(&[0, COULD_BE_FOLDED, TALLER], 500);
 }
 
 fn mistyped_texts(report: &mut Report) {
@@ -238,5 +241,5 @@ fn mistyped_texts(report: &mut Report) {
         let text = some_text(&mut reading.random);
         reading.text(&text);
     }
-    reading.refused_each(&ALL_NUMBERS, 500);
+    reading.seen_each(&ALL_NUMBERS, 500);
 }

@@ -16,7 +16,6 @@ pub const TALLER: u8 = 17;
 pub type Read = Result<u32, u8>;
 
 /// What is left of a text: signs that no tree has taken in, and trees.
-#[derive(Clone)]
 enum Piece {
     Sign(u8),
     Tree(Tree),
@@ -41,12 +40,16 @@ fn pair(pieces: &[Piece]) -> Option<Piece> {
     }
 }
 
+/// Where the first pair begins whose halves are trees, and that pair.
+fn first_pair(pieces: &[Piece]) -> Option<(usize, Piece)> {
+    let mut fours = pieces.windows(4).enumerate();
+    fours.find_map(|(at, four)| Some((at, pair(four)?)))
+}
+
 /// The tree, folded or not, that is written so.
 pub fn tree_of_text(text: &[u8]) -> Option<Tree> {
     let mut pieces: Vec<Piece> = text.iter().map(piece).collect();
-    while let Some((at, tree)) =
-        (0..pieces.len()).find_map(|at| Some((at, pair(pieces.get(at..at + 4)?)?)))
-    {
+    while let Some((at, tree)) = first_pair(&pieces) {
         pieces.splice(at..at + 4, [tree]);
     }
     match &pieces[..] {

@@ -27,7 +27,7 @@ pub const BY_HAND: &[(&str, Read)] = &[
     ("(((((*o)o)o)o)o)", Ok(0x0000_0001)),
     ("(o(o(o(o(o*)))))", Ok(0x8000_0000)),
     ("(*(*(*(*(o*)))))", Ok(0xBFFF_FFFF)),
-    // 15.
+    // 15: no tree text.
     ("", NONE),
     ("x", NONE),
     ("O", NONE),
@@ -56,7 +56,7 @@ pub const BY_HAND: &[(&str, Read)] = &[
     ("(o*)\0", NONE),
     ("[o*]", NONE),
     ("(o,*)", NONE),
-    // 16.
+    // 16: a pair that could be folded.
     ("(oo)", FOLDS),
     ("(**)", FOLDS),
     ("((oo)*)", FOLDS),
@@ -65,7 +65,7 @@ pub const BY_HAND: &[(&str, Read)] = &[
     ("((oo)(oo))", FOLDS),
     ("((o*)(**))", FOLDS),
     ("((((*o)o)o)(o(o(**))))", FOLDS),
-    // 17.
+    // 17: taller than 5.
     ("((((((o*)o)o)o)o)o)", TALL),
     ("(o(o(o(o(o(o*))))))", TALL),
     ("(*(o(*(o(*(o*))))))", TALL),
@@ -176,8 +176,8 @@ fn mistyped(random: &mut Random, text: &[u8]) -> Vec<u8> {
     text
 }
 
-/// A grown text, low more often than not and some pairs too long at most, that may have a pair that could be folded and be mistyped up
-/// to twice.
+/// A grown text, often a low one and at most two pairs too long. It may have a pair that could be folded, and it may be mistyped, once or
+/// twice.
 pub fn some_text(random: &mut Random) -> Vec<u8> {
     let tallest = random.pick(&[CONSTANT_HEIGHT as usize + 1, MOST_PAIRS + 2]);
     let height = random.below(tallest + 1);

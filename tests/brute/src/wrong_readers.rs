@@ -167,7 +167,7 @@ fn cut_constant(tree: &Tree) -> u32 {
 fn slips_noticed(report: &mut Report) {
     let mut reading = Reading::new(report);
     let mut changed = [0; SLIPS.len()];
-    for _ in 0..reading.report.rounds(8_000) {
+    for _ in 0..reading.report.rounds(10_000) {
         let text = some_text(&mut reading.random);
         reading.text(&text);
         let right = constant_of_text(&text);
@@ -180,5 +180,5 @@ fn slips_noticed(report: &mut Report) {
         }
     }
     let names = SLIPS.map(|(name, _)| name);
-    enough(reading.report, "constants", names, changed, 50);
+    enough(reading.report, "constants", names, changed, 30);
 }
