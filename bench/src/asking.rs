@@ -1,6 +1,7 @@
-//! Asks the questions of a family, in rounds.
+//! Calls the library with the questions or texts of a family, in rounds.
 
 use crate::families::Family;
+use crate::lines::Call;
 use brute::judge::ANSWER_BYTES;
 use brute::library::{self, ASK_WORK_BYTES};
 use std::hint::black_box;
@@ -24,12 +25,12 @@ impl Buffers {
         }
     }
 
-    pub fn ask(&mut self, bytes: &[u8]) -> u64 {
-        black_box(library::ask(
-            black_box(bytes),
-            &mut self.answer,
-            &mut self.work,
-        ))
+    pub fn call(&mut self, call: Call, bytes: &[u8]) -> u64 {
+        let bytes = black_box(bytes);
+        black_box(match call {
+            Call::Ask => library::ask(bytes, &mut self.answer, &mut self.work),
+            Call::Constant => library::constant(bytes),
+        })
     }
 }
 

@@ -1,7 +1,7 @@
-//! Counts instructions inside zimorgal_ask with valgrind's callgrind.
+//! Counts instructions inside zimorgal_ask and zimorgal_constant with valgrind's callgrind.
 
 use crate::asking::Buffers;
-use crate::families;
+use crate::lines;
 use std::hint::black_box;
 use std::io::ErrorKind;
 use std::path::{Path, PathBuf};
@@ -10,17 +10,22 @@ use std::process::Command;
 /// The argument with which this program asks all questions once.
 pub const ASK_ONCE: &str = "ask-once";
 
+/// The calls inside which instructions are counted.
+const CALLS: [&str; 2] = ["zimorgal_ask", "zimorgal_constant"];
+
 /// Settings of the C library: no `rep stosb` and no `rep movsb` in its memset and memcpy. Callgrind would count the one
 /// that clears the work area 4,096 times.
 const NO_REPEATS: &str = "glibc.cpu.x86_rep_stosb_threshold=1000000000:\
                            glibc.cpu.x86_rep_movsb_threshold=1000000000";
 
-/// Asks all questions once, for callgrind.
+/// Asks all questions and reads all texts once, for callgrind. Where the library has no such call nothing is counted.
 pub fn ask_once() {
     let mut buffers = Buffers::new();
-    for family in families::all() {
-        for question in &family.questions {
-            buffers.ask(question);
+    for line in lines::all() {
+        if line.call.is_there() {
+            for bytes in &line.family.questions {
+                buffers.call(line.call, bytes);
+            }
         }
         bench_family_ends();
     }
@@ -38,7 +43,8 @@ pub fn count(program: &Path) -> Result<Vec<u64>, String> {
     let folder = Folder::new().map_err(|error| error.to_string())?;
     let counts = folder.0.join("counts");
     let run = Command::new("valgrind")
-        .args(["--tool=callgrind", "--toggle-collect=zimorgal_ask"])
+        .arg("--tool=callgrind")
+        .args(CALLS.map(|call| format!("--toggle-collect={call}")))
         .arg("--dump-after=bench_family_ends")
         .arg(format!("--callgrind-out-file={}", counts.display()))
         .arg(program)
@@ -56,7 +62,13 @@ pub fn count(program: &Path) -> Result<Vec<u64>, String> {
         return Err(format!("valgrind failed: {last}"));
     }
     let count = |number: usize| count_of_file(&counts.with_extension(number.to_string()));
-    (1..=families::all().len()).map(count).collect()
+    let counts: Vec<u64> = (1..=lines::all().len())
+        .map(count)
+        .collect::<Result<_, _>>()?;
+    match counts.iter().any(|count| *count > 0) {
+        true => Ok(counts),
+        false => Err("callgrind counted nothing".to_string()),
+    }
 }
 
 /// The number that a file of callgrind gives as its total.
@@ -64,10 +76,8 @@ fn count_of_file(file: &Path) -> Result<u64, String> {
     let text = std::fs::read_to_string(file)
         .map_err(|error| format!("callgrind's {}: {error}", file.display()))?;
     let total = text.lines().find_map(|line| line.strip_prefix("totals: "));
-    match total.and_then(|number| number.trim().parse().ok()) {
-        Some(0) | None => Err("callgrind counted nothing".to_string()),
-        Some(number) => Ok(number),
-    }
+    let number = total.and_then(|number| number.trim().parse().ok());
+    number.ok_or_else(|| format!("callgrind's {} has no total", file.display()))
 }
 
 /// A folder that is there as long as this.

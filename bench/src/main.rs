@@ -1,12 +1,15 @@
-//! Prints one table: nanoseconds and instructions per question for the library, and nanoseconds for route B, family
-//! by family. The library must be linked: set ZIMORGAL_LIB_DIR to the folder of libzimorgal.a. A second archive is
+//! Prints one table: nanoseconds and instructions per question or tree text for the library, and nanoseconds for route B or a plain
+//! reader, family by family. The library must be linked: set ZIMORGAL_LIB_DIR to the folder of libzimorgal.a. A second archive is
 //! measured beside it through this same program, built with that one.
 
 mod asking;
 mod families;
 mod instructions;
+mod lines;
+mod plain_reader;
 mod route_b;
 mod table;
+mod texts;
 mod turns;
 
 use brute::library;

@@ -2,14 +2,13 @@
 
 use crate::asking::{median_round, Buffers};
 use crate::families::Family;
+use crate::lines::Call;
 use brute::fixed::rows;
 use brute::question::read;
 use brute::single::decide;
 use std::hint::black_box;
 use std::time::{Duration, Instant};
 
-/// How long the rounds of one family go on.
-const LONG_ENOUGH: Duration = Duration::from_millis(150);
 /// Route B is left out where a family's first question takes longer; the table says so.
 pub const TOO_LONG: Duration = Duration::from_secs(5);
 
@@ -17,7 +16,7 @@ pub const TOO_LONG: Duration = Duration::from_secs(5);
 type Said = [u8; 4];
 
 fn library_says(bytes: &[u8]) -> Option<Said> {
-    let fields = Buffers::new().ask(bytes).to_le_bytes();
+    let fields = Buffers::new().call(Call::Ask, bytes).to_le_bytes();
     (fields[0] > 0).then_some([fields[0], fields[4], fields[5], fields[6]])
 }
 
@@ -52,8 +51,8 @@ pub fn must_agree(family: &Family) {
 }
 
 /// Route B's nanoseconds per question, unless it takes too long.
-pub fn time(family: &Family) -> Option<f64> {
+pub fn time(family: &Family, long: Duration) -> Option<f64> {
     let began = Instant::now();
     ask_route_b(family.questions.first()?);
-    (began.elapsed() <= TOO_LONG).then(|| median_round(family, LONG_ENOUGH, ask_route_b))
+    (began.elapsed() <= TOO_LONG).then(|| median_round(family, long, ask_route_b))
 }

@@ -1,8 +1,8 @@
 //! The table.
 
-use crate::families::{self, Family};
 use crate::instructions;
-use crate::route_b::{self, TOO_LONG};
+use crate::lines::{self, Line};
+use crate::route_b::TOO_LONG;
 use crate::turns::{by_turns, Program};
 use std::path::Path;
 
@@ -21,11 +21,11 @@ impl Archive {
         }
     }
 
-    /// The instructions per question.
-    fn instructions(&self, number: usize, family: &Family) -> String {
+    /// The instructions per question or text.
+    fn instructions(&self, number: usize, line: &Line) -> String {
         match &self.counts {
             Ok(counts) => {
-                let count = counts[number] as f64 / family.questions.len() as f64;
+                let count = counts[number] as f64 / line.family.questions.len() as f64;
                 format!("{count:.0}")
             }
             Err(_) => "-".to_string(),
@@ -40,17 +40,18 @@ pub fn print(other: Option<&Path>) {
     archives.extend(other.map(Archive::new));
     print_line("family", "questions", &head(other.is_some()));
     let mut differs = false;
-    for (number, family) in families::all().iter().enumerate() {
-        route_b::must_agree(family);
+    let lines = lines::all();
+    let there = |(_, line): &(usize, &Line)| line.call.is_there();
+    for (number, line) in lines.iter().enumerate().filter(there) {
+        line.must_agree();
         let times = times(number, &mut archives);
         differs |= times.contains(&None);
-        let cells = cells(number, family, &archives, &times);
-        print_line(&family.name, &family.questions.len().to_string(), &cells);
+        let cells = cells(number, line, &archives, &times);
+        let questions = line.family.questions.len();
+        print_line(&line.family.name, &questions.to_string(), &cells);
     }
     if differs {
-        println!(
-            "differs: the other archive gives another result for some question, and is not measured"
-        );
+        println!("differs: the other archive gives another result or has no such call, and is not measured");
     }
     if let Some(why) = archives
         .iter()
@@ -76,12 +77,12 @@ fn head(with_other: bool) -> Vec<String> {
     let cells = [
         &["library ns", "instructions"],
         other,
-        &["route B ns", "ratio"],
+        &["compared ns", "ratio"],
     ];
     cells.concat().into_iter().map(String::from).collect()
 }
 
-/// The nanoseconds per question of each archive; none where it gives other results than the first.
+/// The nanoseconds per question or text of each archive; none where it gives other results than the first.
 fn times(number: usize, archives: &mut [Archive]) -> Vec<Option<f64>> {
     let programs = archives.iter_mut().map(|archive| &mut archive.program);
     let results: Vec<String> = programs.map(|program| program.results(number)).collect();
@@ -102,28 +103,32 @@ fn times(number: usize, archives: &mut [Archive]) -> Vec<Option<f64>> {
     results.iter().map(time).collect()
 }
 
-fn cells(
-    number: usize,
-    family: &Family,
-    archives: &[Archive],
-    times: &[Option<f64>],
-) -> Vec<String> {
+fn cells(number: usize, line: &Line, archives: &[Archive], times: &[Option<f64>]) -> Vec<String> {
     let mut cells = Vec::new();
     for (archive, time) in archives.iter().zip(times) {
         cells.extend(match time {
-            Some(ns) => [format!("{ns:.0}"), archive.instructions(number, family)],
+            Some(ns) => [nanoseconds(*ns), archive.instructions(number, line)],
             None => ["differs".to_string(), "differs".to_string()],
         });
     }
     let by_library = times[0].expect("the first is alike itself");
-    cells.extend(route_b_cells(family, by_library));
+    cells.extend(compared_cells(line, by_library));
     cells
 }
 
-/// Route B's nanoseconds per question, and how many times the library's they are.
-fn route_b_cells(family: &Family, by_library: f64) -> [String; 2] {
-    match route_b::time(family) {
-        Some(ns) => [format!("{ns:.0}"), format!("{:.1}", ns / by_library)],
+/// With a digit behind the point where there are few.
+fn nanoseconds(ns: f64) -> String {
+    if ns < 100.0 {
+        format!("{ns:.1}")
+    } else {
+        format!("{ns:.0}")
+    }
+}
+
+/// The nanoseconds of what the library is compared with, and how many times the library's they are.
+fn compared_cells(line: &Line, by_library: f64) -> [String; 2] {
+    match line.time_compared() {
+        Some(ns) => [nanoseconds(ns), format!("{:.1}", ns / by_library)],
         None => {
             let least = TOO_LONG.as_nanos() as f64;
             let ratio = least / by_library;

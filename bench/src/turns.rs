@@ -1,7 +1,7 @@
-//! Programs, each linked with one archive, that ask a family's questions by turns.
+//! Programs, each linked with one archive, that go through the questions or texts of a line by turns.
 
 use crate::asking::{median_round, Buffers};
-use crate::families::{self, Family};
+use crate::lines::{self, Line};
 use std::io::{stdin, BufRead, BufReader, Write};
 use std::path::Path;
 use std::process::{Child, ChildStdin, ChildStdout, Command, Stdio};
@@ -13,36 +13,40 @@ const TURNS: usize = 5;
 /// How long the rounds of one turn go on.
 const TURN: Duration = Duration::from_millis(30);
 
-/// What is asked for of a family.
+/// What is asked for of a line.
 const RESULTS: &str = "results";
 const TIME: &str = "time";
 
-/// A line of input names what is asked for and the number of a family; a line of output answers it.
+/// The input names what is asked for and the number of a line of the table; the output answers it. Both go by lines too.
 pub fn serve() {
-    let families = families::all();
-    for line in stdin().lock().lines() {
-        let line = line.expect("a line");
-        let (wanted, number) = line.split_once(' ').expect("two words");
-        let family = &families[number.parse::<usize>().expect("a number")];
+    let lines = lines::all();
+    for input in stdin().lock().lines() {
+        let input = input.expect("a line");
+        let (wanted, number) = input.split_once(' ').expect("two words");
+        let line = &lines[number.parse::<usize>().expect("a number")];
         match wanted {
-            RESULTS => println!("{}", results(family)),
-            TIME => println!("{}", time(family)),
-            _ => panic!("{line}"),
+            RESULTS => println!("{}", results(line)),
+            TIME => println!("{}", time(line)),
+            _ => panic!("{input}"),
         }
     }
 }
 
-/// What the library gives for each question, in hexadecimal digits.
-fn results(family: &Family) -> String {
+/// What the library gives for each question or text, in hexadecimal digits; nothing where it has no such call.
+fn results(line: &Line) -> String {
+    if !line.call.is_there() {
+        return String::new();
+    }
     let mut buffers = Buffers::new();
-    let results = family.questions.iter().map(|bytes| buffers.ask(bytes));
+    let questions = line.family.questions.iter();
+    let results = questions.map(|bytes| buffers.call(line.call, bytes));
     let digits: Vec<String> = results.map(|result| format!("{result:016X}")).collect();
     digits.concat()
 }
 
-fn time(family: &Family) -> f64 {
+fn time(line: &Line) -> f64 {
     let mut buffers = Buffers::new();
-    median_round(family, TURN, |bytes| buffers.ask(bytes))
+    median_round(&line.family, TURN, |bytes| buffers.call(line.call, bytes))
 }
 
 /// A program that serves. It ends when its input ends.
@@ -69,9 +73,9 @@ impl Program {
         }
     }
 
-    fn answer(&mut self, wanted: &str, family: usize) -> String {
+    fn answer(&mut self, wanted: &str, number: usize) -> String {
         let input = self.input.as_mut().expect("its input");
-        writeln!(input, "{wanted} {family}").expect("the program reads");
+        writeln!(input, "{wanted} {number}").expect("the program reads");
         let mut line = String::new();
         self.output
             .read_line(&mut line)
@@ -80,13 +84,13 @@ impl Program {
         line.trim_end().to_string()
     }
 
-    /// What the library that is linked there gives for each question of a family.
-    pub fn results(&mut self, family: usize) -> String {
-        self.answer(RESULTS, family)
+    /// What the library that is linked there gives for each question or text of a line.
+    pub fn results(&mut self, number: usize) -> String {
+        self.answer(RESULTS, number)
     }
 
-    fn time(&mut self, family: usize) -> f64 {
-        self.answer(TIME, family).parse().expect("a time")
+    fn time(&mut self, number: usize) -> f64 {
+        self.answer(TIME, number).parse().expect("a time")
     }
 }
 
@@ -97,12 +101,12 @@ impl Drop for Program {
     }
 }
 
-/// The nanoseconds per question of each program's median turn. The programs take turns.
-pub fn by_turns(programs: &mut [&mut Program], family: usize) -> Vec<f64> {
+/// The nanoseconds per question or text of each program's median turn. The programs take turns.
+pub fn by_turns(programs: &mut [&mut Program], number: usize) -> Vec<f64> {
     let mut times = vec![Vec::new(); programs.len()];
     for _ in 0..TURNS {
         for (program, times) in programs.iter_mut().zip(&mut times) {
-            times.push(program.time(family));
+            times.push(program.time(number));
         }
     }
     times.into_iter().map(median).collect()

@@ -1,9 +1,9 @@
-//! Links libzimorgal.a when ZIMORGAL_LIB_DIR names the folder that holds it.
+//! Links libzimorgal.a when ZIMORGAL_LIB_DIR names the folder that holds it, and says whether it reads tree text.
 
 use std::path::Path;
 
 fn main() {
-    println!("cargo:rustc-check-cfg=cfg(linked)");
+    println!("cargo:rustc-check-cfg=cfg(linked, reads_text)");
     println!("cargo:rerun-if-env-changed=ZIMORGAL_LIB_DIR");
     println!("cargo:rerun-if-changed=build.rs");
     let Ok(folder) = std::env::var("ZIMORGAL_LIB_DIR") else {
@@ -17,4 +17,13 @@ fn main() {
     println!("cargo:rustc-link-search=native={}", folder.display());
     println!("cargo:rustc-link-lib=static=zimorgal");
     println!("cargo:rustc-cfg=linked");
+    if names(&archive, b"zimorgal_constant") {
+        println!("cargo:rustc-cfg=reads_text");
+    }
+}
+
+/// Whether an archive has this call; the benchmark links older ones too.
+fn names(archive: &Path, call: &[u8]) -> bool {
+    let bytes = std::fs::read(archive).expect("the archive can be read");
+    bytes.windows(call.len()).any(|part| part == call)
 }

@@ -9,6 +9,7 @@ use crate::question::{hex, MOST_VARIABLES};
 use crate::random::Random;
 use crate::report::{Family, Report};
 use crate::tree::{number_of_tree, tree_of_number, tree_of_row};
+use crate::tree_text::{constant_of_text, packed};
 
 pub const FAMILIES: &[Family] = &[
     ("the row call", rows),
@@ -40,6 +41,11 @@ pub fn text_due(row: &[u8], text_bytes: usize) -> (u64, Vec<u8>) {
 pub fn join_due(a: u32, b: u32) -> u64 {
     let joined = tree_of_number(a).join(&tree_of_number(b));
     joined.map_or(1 << 32, |tree| u64::from(number_of_tree(&tree)))
+}
+
+/// The number that reading a text is to give.
+pub fn constant_due(text: &[u8]) -> u64 {
+    packed(constant_of_text(text))
 }
 
 pub fn height_due(a: u32) -> u32 {

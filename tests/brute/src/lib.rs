@@ -5,14 +5,15 @@
 //! - `whole`: route A, every assignment of whole trees up to a height;
 //! - `single`: route B, one choice of values at a time, leaf by leaf;
 //! - `fixed`, `least`, `slips`: the fixed solution by its words, by whole trees, and with one word misread;
+//! - `tree_text`, `typed`, `wrong_readers`: a reader of tree text, texts for it, and readers with one word misread;
 //! - `judge`: whether shown rows are a solution, and do not extend for the reason given;
 //! - `random`, `make`, `hidden`, `damage`, `worked`, `refusals`, `limits`, `every_byte`: questions and bytes;
 //! - `draft`, `pinned`: questions whose answer is told by how they were built;
 //! - `library`, `lent`, `due`, `asking`: the exported calls, what is lent to them and what they are to give;
 //! - `options`, `report`, `seen`: what a run is told, what it counts and what it must have seen;
 //! - `plain`, `routes`, `judging`: families of the solver alone;
-//! - `calls`, `documents`, `by_hand`, `before`, `made`, `misread`, `policies`, `splits`, `numbers`, `terms`, `loose`: families of
-//!   the library.
+//! - `calls`, `reading`, `documents`, `by_hand`, `before`, `made`, `misread`, `policies`, `splits`, `numbers`, `terms`, `loose`:
+//!   families of the library.
 
 pub mod asking;
 pub mod before;
@@ -42,6 +43,7 @@ pub mod plain;
 pub mod policies;
 pub mod question;
 pub mod random;
+pub mod reading;
 pub mod refusals;
 pub mod report;
 pub mod routes;
@@ -51,8 +53,11 @@ pub mod slips;
 pub mod splits;
 pub mod terms;
 pub mod tree;
+pub mod tree_text;
+pub mod typed;
 pub mod whole;
 pub mod worked;
+pub mod wrong_readers;
 
 use report::Family;
 
@@ -60,6 +65,8 @@ use report::Family;
 /// table of tests/README.md.
 pub const WITH_THE_LIBRARY: &[&[Family]] = &[
     calls::FAMILIES,
+    reading::FAMILIES,
+    wrong_readers::FAMILIES,
     documents::FAMILIES,
     by_hand::FAMILIES,
     before::FAMILIES,

@@ -5,21 +5,21 @@ pub const ASK_WORK_BYTES: usize = 4096;
 /// The longest text that a row has.
 pub const LONGEST_TEXT: usize = 3070;
 
-/// Declares the calls; without the library they are functions that say so and end the run.
+/// Declares the calls, each with what must be linked for it; without that they are functions that say so and end the run.
 macro_rules! exported {
-    ($(fn $call:ident($($argument:ident: $type:ty),*) -> $given:ty;)*) => {
+    ($($there:ident: fn $call:ident($($argument:ident: $type:ty),*) -> $given:ty;)*) => {
         /// The calls on bare pointers.
         pub mod bare {
-            #[cfg(linked)]
-            extern "C" {
-                $(pub fn $call($($argument: $type),*) -> $given;)*
-            }
             $(
+                #[cfg($there)]
+                extern "C" {
+                    pub fn $call($($argument: $type),*) -> $given;
+                }
                 /// # Safety
                 /// It is never there to be called.
-                #[cfg(not(linked))]
+                #[cfg(not($there))]
                 pub unsafe extern "C" fn $call($(_: $type),*) -> $given {
-                    panic!("the library is not linked: set ZIMORGAL_LIB_DIR")
+                    panic!("the library, or one with this call, is not linked: set ZIMORGAL_LIB_DIR")
                 }
             )*
         }
@@ -27,19 +27,25 @@ macro_rules! exported {
 }
 
 exported! {
-    fn zimorgal_ask(
+    linked: fn zimorgal_ask(
         question: *const u8, question_bytes: usize,
         answer: *mut u8, answer_bytes: usize,
         work: *mut u8, work_bytes: usize
     ) -> u64;
-    fn zimorgal_row(answer: *const u8, answer_bytes: usize, variable: usize) -> u64;
-    fn zimorgal_text(row: *const u8, row_bytes: usize, text: *mut u8, text_bytes: usize) -> u64;
-    fn zimorgal_join(a: u32, b: u32) -> u64;
-    fn zimorgal_height(a: u32) -> u32;
+    linked: fn zimorgal_row(answer: *const u8, answer_bytes: usize, variable: usize) -> u64;
+    linked: fn zimorgal_text(row: *const u8, row_bytes: usize, text: *mut u8, text_bytes: usize) -> u64;
+    linked: fn zimorgal_join(a: u32, b: u32) -> u64;
+    linked: fn zimorgal_height(a: u32) -> u32;
+    reads_text: fn zimorgal_constant(text: *const u8, text_bytes: usize) -> u64;
 }
 
 pub const fn linked() -> bool {
     cfg!(linked)
+}
+
+/// Whether the library that is linked reads tree text; one from before that has no such call.
+pub const fn reads_text() -> bool {
+    cfg!(reads_text)
 }
 
 pub fn ask(question: &[u8], answer: &mut [u8], work: &mut [u8]) -> u64 {
@@ -74,4 +80,9 @@ pub fn join(a: u32, b: u32) -> u64 {
 pub fn height(a: u32) -> u32 {
     // Only a number is passed.
     unsafe { bare::zimorgal_height(a) }
+}
+
+pub fn constant(text: &[u8]) -> u64 {
+    // The pointer comes with the length of its slice.
+    unsafe { bare::zimorgal_constant(text.as_ptr(), text.len()) }
 }

@@ -12,6 +12,8 @@ use crate::tree::{
     bytes_of_leaves, leaves_of_bytes, number_of_tree, row_of_tree, splits, tree_of_number,
     tree_of_row, Tree,
 };
+use crate::tree_text::{constant_of_text, tree_of_text};
+use crate::typed::BY_HAND;
 use crate::whole::{all_trees, satisfiable, tree_count, Trees, TALLEST};
 use crate::worked;
 
@@ -22,6 +24,7 @@ pub const FAMILIES: &[Family] = &[
         "the reader: questions written and read again",
         written_and_read,
     ),
+    ("the reader: tree texts", tree_texts),
     ("route B: worked questions", worked_by_hand),
     (
         "route A: heights without a solution",
@@ -135,6 +138,35 @@ fn heights_without_a_solution(report: &mut Report) {
         for (height, expected) in heights.iter().enumerate() {
             let given = satisfiable(trees, &question, height as u32);
             report.same_apart("has a solution of that height", given, *expected);
+        }
+    }
+}
+
+/// The trees, folded or not, with so many pairs.
+fn trees_of_pairs(pairs: usize) -> Vec<Tree> {
+    if pairs == 0 {
+        return vec![Tree::Empty, Tree::Full];
+    }
+    let mut trees = Vec::new();
+    for on_the_left in 0..pairs {
+        let rights = trees_of_pairs(pairs - 1 - on_the_left);
+        for left in trees_of_pairs(on_the_left) {
+            let pair = |right: &Tree| Tree::Pair(Box::new(left.clone()), Box::new(right.clone()));
+            trees.extend(rights.iter().map(pair));
+        }
+    }
+    trees
+}
+
+/// What the reader gives of texts worked by hand, and of all trees with few pairs, written.
+fn tree_texts(report: &mut Report) {
+    for (text, due) in BY_HAND {
+        report.same_apart(text, constant_of_text(text.as_bytes()), *due);
+    }
+    for pairs in 0..=5 {
+        for tree in trees_of_pairs(pairs) {
+            let read = tree_of_text(tree.text().as_bytes());
+            report.same_apart("a tree, written", read, Some(tree));
         }
     }
 }

@@ -3,7 +3,7 @@
 use crate::asking::{ask, case};
 use crate::memory::{Heap, ALIGNMENTS};
 use crate::samples;
-use crate::texts::{row, text};
+use crate::texts::{constant, row, text};
 use brute::judge::ANSWER_BYTES;
 use brute::library::{ASK_WORK_BYTES, LONGEST_TEXT};
 use brute::make::random_row;
@@ -36,6 +36,9 @@ fn every_alignment(report: &mut Report) {
         for variable in 0..14 {
             let mut answer = Heap::new(&mut random, alignment, ANSWER_BYTES);
             report.case(row(&mut answer, variable));
+        }
+        for text in samples::tree_texts(&mut random) {
+            report.case(constant(&mut Heap::holding(&mut random, alignment, &text)));
         }
     }
 }

@@ -2,7 +2,7 @@
 //! printed if one of them crashes.
 
 use crate::memory::Memory;
-use brute::library::bare::{zimorgal_ask, zimorgal_row, zimorgal_text};
+use brute::library::bare::{zimorgal_ask, zimorgal_constant, zimorgal_row, zimorgal_text};
 use std::cell::Cell;
 use std::ffi::{c_int, c_void};
 
@@ -37,6 +37,12 @@ pub fn text(row: &mut dyn Memory, text: &mut dyn Memory) -> u64 {
     note("text", row);
     // Each pointer comes with the length of its memory, and the two share no byte.
     unsafe { zimorgal_text(row.pointer(), row.length(), text.pointer(), text.length()) }
+}
+
+pub fn constant(text: &mut dyn Memory) -> u64 {
+    note("constant", text);
+    // The pointer comes with the length of its memory.
+    unsafe { zimorgal_constant(text.pointer(), text.length()) }
 }
 
 /// How many bytes of what a call reads are printed if it crashes.

@@ -3,13 +3,15 @@
 use crate::asking::{ask, case};
 use crate::memory::{Heap, Memory, Null};
 use crate::samples;
-use crate::texts::{row, text};
+use crate::texts::{constant, row, text};
 use brute::due::{decided, Decided};
 use brute::judge::{ANSWER_BYTES, ROW_BYTES};
 use brute::library::{ASK_WORK_BYTES, LONGEST_TEXT};
 use brute::make::random_row;
 use brute::random::Random;
 use brute::report::{Family, Report};
+use brute::tree_text::LONGEST_READ;
+use brute::typed::SIGNS;
 
 pub const FAMILIES: &[Family] = &[
     ("null pointers", nulls),
@@ -19,6 +21,7 @@ pub const FAMILIES: &[Family] = &[
         "lengths for the row call and the text call",
         lengths_for_rows_and_texts,
     ),
+    ("lengths of tree texts", lengths_of_tree_texts),
 ];
 
 /// How far past an edge the lengths go.
@@ -54,6 +57,7 @@ fn nulls(report: &mut Report) {
         let mut to = or_null(random, which & 2 > 0, &[0; LONGEST_TEXT]);
         report.case(text(&mut *from, &mut *to));
     }
+    report.case(constant(&mut Null));
 }
 
 fn lengths_for_asking(report: &mut Report) {
@@ -134,6 +138,25 @@ fn lengths_for_rows_and_texts(report: &mut Report) {
             let mut from = Heap::holding(random, 0, &content);
             let mut to = Heap::new(random, 0, text_bytes);
             report.case(text(&mut from, &mut to));
+        }
+    }
+}
+
+/// Tree texts cut everywhere, with the signs that were cut off still behind the lent ones, and with more of one sign.
+fn lengths_of_tree_texts(report: &mut Report) {
+    let random = &mut report.random();
+    for whole in samples::tree_texts(random) {
+        for length in 0..whole.len() {
+            let mut cut = Heap::holding(random, 0, &whole);
+            cut.shorten(length);
+            report.case(constant(&mut cut));
+        }
+        for sign in SIGNS {
+            for length in whole.len()..LONGEST_READ + PAST {
+                let mut longer = whole.clone();
+                longer.resize(length, sign);
+                report.case(constant(&mut Heap::holding(random, 0, &longer)));
+            }
         }
     }
 }

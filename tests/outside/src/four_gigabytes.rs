@@ -5,7 +5,7 @@ use crate::asking::{ask, case};
 use crate::mapping::{page_bytes, Access, Mapping};
 use crate::memory::{Heap, Memory};
 use crate::samples;
-use crate::texts::{row, text_gives};
+use crate::texts::{constant_gives, row, text_gives};
 use brute::calls::text_due;
 use brute::due::decided;
 use brute::judge::{ANSWER_BYTES, ROW_BYTES};
@@ -13,6 +13,7 @@ use brute::library::{ASK_WORK_BYTES, LONGEST_TEXT};
 use brute::make::random_row;
 use brute::random::Random;
 use brute::report::{Family, Report};
+use brute::tree_text::{packed, NO_TREE_TEXT};
 
 pub const FAMILIES: &[Family] = &[("buffers of 16 MiB to 4 GiB", four_gigabytes)];
 
@@ -98,6 +99,7 @@ fn four_gigabytes(report: &mut Report) {
         asking(report, &mut random, &mut long, length);
         questions(report, &mut random, &mut long, length);
         rows_and_texts(report, &mut random, &mut long, length);
+        tree_texts(report, &mut random, &mut long, length);
     }
 }
 
@@ -162,6 +164,17 @@ fn rows_and_texts(report: &mut Report, random: &mut Random, long: &mut Long, lea
             let mut to = Heap::new(random, 0, LONGEST_TEXT);
             let from = long.lend(least + more, &content, random.byte());
             let given = text_gives(from, &mut to, (14 << 32, Vec::new()));
+            report.case(long.checked(given));
+        }
+    }
+}
+
+/// A long tree text. With as many bytes as are lent here its low bits say that it ends where the tree does.
+fn tree_texts(report: &mut Report, random: &mut Random, long: &mut Long, least: usize) {
+    let due = packed(Err(NO_TREE_TEXT));
+    for text in samples::few_tree_texts(random) {
+        for more in [0, text.len()] {
+            let given = constant_gives(long.lend(least + more, &text, random.byte()), due);
             report.case(long.checked(given));
         }
     }

@@ -3,7 +3,7 @@
 use crate::asking::{ask, case};
 use crate::memory::Heap;
 use crate::samples;
-use crate::texts::{row, text};
+use crate::texts::{constant, row, text};
 use brute::due::decided;
 use brute::judge::{ANSWER_BYTES, ROW_BYTES};
 use brute::library::{ASK_WORK_BYTES, LONGEST_TEXT};
@@ -49,6 +49,7 @@ fn long_buffers(report: &mut Report) {
     }
     questions(report, &mut random);
     rows_and_texts(report, &mut random);
+    tree_texts(report, &mut random);
 }
 
 /// Questions with bytes 00 behind their end, so many that the low 16 bits of the length say that it ends there.
@@ -84,6 +85,17 @@ fn rows_and_texts(report: &mut Report, random: &mut Random) {
             let mut from = Heap::holding(random, 0, &content);
             let mut to = Heap::new(random, 0, length);
             report.case(text(&mut from, &mut to));
+        }
+    }
+}
+
+/// Tree texts with more behind them, so much that the low 16 bits of the length say that they end there.
+fn tree_texts(report: &mut Report, random: &mut Random) {
+    for whole in samples::few_tree_texts(random) {
+        for length in lengths(whole.len()) {
+            let mut long = whole.clone();
+            long.resize(length, b'o');
+            report.case(constant(&mut Heap::holding(random, 0, &long)));
         }
     }
 }

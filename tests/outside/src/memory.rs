@@ -70,6 +70,11 @@ impl Heap {
         heap.bytes[heap.start..heap.start + content.len()].copy_from_slice(content);
         heap
     }
+
+    /// Lends only the first of its bytes.
+    pub fn shorten(&mut self, length: usize) {
+        self.length = self.length.min(length);
+    }
 }
 
 impl Memory for Heap {

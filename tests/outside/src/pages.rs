@@ -5,7 +5,7 @@ use crate::asking::{ask, case};
 use crate::mapping::{page_bytes, Access, Mapping};
 use crate::memory::Memory;
 use crate::samples;
-use crate::texts::{row, text};
+use crate::texts::{constant, row, text};
 use brute::due::{decided, Decided};
 use brute::judge::{ANSWER_BYTES, ROW_BYTES};
 use brute::library::{ASK_WORK_BYTES, LONGEST_TEXT};
@@ -14,11 +14,14 @@ use brute::question::write;
 use brute::random::Random;
 use brute::report::{Family, Report};
 use brute::tree::tree_of_row;
+use brute::tree_text::LONGEST_READ;
+use brute::typed::SIGNS;
 
 pub const FAMILIES: &[Family] = &[
     ("asking at the edge of a page", asking),
     ("cut questions at the edge of a page", cut_questions),
     ("rows and texts at the edge of a page", rows_and_texts),
+    ("tree texts at the edge of a page", tree_texts),
 ];
 
 #[derive(Clone, Copy, Debug, PartialEq, Eq)]
@@ -228,6 +231,23 @@ fn rows_and_texts(report: &mut Report) {
             for side in SIDES {
                 let content = random.bytes(answer_bytes);
                 report.case(row(answer.lend_to_read(random, side, &content), variable));
+            }
+        }
+    }
+}
+
+/// Tree texts whole and cut everywhere, and of every length up to past the longest, of one sign.
+fn tree_texts(report: &mut Report) {
+    let random = &mut report.random();
+    let mut pages = Pages::new(LONGEST_READ + MORE);
+    let mut texts = samples::tree_texts(random);
+    for sign in SIGNS {
+        texts.push(vec![sign; LONGEST_READ + MORE]);
+    }
+    for whole in texts {
+        for length in 0..=whole.len() {
+            for side in SIDES {
+                report.case(constant(pages.lend_to_read(random, side, &whole[..length])));
             }
         }
     }

@@ -3,7 +3,7 @@
 
 use crate::asking::{ask, case};
 use crate::samples;
-use crate::texts::text;
+use crate::texts::{constant, text};
 use brute::due::{decided, Decided};
 use brute::judge::{ANSWER_BYTES, ROW_BYTES};
 use brute::lent::{Content, Lent};
@@ -11,6 +11,8 @@ use brute::library::{ASK_WORK_BYTES, LONGEST_TEXT};
 use brute::make::random_row;
 use brute::random::Random;
 use brute::report::{Family, Report};
+use brute::tree_text::LONGEST_READ;
+use brute::typed::SIGNS;
 
 pub const FAMILIES: &[Family] = &[
     ("buffers zeroed and reused", zeroed_and_reused),
@@ -20,6 +22,10 @@ pub const FAMILIES: &[Family] = &[
     ),
     ("one byte in a zeroed buffer", one_byte),
     ("texts into a reused buffer", texts),
+    (
+        "the same memory, one byte of a tree text changed",
+        tree_texts,
+    ),
 ];
 
 struct Buffers {
@@ -118,5 +124,21 @@ fn texts(report: &mut Report) {
         let content = random_row(&mut random, [10, 0, 7, 3, 1][round % 5]);
         row.lend_holding(&mut random, &content);
         report.case(text(&mut row, &mut into));
+    }
+}
+
+/// Each tree text, then with another sign at a place, then as it was, for each place.
+fn tree_texts(report: &mut Report) {
+    let mut random = report.random();
+    let mut memory = Lent::new(&mut random, LONGEST_READ);
+    for text in samples::tree_texts(&mut random) {
+        for at in 0..text.len() {
+            let mut changed = text.clone();
+            changed[at] = random.pick(&SIGNS);
+            for text in [&text, &changed, &text] {
+                memory.lend_holding(&mut random, text);
+                report.case(constant(&mut memory));
+            }
+        }
     }
 }

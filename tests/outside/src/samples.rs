@@ -1,9 +1,11 @@
-//! Questions that several families start from.
+//! Questions and tree texts that several families start from.
 
 use brute::due::{decided, Decided};
 use brute::make::{crowded, entailment, random_question, Counts, Size, CHANGES};
 use brute::question::write;
 use brute::random::Random;
+use brute::tree_text::MOST_PAIRS;
+use brute::typed::{grown, grown_within, unfolded, BY_HAND};
 use brute::{refusals, worked};
 
 /// The questions worked by hand, and those that are refused.
@@ -65,4 +67,21 @@ pub fn one_of_each() -> Vec<(Vec<u8>, Decided)> {
         }
     }
     found
+}
+
+/// A leaf, and texts of 94 bytes: of a tree of height 5, of one of height 31, and of one with a pair that could be folded.
+pub fn few_tree_texts(random: &mut Random) -> [Vec<u8>; 4] {
+    let [low, tall] = [5, MOST_PAIRS].map(|height| grown(random, height, MOST_PAIRS));
+    [b"*".to_vec(), unfolded(random, &low), low, tall]
+}
+
+/// The same; those worked by hand, of which some are no tree text; and two of each height, one with a pair that could be folded.
+pub fn tree_texts(random: &mut Random) -> Vec<Vec<u8>> {
+    let mut texts = few_tree_texts(random).to_vec();
+    texts.extend(BY_HAND.iter().map(|(text, _)| text.as_bytes().to_vec()));
+    for height in 1..=MOST_PAIRS {
+        let text = grown_within(random, height, MOST_PAIRS);
+        texts.extend([unfolded(random, &text), text]);
+    }
+    texts
 }

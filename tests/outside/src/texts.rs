@@ -1,8 +1,8 @@
-//! What the text call and the row call are to give, and whether one call gives that.
+//! What the text call, the row call and the call that reads a constant are to give, and whether one call gives that.
 
 use crate::calls;
 use crate::memory::{all_with, Memory};
-use brute::calls::{row_due, text_due};
+use brute::calls::{constant_due, row_due, text_due};
 use brute::question::hex;
 
 /// One call of the text call with a row that is looked at whole.
@@ -59,6 +59,28 @@ pub fn row(answer: &mut dyn Memory, variable: usize) -> Result<(), String> {
     }
     if answer.all() != answer_due {
         return Err("the answer buffer, or a byte beside it, was changed".to_string());
+    }
+    Ok(())
+}
+
+/// One call that reads a constant from a text that is looked at whole.
+pub fn constant(text: &mut dyn Memory) -> Result<(), String> {
+    let lent = text.all()[text.start()..text.start() + text.length()].to_vec();
+    let given = constant_gives(text, constant_due(&lent));
+    given.map_err(|fault| format!("{fault}; text {}", lent.escape_ascii()))
+}
+
+/// One call that reads a constant and is to give this number.
+pub fn constant_gives(text: &mut dyn Memory, due: u64) -> Result<(), String> {
+    let text_before = text.all().to_vec();
+
+    let number = calls::constant(text);
+
+    if number != due {
+        return Err(format!("number {number:X}, expected {due:X}"));
+    }
+    if text.all() != text_before {
+        return Err("the text, or a byte beside it, was changed".to_string());
     }
     Ok(())
 }

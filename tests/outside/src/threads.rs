@@ -1,6 +1,7 @@
 //! Eight threads ask at once, each with buffers of its own. What each gets is what is due.
 
 use crate::samples;
+use brute::calls::constant_due;
 use brute::due::{decided, due};
 use brute::judge::{ANSWER_BYTES, ROW_BYTES};
 use brute::library::{self, ASK_WORK_BYTES, LONGEST_TEXT};
@@ -17,13 +18,14 @@ const QUESTIONS: usize = 4000;
 /// How often each thread goes through all questions.
 const TIMES: usize = 2;
 
-/// What the calls give for one question: asking, and the text of the first row.
+/// What the calls give for one question: asking, the text of the first row, and the constant that is read from it.
 #[derive(PartialEq, Eq)]
 struct Given {
     number: u64,
     answer: Vec<u8>,
     work: Vec<u8>,
     text: Vec<u8>,
+    constant: u64,
 }
 
 /// What the buffers hold before.
@@ -40,6 +42,7 @@ fn given(bytes: &[u8]) -> Given {
         number,
         answer,
         work,
+        constant: library::constant(&text),
         text,
     }
 }
@@ -54,6 +57,7 @@ fn given_due(bytes: &[u8]) -> Given {
         number: due.number,
         answer,
         work,
+        constant: constant_due(&text),
         text,
     }
 }
