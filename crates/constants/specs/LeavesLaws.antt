@@ -12,8 +12,8 @@ use Rattle.shares.specs.Constant.{bit, numberOf, numberTree}
 use Rattle.shares.specs.BitLaws.{bit-zero, bits-same, bits-zero, number-lt, bit-number}
 use Rattle.shares.specs.BitParts.{bit-low, bit-high, bit-ones}
 use Rattle.shares.specs.ConstantLaws.{leaf-number}
-use Rattle.constants.specs.Texts.{leavesNumber}
-use Rattle.constants.specs.Parts.{pairNumber}
+use Rattle.constants.specs.FromText.{leavesNumber}
+use Rattle.constants.specs.Tells.{pairNumber}
 
 pub leaves-lt : (k : ℕ) (t : Tree) → leavesNumber k t < 2 ^ (2 ^ k)
 unfolding leavesNumber

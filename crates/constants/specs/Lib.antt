@@ -1,7 +1,8 @@
 pub mod Begins
-pub mod Texts
-pub mod Parts
+pub mod BeginLaws
+pub mod FromText
+pub mod Tells
 pub mod LeavesLaws
-pub mod PartLaws
+pub mod ToldLaws
 pub mod TellLaws
-pub mod TextLaws
+pub mod FromTextLaws

@@ -13,28 +13,29 @@ use lib.Seq.{drop-cons, getD-drop}
 use Rattle.shares.specs.Tree.{Tree, leaf, pair, height}
 use Rattle.shares.specs.Text.{text}
 use Rattle.shares.specs.TextLaws.{height-text}
-use Rattle.constants.specs.Begins.{Begins, begins-none, begins-other, no-room, no-left, no-right, not-closed, closed}
-use Rattle.constants.specs.Parts.{Of, Small, Stands, Tells, leafFound, pairPart}
+use Rattle.constants.specs.Begins.{Begins}
+use Rattle.constants.specs.BeginLaws.{begins-none, begins-other, no-room, no-left, no-right, not-closed, closed}
+use Rattle.constants.specs.Tells.{Of, Small, Spans, Tells, leafFound, pairTold}
 use Rattle.constants.specs.LeavesLaws.{leaves-lt}
-use Rattle.constants.specs.PartLaws.{leaf-empty, leaf-full, pair-part}
-use Rattle.constants.specs.declared.Part.{Part}
+use Rattle.constants.specs.ToldLaws.{leaf-empty, leaf-full, pair-told}
+use Rattle.constants.specs.declared.Told.{Told}
 use Rattle.constants.specs.declared.Found.{Found}
 use Rattle.constants.specs.declared.Found.the-variants as found
 
--- ---- a part lies within the text, and its numbers are small
+-- ---- a tree's text lies within the whole, and its numbers are small
 
-module _ (s : List ℕ) (at : ℕ) (t : Tree) (p : Part) (S : Stands s at t p) where
-  part-length : length s - at ≡ length (text t) + (length s - p .end)
-  part-length = sym (length-drop at s) ∙ ap length (S .begins) ∙ length-append (text t) (drop (p .end) s) ∙ ap (λ n. length (text t) + n) (length-drop (p .end) s)
+module _ (s : List ℕ) (at : ℕ) (t : Tree) (p : Told) (S : Spans s at t p) where
+  told-length : length s - at ≡ length (text t) + (length s - p .end)
+  told-length = sym (length-drop at s) ∙ ap length (S .begins) ∙ length-append (text t) (drop (p .end) s) ∙ ap (λ n. length (text t) + n) (length-drop (p .end) s)
 
   -- the offset rises
   pub end-after : at < p .end
-  end-after = omega (arith, part-length, S .inside, height-text t)
+  end-after = omega (arith, told-length, S .inside, height-text t)
 
-  pub part-small : (k : ℕ) → Of k t p → length s < 2 ^ 31 → Small k p
-  part-small k o l = record {
+  pub told-small : (k : ℕ) → Of k t p → length s < 2 ^ 31 → Small k p
+  told-small k o l = record {
     leaves = rw (o .leaves) (leaves-lt k t);
-    height = rw (o .height) (omega (arith, part-length, height-text t));
+    height = rw (o .height) (omega (arith, told-length, height-text t));
   }
 
 -- ---- by the sign that stands there, 0 past the end
@@ -87,11 +88,11 @@ module _ (n k : ℕ) (s : List ℕ) (at sign : ℕ) (e : sign ≡ getD s at 0) w
       pub tells-no-left : Tells (n - 1) (k - 1) s (at + 1) found.Nothing → Tells n k s at found.Nothing
       tells-no-left d = none (no-left _ _ d)
 
-      module _ (p : Part) (L : Tells (n - 1) (k - 1) s (at + 1) (found.Tree p)) where
+      module _ (p : Told) (L : Tells (n - 1) (k - 1) s (at + 1) (found.Tree p)) where
         pub tells-no-right : Tells (n - 1) (k - 1) s (p .end) found.Nothing → Tells n k s at found.Nothing
         tells-no-right d = let (t, S, o) = L in none (no-right _ _ t _ (S .begins) d)
 
-        module _ (q : Part) (R : Tells (n - 1) (k - 1) s (p .end) (found.Tree q)) (last : ℕ) (el : last ≡ getD s (q .end) 0) where
+        module _ (q : Told) (R : Tells (n - 1) (k - 1) s (p .end) (found.Tree q)) (last : ℕ) (el : last ≡ getD s (q .end) 0) where
           pub tells-not-closed : (last ≡ 0x29 → ⊥) → Tells n k s at found.Nothing
           tells-not-closed d =
               let (t, S, o) = L in
@@ -101,7 +102,7 @@ module _ (n k : ℕ) (s : List ℕ) (at sign : ℕ) (e : sign ≡ getD s at 0) w
               first-of : (v : List ℕ) → drop (q .end) s ≡ 0x29 ∷ v → getD s (q .end) 0 ≡ 0x29
               first-of v b = ap (λ (i : ℕ). getD s i 0) (sym (add-zero (q .end))) ∙ sym (getD-drop (q .end) s 0 0) ∙ ap (λ (x : List ℕ). getD x 0 0) b
 
-          pub tells-pair : last ≡ 0x29 → Tells n k s at (found.Tree (pairPart k p q (q .end + 1)))
+          pub tells-pair : last ≡ 0x29 → Tells n k s at (found.Tree (pairTold k p q (q .end + 1)))
           tells-pair closes =
               let (t, S, o) = L in
               let (u, S′, o′) = R in
@@ -109,7 +110,7 @@ module _ (n k : ℕ) (s : List ℕ) (at sign : ℕ) (e : sign ≡ getD s at 0) w
               let within = sign-inside s (q .end) (λ z. omega (arith, el)) in (
                 pair t u,
                 record { begins = opened ∙ closed 0 _ t _ (S .begins) u _ (S′ .begins) (drop (q .end + 1) s) rest; inside = omega (arith, within) },
-                pair-part k t u p q (q .end + 1) o o′,
+                pair-told k t u p q (q .end + 1) o o′,
               )
 
 -- what is told, by equal numbers

@@ -5,8 +5,8 @@ ghost use lib.ListN.{length, getD};
 ghost use Rattle.shares.specs.Tree.{Tree};
 ghost use Rattle.shares.specs.Constant.{constantLevels};
 ghost use Rattle.shares.specs.Text.{longestText};
-ghost use Rattle.constants.specs.Texts.{fromTree, fromText};
-ghost use Rattle.constants.specs.Parts.{Of, Small, Tells, leafFound, pairNumber, equalLeaves, pairFolded, pairPart};
+ghost use Rattle.constants.specs.FromText.{fromTree, fromText};
+ghost use Rattle.constants.specs.Tells.{Of, Small, Tells, leafFound, pairNumber, equalLeaves, pairFolded, pairTold};
 
 // A constant is no taller, and no text of one is longer.
 const LEVELS: usize = 5;
@@ -25,7 +25,7 @@ pub enum FromText {
 }
 
 // What is told of a tree in a text: the offset after it, its leaves as a number, its height, and whether it is folded.
-struct Part {
+struct Told {
     end: usize,
     leaves: u32,
     height: u32,
@@ -34,7 +34,7 @@ struct Part {
 
 // What is found at an offset of a text.
 enum Found {
-    Tree(Part),
+    Tree(Told),
     Nothing,
 }
 
@@ -54,7 +54,7 @@ fn leaf_of(sign: u8, end: usize, levels: usize) -> Found
     requires { ⌜ levels ≤ constantLevels ⌝ }
     ensures { λ r. ⌜ r ≡ leafFound levels sign end ⌝ }
 {
-    let mut leaf = Part {
+    let mut leaf = Told {
         end,
         leaves: 0,
         height: 0,
@@ -92,7 +92,7 @@ fn taller(a: u32, b: u32) -> u32
 }
 
 // Whether two trees are equal leaves.
-fn equal_leaves(left: Part, right: Part) -> bool
+fn equal_leaves(left: Told, right: Told) -> bool
     ensures { λ r. ⌜ r ≡ equalLeaves left right ⌝ }
 {
     if taller(left.height, right.height) == 0 {
@@ -102,7 +102,7 @@ fn equal_leaves(left: Part, right: Part) -> bool
 }
 
 // Whether the pair of two trees is folded.
-fn pair_folded(left: Part, right: Part) -> bool
+fn pair_folded(left: Told, right: Told) -> bool
     ensures { λ r. ⌜ r ≡ pairFolded left right ⌝ }
 {
     if equal_leaves(left, right) {
@@ -112,12 +112,12 @@ fn pair_folded(left: Part, right: Part) -> bool
 }
 
 // The pair of two trees.
-fn pair_of(left: Part, right: Part, end: usize, levels: usize) -> Part
+fn pair_of(left: Told, right: Told, end: usize, levels: usize) -> Told
     requires { ⌜ levels ≤ constantLevels ⌝ }
     requires { ⌜ Small (levels - 1) left × Small (levels - 1) right ⌝ }
-    ensures { λ r. ⌜ r ≡ pairPart levels left right end ⌝ }
+    ensures { λ r. ⌜ r ≡ pairTold levels left right end ⌝ }
 {
-    Part {
+    Told {
         end,
         leaves: pair_leaves(levels, left.leaves, right.leaves),
         height: taller(left.height, right.height) + 1,
@@ -170,20 +170,20 @@ fn read_tree(text: &[u8], at: usize, levels: usize, tallest: usize) -> Found
     Found::Tree(pair_of(left, right, right.end + 1, levels))
 }
 
-// What a whole text gives that is this tree's.
-fn from_part(part: Part) -> FromText
-    ensures { λ r. ⌜ ((t : Tree) → Of constantLevels t part → r ≡ fromTree constantLevels t) ⌝ }
+// What the text of a tree gives, by what was told of the tree.
+fn from_told(told: Told) -> FromText
+    ensures { λ r. ⌜ ((t : Tree) → Of constantLevels t told → r ≡ fromTree constantLevels t) ⌝ }
 {
-    if part.folded {
-        if part.height > LEVELS as u32 {
+    if told.folded {
+        if told.height > LEVELS as u32 {
             return FromText::TooTall;
         }
-        return FromText::Constant(part.leaves);
+        return FromText::Constant(told.leaves);
     }
     FromText::NotFolded
 }
 
-// What a text gives.
+// What a text gives, of whatever length.
 pub fn from_text(text: &[u8]) -> FromText
     ensures { λ r. ⌜ r ≡ fromText constantLevels (now (text .entry)) ⌝ }
 {
@@ -196,5 +196,5 @@ pub fn from_text(text: &[u8]) -> FromText
     if whole.end < text.len() {
         return FromText::NotTreeText;
     }
-    from_part(whole)
+    from_told(whole)
 }

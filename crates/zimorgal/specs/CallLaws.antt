@@ -22,8 +22,8 @@ use Rattle.text.specs.Texts.{textLength, textRefusal, rowText, textAnswer}
 use Rattle.text.specs.TextLaws.{answer-length}
 use Rattle.text.specs.declared.Written.{Written}
 use Rattle.text.specs.declared.Written.the-variants.{Length, Refused}
-use Rattle.constants.specs.Texts.{constantRefusal, constantGiven, fromText}
-use Rattle.constants.specs.TextLaws.{written-read, read-written, given-low}
+use Rattle.constants.specs.FromText.{constantRefusal, constantGiven, fromText}
+use Rattle.constants.specs.FromTextLaws.{written-read, read-written, given-low}
 use Rattle.constants.specs.declared.FromText.the-variants as given
 use Rattle.zimorgal.specs.Calls.{rangeNumber, textNumber, constantNumber, undefinedJoin, numberJoin}
 

@@ -8,7 +8,7 @@ use Rattle.shares.specs.Constant.{numberTree}
 use Rattle.rows.specs.declared.Range.{Range}
 use Rattle.text.specs.Texts.{textLength, textRefusal}
 use Rattle.text.specs.declared.Written.{Written}
-use Rattle.constants.specs.Texts.{constantRefusal, constantGiven}
+use Rattle.constants.specs.FromText.{constantRefusal, constantGiven}
 use Rattle.constants.specs.declared.FromText.{FromText}
 
 -- a range's offset in the low 32 bits, its length in the high 32

@@ -12,7 +12,7 @@ ghost use Rattle.shares.specs.Answer.{joinOf};
 ghost use Rattle.systems.specs.Questions as model;
 ghost use Rattle.rows.specs.Rows.{rowLevels, rowRange, rowPart};
 ghost use Rattle.text.specs.Texts.{textAnswer, textAfter};
-ghost use Rattle.constants.specs.Texts.{fromText};
+ghost use Rattle.constants.specs.FromText.{fromText};
 ghost use Rattle.asking.specs.Asking.{answered, askedWith, outcomeOf, answerAfter, workAfter};
 ghost use Rattle.asking.specs.Exact.{Exact};
 ghost use Rattle.asking.specs.Demand3.{Demand3};

@@ -6,9 +6,9 @@ use lib.ListN.{length}
 use borrow.Author.Needs.{needs}
 use borrow.Fn.Kinds.{In}
 use borrow.Fn.PlainCycle.{Measures, is, falls, and}
-use Rattle.constants.specs.Parts.{Tells}
-use Rattle.constants.specs.TellLaws.{end-after, part-small, sign-there, tells-leaf, tells-no-room, tells-no-left, tells-no-right, tells-not-closed, tells-pair, tells-same}
-use Rattle.constants.specs.declared.Part.{Part}
+use Rattle.constants.specs.Tells.{Tells}
+use Rattle.constants.specs.TellLaws.{end-after, told-small, sign-there, tells-leaf, tells-no-room, tells-no-left, tells-no-right, tells-not-closed, tells-pair, tells-same}
+use Rattle.constants.specs.declared.Told.{Told}
 use Rattle.constants.specs.declared.Found.the-variants as found
 use Rattle.constants.proofs.read_tree.Reads as read-tree
 use Rattle.constants.proofs.read_tree.Kinds as kinds
@@ -126,12 +126,12 @@ module _ (t : ℕ) where
       let (t, S, o) = left-told (c .before .before .before .before .before .before .before) in
       let (u, R, o′) = right-told (c .before .before .before) in
       let short : length (start .args .text .now) < 2 ^ 31 = omega (arith, start .pre .1) in
-      (start .pre .1 .2, (part-small (start .args .text .now) _ t _ S _ o short, part-small (start .args .text .now) _ u _ R _ o′ short))
+      (start .pre .1 .2, (told-small (start .args .text .now) _ t _ S _ o short, told-small (start .args .text .now) _ u _ R _ o′ short))
 
   returns-6 : lts.Need-returns-6 claims here read-tree.Post
   returns-6 c =
       let start = c .before .before .before .before .before .before .before .before .before .before .before .before .before .before .before .before .before in
-      subst (λ (p : Part). Tells (start .args .tallest) (start .args .levels) (start .args .text .now) (start .args .at) (found.Tree p)) (sym (c .pair-of .ensures))
+      subst (λ (p : Told). Tells (start .args .tallest) (start .args .levels) (start .args .text .now) (start .args .at) (found.Tree p)) (sym (c .pair-of .ensures))
       (tells-pair (start .args .tallest) (start .args .levels) (start .args .text .now) _ _ (c .before .before .before .before .before .before .before .before .before .before .before .before .before .before .before .sign-at .ensures) (c .before .before .before .before .before .before .before .before .before .before .before .before .before .before .if1 .left) (c .before .before .before .before .before .before .before .before .before .before .before .before .before .if2 .left) _ (left-told (c .before .before .before .before .before .before .before .before)) _ (right-told (c .before .before .before .before))
       _ (c .before .before .before .sign-at2 .ensures) (c .before .before .if3 .left))
 

@@ -1,6 +1,6 @@
 -- `constants::equal_leaves` meets its contract. Assumes nothing.
 use borrow.Author.Tests.{eq-eqb, ne-eqb}
-use Rattle.constants.specs.Parts.{equalLeaves}
+use Rattle.constants.specs.Tells.{equalLeaves}
 use borrow.Author.Needs.{needs}
 use Rattle.constants.proofs.equal_leaves.Statement.{statement}
 use Rattle.constants.proofs.equal_leaves.Tie as tie

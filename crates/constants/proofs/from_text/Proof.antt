@@ -2,13 +2,13 @@
 use mathlib.Core.Path.{refl, sym, _∙_}
 use native.Mathlib.Omega.{arith}
 use Rattle.shares.specs.Constant.{constantLevels}
-use Rattle.constants.specs.Parts.{Tells}
+use Rattle.constants.specs.Tells.{Tells}
 use Rattle.constants.specs.TellLaws.{tells-same}
-use Rattle.constants.specs.TextLaws.{text-long, text-none, text-tree, told-none, told-more, told-whole}
+use Rattle.constants.specs.FromTextLaws.{text-long, text-none, text-tree, told-none, told-more, told-whole}
 use Rattle.constants.specs.declared.Found.the-variants as found
 use borrow.Author.Needs.{needs}
 use Rattle.constants.proofs.read_tree.Reads as read-tree
-use Rattle.constants.proofs.from_part.Reads as from-part
+use Rattle.constants.proofs.from_told.Reads as from-told
 use Rattle.constants.proofs.from_text.Reads as reads
 use Rattle.constants.proofs.from_text.Lts as lts
 use Rattle.constants.proofs.from_text.Statement.{statement}
@@ -32,7 +32,7 @@ returns-2 c =
     let none = tells-same s 0 refl refl (c .enum-told .given .1) (c .before .before .read-tree .ensures) in
     sym (text-none constantLevels s (told-none s 31 constantLevels (omega (arith, c .before .before .before .if1 .left)) none))
 
-whole-told : (c : lts.After-known-told (read-tree.Asked, read-tree.Learnt, from-part.Asked, from-part.Learnt) reads.Pre reads.Post) → Tells 31 constantLevels (c .before .before .before .before .before .before .args .text .now) 0 (found.Tree (c .before .whole .given .0 .0))
+whole-told : (c : lts.After-known-told (read-tree.Asked, read-tree.Learnt, from-told.Asked, from-told.Learnt) reads.Pre reads.Post) → Tells 31 constantLevels (c .before .before .before .before .before .before .args .text .now) 0 (found.Tree (c .before .whole .given .0 .0))
 whole-told c = tells-same (c .before .before .before .before .before .before .args .text .now) 0 refl refl (c .before .whole .given .1) (c .before .before .before .read-tree .ensures)
 
 returns-3 : tie.Need-returns-3
@@ -41,14 +41,14 @@ returns-3 c =
     let (t, S, o) = whole-told (c .before .before) in
     sym (text-none constantLevels s (told-more s t _ S (c .if2 .taken)))
 
-from-part-requires : tie.Need-from-part-requires
-from-part-requires c κs = search needs
+from-told-requires : tie.Need-from-told-requires
+from-told-requires c κs = search needs
 
 returns-4 : tie.Need-returns-4
 returns-4 c =
     let s = c .before .before .before .before .before .before .before .before .before .args .text .now in
     let (t, S, o) = whole-told (c .before .before .before) in
-    c .from-part .ensures t o ∙ sym (text-tree constantLevels s (c .before .before .before .before .before .before .before .if1 .left) t (told-whole s t _ S (c .before .if2 .left)))
+    c .from-told .ensures t o ∙ sym (text-tree constantLevels s (c .before .before .before .before .before .before .before .if1 .left) t (told-whole s t _ S (c .before .if2 .left)))
 
 pub from-text-spec : {M : Type 1} → statement M
 from-text-spec =
@@ -60,5 +60,5 @@ from-text-spec =
     enum-told
     returns-2
     returns-3
-    from-part-requires
+    from-told-requires
     returns-4)

@@ -1,6 +1,6 @@
 -- `constants::leaf_of` meets its contract. Assumes nothing.
 use borrow.Author.Tests.{eq-eqb, ne-eqb}
-use Rattle.constants.specs.Parts.{leafFound}
+use Rattle.constants.specs.Tells.{leafFound}
 use borrow.Author.Needs.{needs}
 use Rattle.constants.proofs.leaf_of.Statement.{statement}
 use Rattle.constants.proofs.leaf_of.Tie as tie

@@ -1,5 +1,5 @@
 -- `constants::pair_folded` meets its contract. Assumes nothing.
-use Rattle.constants.specs.Parts.{pairFolded}
+use Rattle.constants.specs.Tells.{pairFolded}
 use borrow.Author.Needs.{needs}
 use Rattle.constants.proofs.pair_folded.Statement.{statement}
 use Rattle.constants.proofs.pair_folded.Tie as tie

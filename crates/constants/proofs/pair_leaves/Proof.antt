@@ -1,7 +1,7 @@
 -- `constants::pair_leaves` meets its contract. Assumes nothing.
 use native.Mathlib.Omega.{arith}
 use Rattle.shares.specs.Constant.{constantLevels}
-use Rattle.constants.specs.Parts.{pairNumber}
+use Rattle.constants.specs.Tells.{pairNumber}
 use Rattle.constants.specs.LeavesLaws.{pair-number, pair-room, scale-room}
 use borrow.Author.Needs.{needs}
 use Rattle.constants.proofs.pair_leaves.Statement.{statement}

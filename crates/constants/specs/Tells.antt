@@ -8,33 +8,33 @@ use lib.ListN.{length, drop}
 use Rattle.shares.specs.Tree.{Tree, isFolded, height}
 use Rattle.shares.specs.Text.{text}
 use Rattle.constants.specs.Begins.{Begins}
-use Rattle.constants.specs.Texts.{leavesNumber}
-use Rattle.constants.specs.declared.Part.{Part}
+use Rattle.constants.specs.FromText.{leavesNumber}
+use Rattle.constants.specs.declared.Told.{Told}
 use Rattle.constants.specs.declared.Found.{Found}
 use Rattle.constants.specs.declared.Found.the-variants as found
 
--- the numbers of a part are a tree's, with its leaves unfolded to height k
-pub record Of (k : ℕ) (t : Tree) (p : Part) : Type 0 where
+-- the numbers told are a tree's, with its leaves unfolded to height k
+pub record Of (k : ℕ) (t : Tree) (p : Told) : Type 0 where
   pub leaves : p .leaves ≡ leavesNumber k t
   pub height : p .height ≡ height t
   pub folded : p .folded ≡ isFolded t
 
 -- they can be reckoned with
-pub record Small (k : ℕ) (p : Part) : Type 0 where
+pub record Small (k : ℕ) (p : Told) : Type 0 where
   pub leaves : p .leaves < 2 ^ (2 ^ k)
   pub height : p .height < 2 ^ 31
 
--- a tree's text stands in s from an offset on, up to the end of the part
-pub record Stands (s : List ℕ) (at : ℕ) (t : Tree) (p : Part) : Type 0 where
+-- a tree's text stands in s from an offset on, up to the end told
+pub record Spans (s : List ℕ) (at : ℕ) (t : Tree) (p : Told) : Type 0 where
   pub begins : drop at s ≡ text t ++ drop (p .end) s
   pub inside : p .end ≤ length s
 
--- what is found at an offset: a tree's part, or nothing where no text of a tree begins that is no taller than n
+-- what is found at an offset: a tree, or nothing where no tree's text begins that is no taller than n
 abbrev pub Tells : ℕ → ℕ → List ℕ → ℕ → Found → Type 0
-Tells n k s at (found.Tree p) = (t : Tree) × Stands s at t p × Of k t p
+Tells n k s at (found.Tree p) = (t : Tree) × Spans s at t p × Of k t p
 Tells n k s at found.Nothing = ¬ Begins n (drop at s)
 
--- a leaf by its sign
+-- what is found of a leaf, by its sign
 unfoldable pub leafFound : ℕ → ℕ → ℕ → Found
 leafFound k sign end =
     cond (eqb sign 0x6F) (found.Tree (record { end = end; leaves = 0; height = 0; folded = true }))
@@ -46,16 +46,16 @@ pairNumber zero left right = 0
 pairNumber (suc k) left right = right * 2 ^ (2 ^ k) + left
 
 -- whether two trees are equal leaves
-unfoldable pub equalLeaves : Part → Part → Bool
+unfoldable pub equalLeaves : Told → Told → Bool
 equalLeaves p q = eqb (max (p .height) (q .height)) 0 && eqb (p .leaves) (q .leaves)
 
 -- whether their pair is folded
-unfoldable pub pairFolded : Part → Part → Bool
+unfoldable pub pairFolded : Told → Told → Bool
 pairFolded p q = not (equalLeaves p q) && (p .folded && q .folded)
 
--- the part of a pair that ends at an offset
-abbrev pub pairPart : ℕ → Part → Part → ℕ → Part
-pairPart k p q end = record {
+-- what is told of a pair that ends at an offset
+abbrev pub pairTold : ℕ → Told → Told → ℕ → Told
+pairTold k p q end = record {
   end = end;
   leaves = pairNumber k (p .leaves) (q .leaves);
   height = max (p .height) (q .height) + 1;

@@ -1,12 +1,12 @@
--- `constants::from_part` meets its contract. Assumes nothing.
+-- `constants::from_told` meets its contract. Assumes nothing.
 use mathlib.Core.Path.{sym, ap, _∙_}
 use native.Mathlib.Omega.{arith}
 use Rattle.shares.specs.Constant.{constantLevels}
-use Rattle.constants.specs.TextLaws.{tree-not-folded, tree-tall, tree-constant}
+use Rattle.constants.specs.FromTextLaws.{tree-not-folded, tree-tall, tree-constant}
 use Rattle.constants.specs.declared.FromText.the-variants.{Constant}
 use borrow.Author.Needs.{needs}
-use Rattle.constants.proofs.from_part.Statement.{statement}
-use Rattle.constants.proofs.from_part.Tie as tie
+use Rattle.constants.proofs.from_told.Statement.{statement}
+use Rattle.constants.proofs.from_told.Tie as tie
 
 cast-if2 : tie.Need-cast-if2
 cast-if2 c = search needs
@@ -20,5 +20,5 @@ returns-2 c t o = sym (tree-constant constantLevels t (sym (o .folded) ∙ c .be
 returns-3 : tie.Need-returns-3
 returns-3 c t o = sym (tree-not-folded constantLevels t (sym (o .folded) ∙ c .if1 .left))
 
-pub from-part-spec : {M : Type 1} → statement M
-from-part-spec = tie.close (tie.spec cast-if2 returns returns-2 returns-3)
+pub from-told-spec : {M : Type 1} → statement M
+from-told-spec = tie.close (tie.spec cast-if2 returns returns-2 returns-3)

@@ -1,4 +1,4 @@
--- Laws of the parts of trees, for every number of levels: a leaf's, and a pair's from those of its halves. Assumes nothing.
+-- Laws of what is told of a tree, for every number of levels: of a leaf, and of a pair by what is told of its halves. Assumes nothing.
 use mathlib.Core.Path.{_≡_, refl, sym, _∙_}
 use mathlib.Core.Bool.{true, false, _&&_}
 use Prim.Native.Nat.{ℕ, suc, _-_, _^_, _≤_, max}
@@ -8,9 +8,9 @@ use borrow.Author.Tests.{eq-eqb, ne-eqb}
 use lib.Dec.{eqb}
 use lib.Pow.{pow-pos, pow-mono}
 use Rattle.shares.specs.Tree.{Tree, leaf, pair, twins, isFolded, height}
-use Rattle.constants.specs.Texts.{leavesNumber}
-use Rattle.constants.specs.Parts.{Of, equalLeaves, pairFolded, pairPart}
-use Rattle.constants.specs.declared.Part.{Part}
+use Rattle.constants.specs.FromText.{leavesNumber}
+use Rattle.constants.specs.Tells.{Of, equalLeaves, pairFolded, pairTold}
+use Rattle.constants.specs.declared.Told.{Told}
 use Rattle.constants.specs.LeavesLaws.{leaves-empty, leaves-full, leaves-pair}
 
 -- a full leaf has another number than an empty one
@@ -28,17 +28,17 @@ twins-number k (leaf a) (pair l r) = rw (ne-eqb (max 0 (suc (max (height l) (hei
 twins-number k (pair l r) t = rw (ne-eqb (max (suc (max (height l) (height r))) (height t)) 0 (λ e. omega arith))
 
 module _ (k : ℕ) where
-  pub leaf-empty : (p : Part) → p .leaves ≡ 0 → p .height ≡ 0 → p .folded ≡ true → Of k (leaf false) p
+  pub leaf-empty : (p : Told) → p .leaves ≡ 0 → p .height ≡ 0 → p .folded ≡ true → Of k (leaf false) p
   unfolding height isFolded
   leaf-empty p el eh ef = record { leaves = el ∙ sym (leaves-empty k); height = eh; folded = ef }
 
-  pub leaf-full : (p : Part) → p .leaves ≡ 2 ^ (2 ^ k) - 1 → p .height ≡ 0 → p .folded ≡ true → Of k (leaf true) p
+  pub leaf-full : (p : Told) → p .leaves ≡ 2 ^ (2 ^ k) - 1 → p .height ≡ 0 → p .folded ≡ true → Of k (leaf true) p
   unfolding height isFolded
   leaf-full p el eh ef = record { leaves = el ∙ sym (leaves-full k); height = eh; folded = ef }
 
-  pub pair-part : (t u : Tree) (p q : Part) (end : ℕ) → Of (k - 1) t p → Of (k - 1) u q → Of k (pair t u) (pairPart k p q end)
+  pub pair-told : (t u : Tree) (p q : Told) (end : ℕ) → Of (k - 1) t p → Of (k - 1) u q → Of k (pair t u) (pairTold k p q end)
   unfolding equalLeaves pairFolded height isFolded
-  pair-part t u p q end a b = record {
+  pair-told t u p q end a b = record {
     leaves = rw (a .leaves, b .leaves) (sym (leaves-pair k t u));
     height = rw (a .height, b .height) (add-one (max (height t) (height u)));
     folded = rw (a .folded, b .folded, a .height, b .height, a .leaves, b .leaves, ← (twins-number (k - 1) t u));

@@ -14,11 +14,11 @@ use Rattle.shares.specs.TreeLaws.{folded-iff, treeOf-folded, treeOf-height}
 use Rattle.shares.specs.Constant.{bit, numberTree}
 use Rattle.shares.specs.Text.{text, TreeText, longestText}
 use Rattle.shares.specs.TextLaws.{text-length, height-text}
-use Rattle.constants.specs.Begins.{same-start, one-tree, isTreeText}
-use Rattle.constants.specs.Texts.{constantRefusal, constantGiven, leavesNumber, fromTree, ofTree, fromText}
-use Rattle.constants.specs.Parts.{Stands, Tells}
+use Rattle.constants.specs.BeginLaws.{same-start, one-tree, isTreeText}
+use Rattle.constants.specs.FromText.{constantRefusal, constantGiven, leavesNumber, fromTree, ofTree, fromText}
+use Rattle.constants.specs.Tells.{Spans, Tells}
 use Rattle.constants.specs.LeavesLaws.{leaves-lt, leaves-number, leaves-tree}
-use Rattle.constants.specs.declared.Part.{Part}
+use Rattle.constants.specs.declared.Told.{Told}
 use Rattle.constants.specs.declared.Found.the-variants as found
 use Rattle.constants.specs.declared.FromText.{FromText}
 use Rattle.constants.specs.declared.FromText.the-variants.{Constant, NotTreeText, NotFolded, TooTall}
@@ -51,7 +51,7 @@ module _ (s : List ℕ) where
   pub told-none : (n k : ℕ) → length s ≤ 3 * n + 3 → Tells n k s 0 found.Nothing → ¬ TreeText s
   told-none n k short none (t, e) = none (t, [], sym (append-nil (text t) ∙ e), omega (arith, height-text t, ap length e))
 
-  module _ (t : Tree) (p : Part) (S : Stands s 0 t p) where
+  module _ (t : Tree) (p : Told) (S : Spans s 0 t p) where
     pub told-more : p .end < length s → ¬ TreeText s
     told-more more (t′, e) =
         let same = same-start t t′ (drop (p .end) s) [] (sym (S .begins) ∙ sym (append-nil (text t′) ∙ e)) .1 in
