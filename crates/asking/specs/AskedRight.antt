@@ -9,6 +9,7 @@ use lib.ListN.{length}
 use Rattle.shares.specs.Test.{is-true}
 use Rattle.shares.specs.Tree.{height}
 use Rattle.shares.specs.TreeLaws.{share-path}
+use Rattle.shares.specs.Constant.{bytesAt}
 use Rattle.leaves.specs.Heights.{anyHeight}
 use Rattle.systems.specs.Questions.{Kind, satisfiability, entailment, Question, WellFormed, questionHeight}
 use Rattle.systems.specs.Solutions.{Solution}
@@ -18,8 +19,8 @@ use Rattle.systems.specs.Decide.{decide, shownAt}
 use Rattle.systems.specs.ShownLaws.{shown-past, shown-low, shown-fixed}
 use Rattle.systems.specs.Heights.{height-rule, exact, verdict-exact}
 use Rattle.format.specs.FormatLaws.{Limited, accepted-formed, accepted-limited}
-use Rattle.rows.specs.Rows.{rowLevels, rowCount, bytesAt, answerBytes, zeros, filledWith}
-use Rattle.rows.specs.RowLaws.{row-bytes, filled-tree, filled-zero}
+use Rattle.rows.specs.Rows.{rowLevels, answerBytes, filledWith}
+use Rattle.rows.specs.RowLaws.{filled-tree, filled-zero}
 use Rattle.asking.specs.Asking.{Asked, turnedAway, answered, askedWith, refusalOutcome, outcomeOf, shownTrees, answerAfter, workAfter}
 use Rattle.asking.specs.AskingLaws.{granted, height-low}
 use Rattle.asking.specs.declared.Outcome.{Outcome}
@@ -42,14 +43,10 @@ module _ (q : Question) (F : WellFormed q) (L : Limited q) (answer : List ℕ) (
   low : (v : ℕ) → height (shownTrees q v) ≤ heightGiven (questionHeight q) q (decide q)
   low v = shown-low (questionHeight q) q v (decide q) t
 
-  -- the buffer has room for them
-  rows-fit : rowCount * bytesAt k ≤ length answer
-  rows-fit = rw (row-bytes (q .constants .levels)) room
-
   -- they are those of its shares
   rows-are : rowShares (q .constants .levels) (answerAfter (answered q) answer) ≡ shownAt (questionHeight q) q
   rows-are = rw after (fun-ext (λ v. share-path _ _
-      (filled-tree k (q .free) (shownTrees q) answer rows-fit (omega arith) (omega (arith, L .variables)) v (shownAt (questionHeight q) q v .folded)
+      (filled-tree k (q .free) (shownTrees q) answer room (omega arith) (omega (arith, L .variables)) v (shownAt (questionHeight q) q v .folded)
       (le-trans (low v) (height-low q F L (decide q))) (shown-past (questionHeight q) q v (decide q)))))
 
   filled : RowsShow q (decide q) (answerAfter (answered q) answer)
@@ -57,7 +54,7 @@ module _ (q : Question) (F : WellFormed q) (L : Limited q) (answer : List ℕ) (
     fixed = rw rows-are (shown-fixed (questionHeight q) q t);
     solution = rw rows-are (height-rule q F .shown t);
     low = λ v. subst (λ σ. height (σ v .tree) ≤ heightGiven (questionHeight q) q (decide q)) (sym rows-are) (low v);
-    others = λ v l m. rw after (filled-zero k (q .free) (shownTrees q) answer rows-fit v l m ∙ ap zeros (row-bytes (q .constants .levels)));
+    others = λ v l m. rw after (filled-zero k (q .free) (shownTrees q) answer room v l m);
   }
 
 -- ---- the theorems

@@ -1,12 +1,13 @@
 -- The constant that a text gives. Assumes nothing.
 use mathlib.Core.Bool.{cond}
 use mathlib.Core.List.{List}
-use Prim.Native.Nat.{ℕ, _^_}
-use lib.Dec.{leb, ltb}
+use Prim.Native.Nat.{ℕ}
+use lib.Dec.{ltb}
 use lib.ListN.{length}
-use Rattle.shares.specs.Tree.{Tree, isFolded, height, leafAt}
-use Rattle.shares.specs.Constant.{numberOf}
+use Rattle.shares.specs.Tree.{Tree, Folded, height}
+use Rattle.shares.specs.Constant.{treeNumber}
 use Rattle.shares.specs.Text.{TreeText, longestText}
+use Rattle.constants.specs.FoldLaws.{decFolded}
 use Rattle.constants.specs.BeginLaws.{isTreeText}
 use Rattle.constants.specs.declared.FromText.{FromText}
 use Rattle.constants.specs.declared.FromText.the-variants.{Constant, NotTreeText, NotFolded, TooTall}
@@ -25,19 +26,20 @@ constantGiven NotTreeText = 0
 constantGiven NotFolded = 0
 constantGiven TooTall = 0
 
--- the number that has leaf i of a tree, unfolded to height k, at bit i
-unfoldable pub leavesNumber : ℕ → Tree → ℕ
-leavesNumber k t = numberOf (2 ^ k) (leafAt k t)
+-- what a tree gives, where constants have k levels: 16 if some pair could be folded
+abbrev pub ofFolding : ℕ → (t : Tree) → Dec (Folded t) → FromText
+ofFolding k t (no n) = NotFolded
+ofFolding k t (yes f) = cond (ltb k (height t)) TooTall (Constant (treeNumber k t))
 
--- what a tree gives, where constants have k levels: 16 if some pair could be folded, then 17 if it is taller, else its leaves
+-- then 17 if it is taller, else the number of its leaves; `decFolded` is believed by its type: it shows that the tree is folded, or that it is not
 unfoldable pub fromTree : ℕ → Tree → FromText
-fromTree k t = cond (isFolded t) (cond (leb (height t) k) (Constant (leavesNumber k t)) TooTall) NotFolded
+fromTree k t = ofFolding k t (decFolded t)
 
--- what a text gives that is not too long: what its tree gives, 15 if it has none
-abbrev pub ofTree : (k : ℕ) {s : List ℕ} → Dec (TreeText s) → FromText
-ofTree k (yes (t, e)) = fromTree k t
-ofTree k (no n) = NotTreeText
+-- what a text gives that is not too long: 15 if there is no tree that is written so, else what that tree gives
+abbrev pub ofText : (k : ℕ) {s : List ℕ} → Dec (TreeText s) → FromText
+ofText k (no n) = NotTreeText
+ofText k (yes (t, e)) = fromTree k t
 
--- what a text gives: 15 if it is too long
+-- what a text gives: 15 if it is too long; `isTreeText` is believed by its type: it gives a tree that is written so, or shows that there is none
 unfoldable pub fromText : ℕ → List ℕ → FromText
-fromText k s = cond (ltb (longestText k) (length s)) NotTreeText (ofTree k (isTreeText s))
+fromText k s = cond (ltb (longestText k) (length s)) NotTreeText (ofText k (isTreeText s))

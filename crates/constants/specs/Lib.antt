@@ -1,8 +1,9 @@
+pub mod FoldLaws
 pub mod Begins
 pub mod BeginLaws
 pub mod FromText
 pub mod Tells
-pub mod LeavesLaws
+pub mod PairLaws
 pub mod ToldLaws
 pub mod TellLaws
 pub mod FromTextLaws

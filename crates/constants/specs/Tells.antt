@@ -1,25 +1,26 @@
 -- What the reader tells of a tree whose text begins at an offset. Assumes nothing.
 use mathlib.Core.Path.{_≡_}
-use mathlib.Core.Bool.{Bool, true, not, cond, _&&_}
+use mathlib.Core.Bool.{Bool, true, false, not, cond, _&&_}
 use mathlib.Core.List.{List, _++_}
 use Prim.Native.Nat.{ℕ, zero, suc, _+_, _*_, _-_, _^_, _≤_, _<_, max}
 use lib.Dec.{eqb}
 use lib.ListN.{length, drop}
-use Rattle.shares.specs.Tree.{Tree, isFolded, height}
-use Rattle.shares.specs.Text.{text}
+use Rattle.shares.specs.Tree.{Tree, height}
+use Rattle.shares.specs.Constant.{treeNumber}
+use Rattle.shares.specs.Text.{sign, text}
 use Rattle.constants.specs.Begins.{Begins}
-use Rattle.constants.specs.FromText.{leavesNumber}
+use Rattle.constants.specs.FoldLaws.{isFolded}
 use Rattle.constants.specs.declared.Told.{Told}
 use Rattle.constants.specs.declared.Found.{Found}
 use Rattle.constants.specs.declared.Found.the-variants as found
 
 -- the numbers told are a tree's, with its leaves unfolded to height k
 pub record Of (k : ℕ) (t : Tree) (p : Told) : Type 0 where
-  pub leaves : p .leaves ≡ leavesNumber k t
+  pub leaves : p .leaves ≡ treeNumber k t
   pub height : p .height ≡ height t
   pub folded : p .folded ≡ isFolded t
 
--- they can be reckoned with
+-- small enough that those of a pair fit their types
 pub record Small (k : ℕ) (p : Told) : Type 0 where
   pub leaves : p .leaves < 2 ^ (2 ^ k)
   pub height : p .height < 2 ^ 31
@@ -34,11 +35,14 @@ abbrev pub Tells : ℕ → ℕ → List ℕ → ℕ → Found → Type 0
 Tells n k s at (found.Tree p) = (t : Tree) × Spans s at t p × Of k t p
 Tells n k s at found.Nothing = ¬ Begins n (drop at s)
 
--- what is found of a leaf, by its sign
+-- what is told of a leaf that ends at an offset
+abbrev pub leafTold : ℕ → Bool → ℕ → Told
+leafTold k b end = record { end = end; leaves = cond b (2 ^ (2 ^ k) - 1) 0; height = 0; folded = true }
+
+-- what is found where a leaf's sign may stand
 unfoldable pub leafFound : ℕ → ℕ → ℕ → Found
-leafFound k sign end =
-    cond (eqb sign 0x6F) (found.Tree (record { end = end; leaves = 0; height = 0; folded = true }))
-    (cond (eqb sign 0x2A) (found.Tree (record { end = end; leaves = 2 ^ (2 ^ k) - 1; height = 0; folded = true })) found.Nothing)
+leafFound k x end =
+    cond (eqb x (sign false)) (found.Tree (leafTold k false end)) (cond (eqb x (sign true)) (found.Tree (leafTold k true end)) found.Nothing)
 
 -- the leaves of a pair at height k: the right half's above the left half's; at height 0 one leaf, and that is empty
 unfoldable pub pairNumber : ℕ → ℕ → ℕ → ℕ

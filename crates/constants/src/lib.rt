@@ -28,7 +28,7 @@ pub enum FromText {
 struct Told {
     end: usize,
     leaves: u32,
-    height: u32,
+    height: usize,
     folded: bool,
 }
 
@@ -82,7 +82,8 @@ fn pair_leaves(levels: usize, left: u32, right: u32) -> u32
     right * (full_leaves(levels - 1) + 1) + left
 }
 
-fn taller(a: u32, b: u32) -> u32
+// The larger of two heights.
+fn taller(a: usize, b: usize) -> usize
     ensures { λ r. ⌜ r ≡ max a b ⌝ }
 {
     if a < b {
@@ -145,7 +146,7 @@ fn sign_at(text: &[u8], at: usize) -> u8
     0
 }
 
-// Reads the tree whose text begins at an offset, if it is no taller than so much. That falls.
+// Reads the tree whose text begins at an offset, if it is no taller than so much. The height that is left falls with each call.
 fn read_tree(text: &[u8], at: usize, levels: usize, tallest: usize) -> Found
     requires { ⌜ (at ≤ length (now text)) × (length (now text) ≤ longestText constantLevels) × (levels ≤ constantLevels) ⌝ }
     ensures { λ r. ⌜ Tells tallest levels (now (text .entry)) at r ⌝ }
@@ -170,12 +171,12 @@ fn read_tree(text: &[u8], at: usize, levels: usize, tallest: usize) -> Found
     Found::Tree(pair_of(left, right, right.end + 1, levels))
 }
 
-// What the text of a tree gives, by what was told of the tree.
+// What a text gives that is the whole text of this tree.
 fn from_told(told: Told) -> FromText
     ensures { λ r. ⌜ ((t : Tree) → Of constantLevels t told → r ≡ fromTree constantLevels t) ⌝ }
 {
     if told.folded {
-        if told.height > LEVELS as u32 {
+        if told.height > LEVELS {
             return FromText::TooTall;
         }
         return FromText::Constant(told.leaves);

@@ -1,10 +1,10 @@
 -- A question in bytes: what reading gives for every byte string, by docs/SPEC.md, sections 3 and 7. Assumes nothing.
 use mathlib.Core.Bool.{Bool, true, false, cond, _&&_}
 use mathlib.Core.List.{List, [], _∷_, _++_}
-use Prim.Native.Nat.{ℕ, zero, suc, _+_, _-_, _/_, _^_}
+use Prim.Native.Nat.{ℕ, zero, suc, _+_, _-_}
 use lib.Dec.{eqb, ltb, leb}
 use lib.ListN.{length, getD, take, drop}
-use Rattle.shares.specs.Constant.{constantLevels, number}
+use Rattle.shares.specs.Constant.{constantLevels, number, bytesAt}
 use Rattle.systems.specs.Clauses.{Term, variable, constant, Atom, joined, equal, isFull, isEmpty, together, Clause, positive, negated, positives, disequations}
 use Rattle.systems.specs.Questions.{Kind, satisfiability, entailment, Question}
 use Rattle.format.specs.declared.Section.{Section}
@@ -38,10 +38,6 @@ mostPositive = 64
 
 abbrev pub mostDisequations : ℕ
 mostDisequations = 31
-
--- a constant of so many levels has this many bytes: 4 at 5 levels
-abbrev pub constantBytes : ℕ → ℕ
-constantBytes levels = 2 ^ levels / 8
 
 -- ---- the table of commands
 
@@ -79,7 +75,7 @@ termCount Together = 2
 abbrev pub operands : Shape → ℕ
 operands Shape.End = 0
 operands Shape.Head = 3
-operands Shape.Constant = constantBytes constantLevels
+operands Shape.Constant = bytesAt constantLevels
 operands (Shape.Clause σ t) = termCount t
 
 -- ---- a command with its operands
@@ -96,7 +92,7 @@ clauseAt s i σ t = Command.Clause σ t (termByte s i (termCount t) 0) (termByte
 unfoldable pub commandOf : List ℕ → ℕ → Shape → Command
 commandOf s i Shape.End = Command.End
 commandOf s i Shape.Head = Command.Head
-commandOf s i Shape.Constant = Command.Constant (number (take (constantBytes constantLevels) (drop i s)))
+commandOf s i Shape.Constant = Command.Constant (number (take (bytesAt constantLevels) (drop i s)))
 commandOf s i (Shape.Clause σ t) = clauseAt s i σ t
 
 -- an unknown byte is refused first (3), then operands that are cut short (2); else the command and the offset after it

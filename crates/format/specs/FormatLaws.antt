@@ -7,7 +7,7 @@ use native.Mathlib.Omega.{arith}
 use borrow.Author.Tests.{lt-ltb, ltb-true, ltb-false, leb-false, eqb-true, eqb-false}
 use lib.Dec.{T, eqb, ltb, leb, ltb→lt, lit<}
 use lib.ListN.{length, getD, length-append}
-use Rattle.shares.specs.Constant.{constantLevels}
+use Rattle.shares.specs.Constant.{constantLevels, bytesAt}
 use Rattle.shares.specs.Test.{of-true, and-left, and-right}
 use Rattle.systems.specs.Clauses.{Constants, Term, variable, constant, Atom, Clause, positive, negated, System, positives, disequations}
 use Rattle.systems.specs.Questions.{Kind, satisfiability, entailment, Question, Defined, InAtom, InSystem, Alone, WellFormed}
@@ -24,7 +24,7 @@ use Rattle.format.specs.declared.Head.the-variants.{Opens, Wrong}
 use Rattle.format.specs.declared.Step.{Step}
 use Rattle.format.specs.declared.Step.the-variants.{Take, Refused}
 use Rattle.format.specs.SectionLaws.{both-counts, added, Alike, same, other, alike, constant-sections, clause-keeps}
-use Rattle.format.specs.Format.{Result, refused, accepted, mostVariables, mostConstants, mostPositive, mostDisequations, constantBytes, entryOf, termCount, operands, commandOf, wholeAt, readAt, isSecond, mostOf, inSection, termOf, names, variablesFor, termNamed, allNamed, atomOf, isForeign, clauseFault, constantFault, fault, judged, begun, withFirst, withSecond, withClause, withConstant, taken, ended, Turn, go, stop, onward, turn, following, run, headFits, opened, headOf, afterHead, read}
+use Rattle.format.specs.Format.{Result, refused, accepted, mostVariables, mostConstants, mostPositive, mostDisequations, entryOf, termCount, operands, commandOf, wholeAt, readAt, isSecond, mostOf, inSection, termOf, names, variablesFor, termNamed, allNamed, atomOf, isForeign, clauseFault, constantFault, fault, judged, begun, withFirst, withSecond, withClause, withConstant, taken, ended, Turn, go, stop, onward, turn, following, run, headFits, opened, headOf, afterHead, read}
 
 -- ---- the statements
 
@@ -37,7 +37,7 @@ pub record Limited (q : Question) : Type 0 where
 
 -- the longest accepted question, with constants of so many levels: a head, all constants, all clauses with three terms, the end; 925 bytes at 5 levels
 abbrev pub longest : ℕ → ℕ
-longest levels = 4 + (1 + constantBytes levels) * mostConstants + 4 * (2 * (mostPositive + mostDisequations)) + 1
+longest levels = 4 + (1 + bytesAt levels) * mostConstants + 4 * (2 * (mostPositive + mostDisequations)) + 1
 
 -- what a result keeps to
 abbrev pub Kept : List ℕ → Result → Type 0
@@ -57,7 +57,7 @@ in-append P (negated a ∷ s) t h k = (h .0, in-append P s t (h .1) k)
 abbrev pub size : Command → ℕ
 size Command.End = 1
 size Command.Head = 4
-size (Command.Constant x) = 1 + constantBytes constantLevels
+size (Command.Constant x) = 1 + bytesAt constantLevels
 size (Command.Clause σ t a b c) = 1 + termCount t
 
 pub size-some : (c : Command) → 1 ≤ size c
@@ -208,7 +208,7 @@ in-test P n k f t a b c h = go t (each-named n k t a b c h)
 pub record Sound (q : Question) (at : ℕ) : Type 0 where
   pub formed : WellFormed q
   pub limited : Limited q
-  pub reach : at ≤ 4 + (1 + constantBytes constantLevels) * length (q .constants .numbers) + 4 * (length (q .first) + length (q .second))
+  pub reach : at ≤ 4 + (1 + bytesAt constantLevels) * length (q .constants .numbers) + 4 * (length (q .first) + length (q .second))
 
 -- so reading stands before the last byte of the longest question
 pub sound-place : (q : Question) (at : ℕ) → Sound q at → at < longest constantLevels
@@ -229,7 +229,7 @@ none-in : (P : Term → Type 0) (s : System) → length s ≡ 0 → InSystem P s
 none-in P [] e = tt
 none-in P (c ∷ s) e = absurd (omega arith)
 
-sound-constant : (q : Question) (at x : ℕ) → Sound q at → ConstantFits q → Sound (withConstant q x) (at + (1 + constantBytes constantLevels))
+sound-constant : (q : Question) (at x : ℕ) → Sound q at → ConstantFits q → Sound (withConstant q x) (at + (1 + bytesAt constantLevels))
 sound-constant q at x d f = record {
   formed = record {
     alone = d .formed .alone;

@@ -12,7 +12,7 @@ use lib.Dec.{T, eqb, ltb, leb, ltb→lt, eqb→eq, lit<}
 use lib.ListN.{length, length-map, getD, set, take, drop, replicate, length-set, length-append, length-take, length-drop, length-replicate, getD-replicate, take-append-drop}
 use lib.Pow.{pow-add, pow-mono}
 use lib.Seq.{length-take-le, take-suc-set, getD-set-same, getD-set-other, getD-drop, ext-getD}
-use Rattle.shares.specs.Constant.{constantLevels, number}
+use Rattle.shares.specs.Constant.{constantLevels, number, bytesAt}
 use Rattle.shares.specs.Parts.{emptyPart, fullPart}
 use Rattle.shares.specs.Test.{or-right, or-cases}
 use Rattle.systems.specs.Clauses.{Term, variable, constant}
@@ -31,7 +31,7 @@ use Rattle.format.specs.declared.Head.{Head}
 use Rattle.format.specs.declared.Step.{Step}
 use Rattle.format.specs.declared.Question.{Question as Struct}
 use Rattle.format.specs.declared.Step.the-variants.{Take, Refused}
-use Rattle.format.specs.Format.{mostVariables, mostConstants, constantBytes, termOf, entryOf, operands, commandOf, wholeAt, readAt, mostOf, inSection, names, variablesFor, allNamed, atomOf, isForeign, constantFault, fault, judged, withClause, withConstant, taken}
+use Rattle.format.specs.Format.{mostVariables, mostConstants, termOf, entryOf, operands, commandOf, wholeAt, readAt, mostOf, inSection, names, variablesFor, allNamed, atomOf, isForeign, constantFault, fault, judged, withClause, withConstant, taken}
 use Rattle.format.specs.Stored.{kindNumber, sectionNumber, partByte, fourOf, joinFor, partOf, readingFrom, clauseBytes, sectionStart, fourAt, readingsAt, Stored, stored, countOf, Counted, partNamed, StoredClause, StoredAt, Stands, heldAs, clauseWritten, commandWritten}
 use Rattle.format.specs.Keeping.{nextSlot, keptConstants, constantCount, keptClauses, clauseCounts, Slot, clauseTotal, foreignTo, faultOf, judgedOf}
 use Rattle.format.specs.SectionLaws.{both-counts, added, Apart, Alike, same, other, alike, constant-sections, clause-keeps, section-below, slot-fits, variables-le}
@@ -61,7 +61,7 @@ take-bytes (suc n) (a ∷ l) h (suc j) = take-bytes n l (λ i. h (suc i)) j
 abbrev pub Proper : Command → Type 0
 Proper Command.End = Unit {0}
 Proper Command.Head = Unit {0}
-Proper (Command.Constant x) = x < 2 ^ (8 * constantBytes constantLevels)
+Proper (Command.Constant x) = x < 2 ^ (8 * bytesAt constantLevels)
 Proper (Command.Clause σ t a b c) = Unit {0}
 
 abbrev pub ProperStep : Step → Type 0
@@ -73,9 +73,9 @@ unfolding commandOf
 command-proper s h i Shape.End = tt
 command-proper s h i Shape.Head = tt
 command-proper s h i Shape.Constant =
-    let l = take (constantBytes constantLevels) (drop i s) in
-    let n : 8 * length l ≤ 8 * constantBytes constantLevels = simp length-take (omega arith) in
-    le-trans (number-fits l (take-bytes (constantBytes constantLevels) (drop i s) (λ j. rw getD-drop (h (i + j))))) (pow-mono n)
+    let l = take (bytesAt constantLevels) (drop i s) in
+    let n : 8 * length l ≤ 8 * bytesAt constantLevels = simp length-take (omega arith) in
+    le-trans (number-fits l (take-bytes (bytesAt constantLevels) (drop i s) (λ j. rw getD-drop (h (i + j))))) (pow-mono n)
 command-proper s h i (Shape.Clause σ t) = tt
 
 pub read-proper : (s : List ℕ) → Bytes s → (at : ℕ) → ProperStep (readAt s at)
@@ -324,7 +324,7 @@ module _ {kind : ℕ} (x : Stored) (q : Question) (d : Stands kind x q) where
   no-clause f SecondPositive = omega (arith, section-count SecondPositive, both-counts (q .second), f .before)
   no-clause f SecondDisequation = omega (arith, section-count SecondDisequation, both-counts (q .second), f .before)
 
-  stands-constant : (v : ℕ) → v < 2 ^ (8 * constantBytes constantLevels) → ConstantFits q → Stands kind (kept x (Command.Constant v)) (withConstant q v)
+  stands-constant : (v : ℕ) → v < 2 ^ (8 * bytesAt constantLevels) → ConstantFits q → Stands kind (kept x (Command.Constant v)) (withConstant q v)
   stands-constant v small f =
       let n = x .defined in
       let l = x .constants in
@@ -346,7 +346,7 @@ module _ {kind : ℕ} (x : Stored) (q : Question) (d : Stands kind x q) where
         sizes = (simp length-set (d .sizes .0), d .sizes .1, d .sizes .2);
       }
     where
-      below : (i : ℕ) → (i ≡ x .defined) ⊎ (i < x .defined) → x .defined < length (x .constants) → getD (set (x .constants) (x .defined) v) i 0 < 2 ^ (8 * constantBytes constantLevels)
+      below : (i : ℕ) → (i ≡ x .defined) ⊎ (i < x .defined) → x .defined < length (x .constants) → getD (set (x .constants) (x .defined) v) i 0 < 2 ^ (8 * bytesAt constantLevels)
       below i (inl e) fits = rw e (rw (getD-set-same (x .constants) (x .defined) v 0 fits) small)
       below i (inr h) fits = rw (getD-set-other (x .constants) (x .defined) i v 0 (omega arith)) (d .small i h)
 

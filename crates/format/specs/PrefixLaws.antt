@@ -8,7 +8,7 @@ use borrow.Author.Tests.{ltb-true, eqb-true, eqb-false, ne-eqb}
 use lib.Dec.{eqb, ltb, ltb→lt, lt→ltb}
 use lib.ListN.{length, getD, take, drop, length-take}
 use lib.Seq.{getD-take, take-take, take-all}
-use Rattle.shares.specs.Constant.{constantLevels, number}
+use Rattle.shares.specs.Constant.{constantLevels, number, bytesAt}
 use Rattle.shares.specs.Test.{same-test}
 use Rattle.systems.specs.Questions.{Question}
 use Rattle.format.specs.declared.Shape.{Shape}
@@ -19,7 +19,7 @@ use Rattle.format.specs.declared.Head.{Head}
 use Rattle.format.specs.declared.Head.the-variants.{Opens, Wrong}
 use Rattle.format.specs.declared.Step.{Step}
 use Rattle.format.specs.declared.Step.the-variants.{Take, Refused}
-use Rattle.format.specs.Format.{Result, refused, accepted, constantBytes, entryOf, termCount, operands, termByte, commandOf, wholeAt, readAt, fault, judged, taken, ended, go, onward, turn, following, run, headFits, opened, headOf, afterHead, read}
+use Rattle.format.specs.Format.{Result, refused, accepted, entryOf, termCount, operands, termByte, commandOf, wholeAt, readAt, fault, judged, taken, ended, go, onward, turn, following, run, headFits, opened, headOf, afterHead, read}
 use Rattle.format.specs.FormatLaws.{longest, branch, term-small, size-some, Whole, read-whole, judged-take, Stay, run-law, HeadRight, head-right, accepted-short, refusal-place}
 
 -- ---- how far a command reaches
@@ -32,14 +32,14 @@ width Unknown = 0
 abbrev pub sizeAt : List ℕ → ℕ → ℕ
 sizeAt s at = 1 + width (entryOf (getD s at 0))
 
-width-small : (e : Entry) → width e ≤ constantBytes constantLevels
+width-small : (e : Entry) → width e ≤ bytesAt constantLevels
 width-small (Known Shape.End) = omega arith
 width-small (Known Shape.Head) = omega arith
 width-small (Known Shape.Constant) = omega arith
 width-small (Known (Shape.Clause σ t)) = omega (arith, term-small t)
 width-small Unknown = omega arith
 
-pub size-small : (s : List ℕ) (at : ℕ) → sizeAt s at ≤ 1 + constantBytes constantLevels
+pub size-small : (s : List ℕ) (at : ℕ) → sizeAt s at ≤ 1 + bytesAt constantLevels
 size-small s at = omega (arith, width-small (entryOf (getD s at 0)))
 
 -- a command that is read ends where it reaches
@@ -115,7 +115,7 @@ module _ (s t : List ℕ) (k : ℕ) (e : take k s ≡ take k t) where
   unfolding commandOf
   command-same i Shape.End l = refl
   command-same i Shape.Head l = refl
-  command-same i Shape.Constant l = ap (λ p. Command.Constant (number p)) (part-same i (constantBytes constantLevels) k s t l e)
+  command-same i Shape.Constant l = ap (λ p. Command.Constant (number p)) (part-same i (bytesAt constantLevels) k s t l e)
   command-same i (Shape.Clause σ u) l =
       let n = termCount u in
       rw (term-byte-same i n 0 l, term-byte-same i n 1 l, term-byte-same i n 2 l) refl
@@ -255,7 +255,7 @@ module _ (s t : List ℕ) (k : ℕ) (e : take k s ≡ take k t) where
 abbrev pub enough : ℕ
 enough = 1024
 
-pub read-take : (k : ℕ) (s : List ℕ) → longest constantLevels + (1 + constantBytes constantLevels) ≤ k → read s ≡ read (take k s)
+pub read-take : (k : ℕ) (s : List ℕ) → longest constantLevels + (1 + bytesAt constantLevels) ≤ k → read s ≡ read (take k s)
 read-take k s h = pick (read s) refl
   where
     pick : (r : Result) → read s ≡ r → read s ≡ read (take k s)

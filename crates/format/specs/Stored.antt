@@ -6,7 +6,7 @@ use mathlib.Core.List.{List, [], _∷_, _++_, map}
 use Prim.Native.Nat.{ℕ, zero, suc, _+_, _-_, _*_, _^_, _≤_, _<_}
 use lib.Dec.{T, eqb}
 use lib.ListN.{length, getD, set, take, replicate}
-use Rattle.shares.specs.Constant.{constantLevels}
+use Rattle.shares.specs.Constant.{constantLevels, bytesAt}
 use Rattle.shares.specs.Parts.{emptyPart, fullPart}
 use Rattle.systems.specs.Clauses.{variable, constant}
 use Rattle.systems.specs.Questions.{Kind, satisfiability, entailment, Question as Asked}
@@ -22,7 +22,7 @@ use Rattle.format.specs.declared.Head.{Head}
 use Rattle.format.specs.declared.Head.the-variants.{Opens, Wrong}
 use Rattle.format.specs.declared.Question.{Question}
 use Rattle.format.specs.declared.Reading.{Reading}
-use Rattle.format.specs.Format.{Result, refused, accepted, mostVariables, mostConstants, constantBytes, mostOf, inSection, termOf, names, variablesFor, atomOf, readAt, judged, taken, opened, headOf}
+use Rattle.format.specs.Format.{Result, refused, accepted, mostVariables, mostConstants, mostOf, inSection, termOf, names, variablesFor, atomOf, readAt, judged, taken, opened, headOf}
 
 -- ---- the numbers of the cases
 
@@ -139,7 +139,7 @@ pub record Stands (k : ℕ) (x : Stored) (q : Asked) : Type 0 where
   pub variables : x .free + x .own ≤ mostVariables
   pub counted : Counted (x .counts)
   pub constantCounted : x .defined ≤ mostConstants
-  pub small : (i : ℕ) → i < x .defined → getD (x .constants) i 0 < 2 ^ (8 * constantBytes constantLevels)
+  pub small : (i : ℕ) → i < x .defined → getD (x .constants) i 0 < 2 ^ (8 * bytesAt constantLevels)
   pub clauses : (σ : Section) (i : ℕ) → i < countOf (x .counts) σ → StoredAt x σ (sectionStart σ + 4 * i)
   pub sizes : (length (x .constants) ≡ mostConstants) × (length (x .clauses) ≡ clauseBytes) × (length (x .counts) ≡ 4)
 

@@ -18,9 +18,9 @@ use Rattle.shares.specs.Below.{everyBelow}
 use Rattle.shares.specs.BelowLaws.{every-at}
 use Rattle.shares.specs.Tree.{Tree, leaf, pair, twins, fold, leafAt, treeOf}
 use Rattle.shares.specs.TreeLaws.{treeOf-ext, treeOf-leaf, leafAt-leaf, leafAt-treeOf}
-use Rattle.shares.specs.Constant.{bit}
+use Rattle.shares.specs.Constant.{bit, bytesAt}
 use Rattle.shares.specs.BitLaws.{bit-zero, bits-same}
-use Rattle.rows.specs.Rows.{bytesAt, rowLeaf, rowTree, zeros}
+use Rattle.rows.specs.Rows.{rowLeaf, rowTree, zeros}
 use Rattle.rows.specs.RowLaws.{ltb-next, eight, leaf-byte, zeros-leaf}
 use Rattle.rows.specs.Blocks.{Inside, blockTree, AllLeaves, BlockSet, FirstBlocks, wholeByte}
 

@@ -2,7 +2,8 @@
 use mathlib.Core.List.{List, _++_}
 use Prim.Native.Nat.{ℕ, _*_}
 use lib.ListN.{drop}
-use Rattle.rows.specs.Rows.{rowCount, bytesAt, zeros}
+use Rattle.shares.specs.Constant.{bytesAt}
+use Rattle.rows.specs.Rows.{rowCount, zeros}
 
 -- all rows are zero, and what is past them is as it was
 unfoldable pub emptied : ℕ → List ℕ → List ℕ

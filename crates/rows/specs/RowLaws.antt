@@ -14,9 +14,9 @@ use lib.Pow.{pow-add}
 use lib.Seq.{ext-getD, take-at, drop-at}
 use Rattle.shares.specs.Tree.{Tree, leaf, Folded, height, leafAt}
 use Rattle.shares.specs.TreeLaws.{treeOf-ext, treeOf-leaf, treeOf-leafAt, leafAt-treeOf}
-use Rattle.shares.specs.Constant.{bit, numberOf}
+use Rattle.shares.specs.Constant.{bit, numberOf, bytesAt}
 use Rattle.shares.specs.BitLaws.{bit-zero, bits-same, number-lt, bit-number}
-use Rattle.rows.specs.Rows.{rowLevels, rowCount, bytesAt, rowBytes, rowLeaf, rowTree, listOf, rowOf, emptyRange, rowRange, rowPart, zeros, variableRow, rowsOf, filledWith}
+use Rattle.rows.specs.Rows.{rowLevels, rowCount, rowBytes, rowLeaf, rowTree, listOf, rowOf, emptyRange, rowRange, rowPart, zeros, variableRow, rowsOf, filledWith}
 use Rattle.rows.specs.Emptied.{emptied}
 use Rattle.shares.specs.NumberLaws.{zero-at}
 
@@ -47,8 +47,8 @@ list-at (suc n) f (suc i) h = list-at n (λ i. f (suc i)) i (le-of-suc-le-suc h)
 pub eight : (k : ℕ) → 3 ≤ k → 2 ^ k ≡ 2 ^ (k - 3) * 8
 eight k h = ap (λ (n : ℕ). 2 ^ n) (omega arith) ∙ pow-add 2 (k - 3) 3
 
--- a row of an answer, of any number of levels
-pub row-bytes : (levels : ℕ) → bytesAt (rowLevels levels) ≡ rowBytes levels
+-- a row of an answer, for any number of levels
+pub row-bytes : (levels : ℕ) → rowBytes levels ≡ 2 ^ (levels + 2)
 row-bytes levels =
     let e : rowLevels levels - 3 ≡ levels + 2 = omega arith in
     omega (arith, eight (rowLevels levels) (omega arith), ap (λ (n : ℕ). 2 ^ n) e)

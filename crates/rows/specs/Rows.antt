@@ -1,16 +1,17 @@
 -- Rows: a tree unfolded to a height, eight leaves to a byte, and the rows of an answer buffer. Assumes nothing.
 use mathlib.Core.Bool.{Bool, cond}
 use mathlib.Core.List.{List, [], _∷_, _++_}
-use Prim.Native.Nat.{ℕ, zero, suc, _+_, _*_, _/_, _%_, _^_}
+use Prim.Native.Nat.{ℕ, zero, suc, _+_, _*_, _/_, _%_}
 use lib.Dec.{ltb, leb}
 use lib.ListN.{length, getD, take, drop, replicate}
 use Rattle.shares.specs.Tree.{Tree, leafAt, treeOf}
-use Rattle.shares.specs.Constant.{bit, numberOf}
+use Rattle.shares.specs.Constant.{bit, numberOf, bytesAt}
 use Rattle.rows.specs.declared.Range.{Range}
 
 -- ---- the numbers
 
--- where the constants of a question have so many levels, a row of the answer is unfolded to this height: 10 at 5 levels
+-- where the constants of a question have so many levels, a row of the answer is unfolded to this height, 10 at 5 levels: its 31 disequations and one choice
+-- more take 2 ^ 5 sub-leaves below a leaf
 abbrev pub rowLevels : ℕ → ℕ
 rowLevels levels = levels + 5
 
@@ -18,13 +19,9 @@ rowLevels levels = levels + 5
 abbrev pub rowCount : ℕ
 rowCount = 12
 
--- a row that is unfolded to height k has this many bytes: 128 at height 10
-abbrev pub bytesAt : ℕ → ℕ
-bytesAt k = 2 ^ k / 8
-
 -- a row of the answer has this many bytes: 128 at 5 levels
 abbrev pub rowBytes : ℕ → ℕ
-rowBytes levels = 2 ^ (levels + 2)
+rowBytes levels = bytesAt (rowLevels levels)
 
 -- the rows of an answer have this many bytes: 1,536 at 5 levels
 abbrev pub answerBytes : ℕ → ℕ

@@ -4,7 +4,7 @@ use mathlib.Core.List.{List, [], _∷_}
 use Prim.Native.Nat.{ℕ, zero, suc, _+_, _*_, _/_, _%_, _^_}
 use lib.Dec.{eqb}
 use Rattle.shares.specs.Below.{one}
-use Rattle.shares.specs.Tree.{Tree, treeOf}
+use Rattle.shares.specs.Tree.{Tree, leafAt, treeOf}
 
 -- bit i of a number, lowest first
 unfoldable pub bit : ℕ → ℕ → Bool
@@ -19,9 +19,17 @@ numberOf (suc w) f = numberOf w (λ i. f (suc i)) * 2 + one (f 0)
 abbrev pub numberTree : ℕ → ℕ → Tree
 numberTree k n = treeOf k (bit n)
 
+-- the number that has leaf i of a tree, unfolded to height k, at bit i
+unfoldable pub treeNumber : ℕ → Tree → ℕ
+treeNumber k t = numberOf (2 ^ k) (leafAt k t)
+
 -- a constant has 32 leaves: it is the tree of its number at this many levels, and at most this tall
 abbrev pub constantLevels : ℕ
 constantLevels = 5
+
+-- 2 ^ k leaves take this many bytes, eight a byte
+abbrev pub bytesAt : ℕ → ℕ
+bytesAt k = 2 ^ k / 8
 
 -- the number that bytes make, the lowest first
 unfoldable pub number : List ℕ → ℕ

@@ -1,4 +1,4 @@
--- Laws of numbers as trees, each for every number of leaves: the join of two numbers, and the height of one. Assumes nothing.
+-- Laws of numbers as trees and trees as numbers, each for every number of leaves; the join of two numbers, and the height of one. Assumes nothing.
 use mathlib.Core.Path.{_≡_, refl, sym, ap, ap₂, _∙_, subst}
 use mathlib.Core.Bool.{Bool, true, false, not, cond, _&&_, _||_, xor}
 use mathlib.Core.Logic.{_↔_, _⊎_, inl, inr}
@@ -15,16 +15,42 @@ use borrow.Author.Tests.{eq-eqb, ne-eqb}
 use Rattle.shares.specs.Test.{is-false, and-intro, and-left, and-right}
 use Rattle.shares.specs.BelowLaws.{Below, some-or}
 use Rattle.shares.specs.Blocks.{blockOf, firstOf}
-use Rattle.shares.specs.Tree.{height, leafAt, treeOf, joinLeaf, joins, join}
-use Rattle.shares.specs.TreeLaws.{treeOf-folded, treeOf-height, leafAt-treeOf, height-iff}
+use Rattle.shares.specs.Tree.{Tree, leaf, Folded, height, leafAt, treeOf, joinLeaf, joins, join}
+use Rattle.shares.specs.TreeLaws.{treeOf-folded, treeOf-height, leafAt-treeOf, leafAt-leaf, treeOf-ext, treeOf-leafAt, height-iff}
 use Rattle.shares.specs.JoinLaws.{join-iff, join-none-iff}
-use Rattle.shares.specs.Constant.{bit, numberTree}
-use Rattle.shares.specs.BitLaws.{bit-and, bit-or, bit-xor, bit-half, bit-zero, bits-zero}
+use Rattle.shares.specs.Constant.{bit, numberTree, treeNumber}
+use Rattle.shares.specs.BitLaws.{bit-and, bit-or, bit-xor, bit-half, bit-zero, bits-same, bits-zero, number-lt, bit-number}
+use Rattle.shares.specs.BitParts.{bit-ones}
 
--- ---- a number is its tree's
+-- ---- a number is its tree's, and a tree its number's
 
 pub leaf-number : (k n i : ℕ) → i < 2 ^ k → leafAt k (numberTree k n) i ≡ bit n i
 leaf-number k n i l = leafAt-treeOf k (bit n) i l
+
+pub tree-number-lt : (k : ℕ) (t : Tree) → treeNumber k t < 2 ^ (2 ^ k)
+unfolding treeNumber
+tree-number-lt k t = number-lt (2 ^ k) (leafAt k t)
+
+pub bit-tree-number : (k : ℕ) (t : Tree) (i : ℕ) → i < 2 ^ k → bit (treeNumber k t) i ≡ leafAt k t i
+unfolding treeNumber
+bit-tree-number k t i l = bit-number (2 ^ k) (leafAt k t) i l
+
+pub number-tree-number : (k n : ℕ) → n < 2 ^ (2 ^ k) → treeNumber k (numberTree k n) ≡ n
+number-tree-number k n h = bits-same (2 ^ k) _ n (tree-number-lt k _) h (λ i l. bit-tree-number k _ i l ∙ leaf-number k n i l)
+
+pub tree-number-tree : (k : ℕ) (t : Tree) → Folded t → height t ≤ k → numberTree k (treeNumber k t) ≡ t
+tree-number-tree k t f h = treeOf-ext k _ _ (bit-tree-number k t) ∙ treeOf-leafAt k t f h
+
+pub leaf-tree-number : (k : ℕ) (b : Bool) → treeNumber k (leaf b) ≡ cond b (2 ^ (2 ^ k) - 1) 0
+leaf-tree-number k b = bits-same (2 ^ k) _ _ (tree-number-lt k _) (low b) (λ i l. bit-tree-number k _ i l ∙ leafAt-leaf k b i ∙ bit-of b i l)
+  where
+    low : (b : Bool) → cond b (2 ^ (2 ^ k) - 1) 0 < 2 ^ (2 ^ k)
+    low true = omega (arith, pow-pos (2 ^ k))
+    low false = pow-pos (2 ^ k)
+
+    bit-of : (b : Bool) (i : ℕ) → i < 2 ^ k → b ≡ bit (cond b (2 ^ (2 ^ k) - 1) 0) i
+    bit-of true i l = sym (bit-ones (2 ^ k) i l)
+    bit-of false i l = sym (bit-zero i)
 
 -- ---- the join of two numbers
 

@@ -1,6 +1,6 @@
 -- The share model: trees, folding, shares, height, leaves, and the join. Assumes nothing.
 use mathlib.Core.Path.{_≡_}
-use mathlib.Core.Bool.{Bool, true, false, not, cond, _&&_, Bool·beq}
+use mathlib.Core.Bool.{Bool, true, false, cond, Bool·beq}
 use mathlib.Core.Option.{Option, none, some, Option·getD}
 use Prim.Native.Nat.{ℕ, zero, suc, _+_, _/_, _%_, _^_, max}
 use Rattle.shares.specs.Below.{everyBelow}
@@ -24,11 +24,6 @@ fold l r = cond (twins l r) l (pair l r)
 abbrev pub Folded : Tree → Type 0
 Folded (leaf b) = Unit {0}
 Folded (pair l r) = (twins l r ≡ false) × Folded l × Folded r
-
--- the same as a test
-unfoldable pub isFolded : Tree → Bool
-isFolded (leaf b) = true
-isFolded (pair l r) = not (twins l r) && (isFolded l && isFolded r)
 
 -- a share: a tree folded as far as possible
 pub record Share : Type 0 where

@@ -10,12 +10,12 @@ use lib.ListN.{length, getD}
 use lib.Pow.{pow-pos, pow-add, pow-mono}
 use Rattle.shares.specs.Tree.{leafAt, treeOf}
 use Rattle.shares.specs.TreeLaws.{treeOf-height, leafAt-treeOf, blocks}
-use Rattle.shares.specs.Constant.{bit}
+use Rattle.shares.specs.Constant.{bit, bytesAt}
 use Rattle.shares.specs.Blocks.{blockOf, firstOf}
 use Rattle.shares.specs.BlockLaws.{block-lt, first-lt, block-first, block-block}
 use Rattle.plans.specs.declared.Plan.{Plan}
 use Rattle.plans.specs.Shown.{Showable, planChoiceAfter, planChoice, planTree}
-use Rattle.rows.specs.Rows.{bytesAt, rowLeaf, rowOf}
+use Rattle.rows.specs.Rows.{rowLeaf, rowOf}
 use Rattle.rows.specs.RowLaws.{row-is}
 use Rattle.rows.specs.Blocks.{Inside, AllLeaves, BlockSet}
 use Rattle.rows.specs.BlockLaws.{leaf-inside}

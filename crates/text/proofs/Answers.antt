@@ -1,25 +1,27 @@
 -- What writing the text of a whole row answers and leaves in the buffer, case by case. Assumes nothing.
-use mathlib.Core.Path.{_≡_, sym, ap, _∙_}
+use mathlib.Core.Path.{_≡_, sym, ap, _∙_, subst}
 use mathlib.Core.Bool.{Bool, true, false}
 use mathlib.Core.List.{List}
-use Prim.Native.Nat.{ℕ, _+_, _≤_}
+use Prim.Native.Nat.{ℕ, _+_, _-_, _≤_, zero-le}
 use native.Mathlib.Omega.{arith}
 use borrow.Author.Tests.{eq-eqb, ne-eqb, leb-true}
 use lib.Dec.{leb}
 use lib.ListN.{length}
-use Rattle.shares.specs.Constant.{constantLevels}
+use lib.Pow.{pow-pos}
+use Rattle.shares.specs.Constant.{bytesAt}
 use Rattle.shares.specs.Text.{text}
-use Rattle.rows.specs.Rows.{rowLevels, bytesAt, rowBytes}
 use Rattle.rows.specs.Blocks.{Inside, blockTree}
-use Rattle.rows.specs.BlockLaws.{block-row}
+use Rattle.rows.specs.BlockLaws.{leaf-inside, block-row}
 use Rattle.text.specs.Texts.{rowText, textAnswer, textAfter}
 use Rattle.text.specs.Put.{Put}
 use Rattle.text.specs.declared.Written.the-variants.{Length, Refused}
 use Rattle.text.proofs.Steps.{put-first}
 
 -- a whole row is one block
-pub row-inside : (n : ℕ) → n ≡ rowBytes constantLevels → Inside (rowLevels constantLevels) 0 n
-row-inside n e = record { low = omega arith; few = omega arith; fits = omega arith }
+pub row-inside : (k n : ℕ) → 3 ≤ k → k ≤ 32 → n ≡ bytesAt k → Inside k 0 n
+row-inside k n h l e =
+    let z : k - 0 ≡ k = omega arith in
+    subst (λ m. Inside m 0 n) z (subst (λ b. Inside (k - 0) 0 b) (sym e) (leaf-inside h l zero-le (pow-pos 0)))
 
 pub row-text : (k : ℕ) (row : List ℕ) → text (blockTree row k 0) ≡ rowText k row
 unfolding rowText

@@ -7,7 +7,8 @@ use lib.ListN.{length}
 use Rattle.shares.specs.TreeLaws.{treeOf-height}
 use Rattle.shares.specs.Text.{longestText}
 use Rattle.shares.specs.TextLaws.{text-length}
-use Rattle.rows.specs.Rows.{bytesAt, rowLeaf, rowTree}
+use Rattle.shares.specs.Constant.{bytesAt}
+use Rattle.rows.specs.Rows.{rowLeaf, rowTree}
 use Rattle.text.specs.Texts.{textLength, rowText, textAnswer}
 use Rattle.text.specs.declared.Written.the-variants.{Length, Refused}
 

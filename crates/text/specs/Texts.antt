@@ -5,7 +5,8 @@ use Prim.Native.Nat.{ℕ}
 use lib.Dec.{eqb, leb}
 use lib.ListN.{length, drop}
 use Rattle.shares.specs.Text.{text}
-use Rattle.rows.specs.Rows.{bytesAt, rowTree}
+use Rattle.shares.specs.Constant.{bytesAt}
+use Rattle.rows.specs.Rows.{rowTree}
 use Rattle.text.specs.declared.Written.{Written}
 use Rattle.text.specs.declared.Written.the-variants.{Length, Refused}
 

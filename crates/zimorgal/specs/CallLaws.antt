@@ -23,7 +23,8 @@ use Rattle.text.specs.TextLaws.{answer-length}
 use Rattle.text.specs.declared.Written.{Written}
 use Rattle.text.specs.declared.Written.the-variants.{Length, Refused}
 use Rattle.constants.specs.FromText.{constantRefusal, constantGiven, fromText}
-use Rattle.constants.specs.FromTextLaws.{written-read, read-written, given-low}
+use Rattle.constants.specs.FromTextLaws.{written-read, read-written}
+use Rattle.constants.specs.declared.FromText.{FromText}
 use Rattle.constants.specs.declared.FromText.the-variants as given
 use Rattle.zimorgal.specs.Calls.{rangeNumber, textNumber, constantNumber, undefinedJoin, numberJoin}
 
@@ -51,26 +52,24 @@ pub text-reads-back : (row buffer : List ℕ)
 text-reads-back row buffer = (omega (arith, answer-length (rowLevels constantLevels) row buffer), omega (arith, answer-length (rowLevels constantLevels) row buffer))
 
 -- the constant and the refusal number of the constant call
-pub constant-reads-back : (s : List ℕ)
-    → (constantNumber (fromText constantLevels s) % 2 ^ 32 ≡ constantGiven (fromText constantLevels s))
-    × (constantNumber (fromText constantLevels s) / 2 ^ 32 ≡ constantRefusal (fromText constantLevels s))
-constant-reads-back s = (omega (arith, given-low constantLevels s), omega (arith, given-low constantLevels s))
+pub constant-reads-back : (g : FromText) → constantGiven g < 2 ^ 32 → (constantNumber g % 2 ^ 32 ≡ constantGiven g) × (constantNumber g / 2 ^ 32 ≡ constantRefusal g)
+constant-reads-back g l = (omega arith, omega arith)
 
 -- the text of a constant's row is the constant's, for every number of levels
 module _ (levels n : ℕ) where
-  row-text : rowText (rowLevels levels) (rowOf (rowLevels levels) (numberTree levels n)) ≡ text (numberTree levels n)
+  constant-row-text : rowText (rowLevels levels) (rowOf (rowLevels levels) (numberTree levels n)) ≡ text (numberTree levels n)
   unfolding rowText
-  row-text =
+  constant-row-text =
       ap text
       (rowTree-rowOf (rowLevels levels) (omega arith) (numberTree levels n) (treeOf-folded levels (bit n)) (omega (arith, treeOf-height levels (bit n))))
 
   -- so a constant that the text call writes and the constant call reads is itself
   pub row-read : n < 2 ^ (2 ^ levels) → fromText levels (rowText (rowLevels levels) (rowOf (rowLevels levels) (numberTree levels n))) ≡ given.Constant n
-  row-read l = ap (fromText levels) row-text ∙ written-read levels n l
+  row-read l = ap (fromText levels) constant-row-text ∙ written-read levels n l
 
   -- and each text that the constant call accepts is what the text call writes
   pub row-written : (s : List ℕ) → fromText levels s ≡ given.Constant n → rowText (rowLevels levels) (rowOf (rowLevels levels) (numberTree levels n)) ≡ s
-  row-written s e = row-text ∙ read-written levels s n e .1
+  row-written s e = constant-row-text ∙ read-written levels s n e .1
 
 not-both : (t : Tree) → none ≡ some t → ⊥
 not-both t e = let z : _≡_ {A = ℕ} 0 1 = cc in omega arith

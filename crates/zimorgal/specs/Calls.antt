@@ -1,4 +1,4 @@
--- What the numbers of the other calls stand for. Assumes nothing.
+-- What the numbers of the calls other than asking stand for. Assumes nothing.
 use mathlib.Core.Bool.{cond}
 use mathlib.Core.Option.{Option, none, some}
 use Prim.Native.Nat.{ℕ, _+_, _*_, _^_}

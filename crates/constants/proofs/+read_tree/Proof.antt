@@ -7,7 +7,7 @@ use borrow.Author.Needs.{needs}
 use borrow.Fn.Kinds.{In}
 use borrow.Fn.PlainCycle.{Measures, is, falls, and}
 use Rattle.constants.specs.Tells.{Tells}
-use Rattle.constants.specs.TellLaws.{end-after, told-small, sign-there, tells-leaf, tells-no-room, tells-no-left, tells-no-right, tells-not-closed, tells-pair, tells-same}
+use Rattle.constants.specs.TellLaws.{told-small, sign-inside, tells-leaf, tells-no-room, tells-no-left, tells-no-right, tells-not-closed, tells-pair, tells-same}
 use Rattle.constants.specs.declared.Told.{Told}
 use Rattle.constants.specs.declared.Found.the-variants as found
 use Rattle.constants.proofs.read_tree.Reads as read-tree
@@ -61,7 +61,7 @@ module _ (t : ℕ) where
   read-tree-requires : lts.Need-read-tree-requires claims here read-tree.Post
   read-tree-requires c κs =
       let start = c .before .before .before .before .before in
-      let inside = sign-there 0 0 (start .args .text .now) _ _ (c .before .before .before .sign-at .ensures) 0x27 (c .before .before .if1 .left) in
+      let inside = sign-inside (start .args .text .now) _ _ (c .before .before .before .sign-at .ensures) (λ z. omega (arith, (c .before .before .if1 .left))) in
       (omega (arith, c .before .if2 .left, start .pre .0), (omega arith, start .pre .1 .1, omega (arith, c .below .ensures, start .pre .1)))
 
   enum-known-left : lts.Need-enum-known-left claims here read-tree.Post

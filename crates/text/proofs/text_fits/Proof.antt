@@ -3,7 +3,7 @@ use native.Mathlib.Omega.{arith}
 use mathlib.Core.Path.{sym, ap, _∙_}
 use Prim.Native.Nat.{ℕ, _≤_}
 use borrow.Author.Tests.{le-leb}
-use lib.Dec.{leb}
+use lib.Dec.{leb, lit≤}
 use lib.ListN.{length}
 use Rattle.shares.specs.Constant.{constantLevels}
 use Rattle.rows.specs.Rows.{rowLevels}
@@ -20,7 +20,7 @@ returns c =
     sym (le-leb _ _ short)
 
 text-length-requires : tie.Need-text-length-requires
-text-length-requires c κs = row-inside _ (c .before .before .pre)
+text-length-requires c κs = row-inside (rowLevels constantLevels) _ (lit≤ tt) (lit≤ tt) (c .before .before .pre)
 
 returns-2 : tie.Need-returns-2
 returns-2 c =

@@ -1,4 +1,7 @@
 -- `text::tree_text` meets its contract. Assumes nothing.
+use lib.Dec.{lit≤}
+use Rattle.shares.specs.Constant.{constantLevels}
+use Rattle.rows.specs.Rows.{rowLevels}
 use Rattle.text.proofs.Answers.{row-inside, room, written, too-long, not-a-row}
 use borrow.Author.Needs.{needs}
 use Rattle.text.proofs.tree_text.Statement.{statement}
@@ -8,7 +11,7 @@ text-fits-requires : tie.Need-text-fits-requires
 text-fits-requires c κs = search needs
 
 write-text-requires : tie.Need-write-text-requires
-write-text-requires c κs = (row-inside _ (c .before .before .before .if1 .taken), room _ (c .before .before .before .before .before .before .args .row .now) (c .before .before .before .before .before .before .args .buffer .now) (c .before .before .before .if1 .taken) _ (c .before .before .text-fits .ensures) (c .before .if2 .taken))
+write-text-requires c κs = (row-inside (rowLevels constantLevels) _ (lit≤ tt) (lit≤ tt) (c .before .before .before .if1 .taken), room _ (c .before .before .before .before .before .before .args .row .now) (c .before .before .before .before .before .before .args .buffer .now) (c .before .before .before .if1 .taken) _ (c .before .before .text-fits .ensures) (c .before .if2 .taken))
 
 same-length : tie.Need-same-length
 same-length c = search needs
