@@ -88,7 +88,7 @@ fn read(text: &[u8]) -> Read {
 
 /// The library, this reader and that of tests/brute must give the same.
 pub fn must_agree(family: &Family) {
-    for text in &family.questions {
+    for text in &family.inputs {
         let given = Buffers::new().call(Call::Constant, text);
         let due = (packed(read(text)), constant_due(text));
         assert_eq!((given, given), due, "{}", family.name);
