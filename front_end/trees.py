@@ -8,7 +8,7 @@ import re
 from front_end.files import quote
 
 TALLEST = 5  # of a constant
-NO_TREE_TEXT, COULD_BE_FOLDED, TOO_TALL = 15, 16, 17  # refusal numbers, told in this order
+NOT_TREE_TEXT, NOT_FOLDED, TOO_TALL = 15, 16, 17  # refusal numbers, told in this order
 FOLDABLE = re.compile(r"\(([o*])\1\)")  # a pair of two equal leaves
 
 
@@ -23,7 +23,7 @@ class TreeFault(Exception):
 
 
 def no_tree_text(at, what):
-    return TreeFault(NO_TREE_TEXT, at, f"no tree text: {what}")
+    return TreeFault(NOT_TREE_TEXT, at, f"no tree text: {what}")
 
 
 def longest(tallest=TALLEST):
@@ -37,10 +37,11 @@ def read_tree(text, tallest=TALLEST):
     pairs = []  # of each pair that is not closed yet: how many halves it has so far
     tall = None
     leaves = next_leaf = 0
+    most = longest(tallest)
     for at, sign in enumerate(text):
         if at > 0 and not pairs:
             raise no_tree_text(at, "the tree ends before this character")
-        if at == longest(tallest):
+        if at == most:
             raise no_tree_text(at, f"it is too long: a folded tree with at most {tallest} pairs one in the other has at most {at} characters")
         wants_half = not pairs or pairs[-1] < 2
         if sign not in ("(o*" if wants_half else ")"):
@@ -65,7 +66,7 @@ def read_tree(text, tallest=TALLEST):
     unfolded = FOLDABLE.search(text)
     if unfolded:
         pair, leaf = unfolded.group(0, 1)
-        raise TreeFault(COULD_BE_FOLDED, unfolded.start(), f"a pair of two equal leaves must be folded: write '{leaf}' for '{pair}'")
+        raise TreeFault(NOT_FOLDED, unfolded.start(), f"a pair of two equal leaves must be folded: write '{leaf}' for '{pair}'")
     if tall is not None:
         raise TreeFault(TOO_TALL, tall, f"the tree is too tall: at most {tallest} pairs may stand one in the other")
     return leaves

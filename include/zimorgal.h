@@ -55,7 +55,7 @@
 #define ZIMORGAL_TEXT_BYTES 3070        /* no tree text of a row is longer */
 #define ZIMORGAL_CONSTANT_TEXT_BYTES 94 /* no tree text of a constant is longer */
 
-/* Enough stack for a thread that calls. Asking touches under 8 KB; the rest is for the thread, for a signal's frame
+/* Enough stack for a thread that calls. A call touches under 8 KB; the rest is for the thread, for a signal's frame
    and for buffers of the caller. tests/cpp/stack.cpp measures it, and runs threads with exactly this much. */
 #define ZIMORGAL_STACK_BYTES 32768
 

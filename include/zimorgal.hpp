@@ -75,12 +75,12 @@ enum class Error : std::uint8_t {
     names_nothing,          // a variable that the question has not, or Constant{}
     own_variable_in_first,  // an own variable in the first system
     no_second_system,       // a clause of the second system in a satisfiability question
-    not_tree_text,          // or over 94 characters
+    not_tree_text,          // a text over 94 characters, or no tree text
     too_tall,               // a tree taller than 5
-    not_folded,
-    foreign_constant,  // of another question, or from before this one was started anew
-    unknown_relation,  // a Relation that is none of the seven
-    unknown_system,    // a System that is none of the two
+    not_folded,             // a pair that could be folded
+    foreign_constant,       // of another question, or from before this one was started anew
+    unknown_relation,       // a Relation that is none of the seven
+    unknown_system,         // a System that is none of the two
 };
 
 constexpr std::string_view describe(Error error) noexcept {
@@ -93,7 +93,7 @@ constexpr std::string_view describe(Error error) noexcept {
         case Error::names_nothing: return "a term that names nothing";
         case Error::own_variable_in_first: return "an own variable in the first system";
         case Error::no_second_system: return "a clause of the second system in a satisfiability question";
-        case Error::not_tree_text: return "not a tree text";
+        case Error::not_tree_text: return "a text over 94 bytes, or no tree text";
         case Error::too_tall: return "a tree taller than 5";
         case Error::not_folded: return "a tree that is not folded";
         case Error::foreign_constant: return "a constant of another question, or from before this one was started anew";
@@ -282,7 +282,8 @@ constexpr Error error_of(int refusal) noexcept {
         case ZIMORGAL_ACCEPTED: return Error::none;
         case ZIMORGAL_NOT_FOLDED: return Error::not_folded;
         case ZIMORGAL_TOO_TALL: return Error::too_tall;
-        default: return Error::not_tree_text;
+        case ZIMORGAL_NOT_TREE_TEXT:
+        default: return Error::not_tree_text;  // reading gives no other number
     }
 }
 

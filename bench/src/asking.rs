@@ -34,18 +34,18 @@ impl Buffers {
     }
 }
 
-/// Asks all questions in rounds for so long, once at least; gives the nanoseconds per question of the median round.
-pub fn median_round<T>(family: &Family, long: Duration, mut ask: impl FnMut(&[u8]) -> T) -> f64 {
+/// Calls with all inputs in rounds for so long, once at least; gives the nanoseconds per input of the median round.
+pub fn median_round<T>(family: &Family, long: Duration, mut call: impl FnMut(&[u8]) -> T) -> f64 {
     let mut rounds = Vec::new();
     let began = Instant::now();
     while rounds.is_empty() || (began.elapsed() < long && rounds.len() < MOST_ROUNDS) {
         let round = Instant::now();
-        for question in &family.questions {
-            ask(question);
+        for input in &family.inputs {
+            call(input);
         }
         rounds.push(round.elapsed());
     }
     rounds.sort();
     let median = rounds[rounds.len() / 2];
-    median.as_nanos() as f64 / family.questions.len() as f64
+    median.as_nanos() as f64 / family.inputs.len() as f64
 }

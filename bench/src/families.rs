@@ -22,7 +22,8 @@ use std::ops::Range;
 
 pub struct Family {
     pub name: String,
-    pub questions: Vec<Vec<u8>>,
+    /// Questions, or the tree texts of src/texts.rs.
+    pub inputs: Vec<Vec<u8>>,
 }
 
 pub fn all() -> Vec<Family> {
@@ -60,7 +61,7 @@ pub fn all() -> Vec<Family> {
 fn family(name: &str, questions: impl Iterator<Item = Question>) -> Family {
     Family {
         name: name.to_string(),
-        questions: questions
+        inputs: questions
             .map(|question| write_in_order(&question))
             .collect(),
     }
@@ -69,7 +70,7 @@ fn family(name: &str, questions: impl Iterator<Item = Question>) -> Family {
 fn by_hand(name: &str, worked: &[Worked]) -> Family {
     Family {
         name: name.to_string(),
-        questions: worked.iter().map(|w| worked::bytes(w.bytes)).collect(),
+        inputs: worked.iter().map(|w| worked::bytes(w.bytes)).collect(),
     }
 }
 
@@ -216,7 +217,7 @@ fn split(own: usize, shape: Shape) -> Family {
     }
     Family {
         name: format!("worst case, {free} free, {own} own, {shape_name}"),
-        questions: vec![write_in_order(&question)],
+        inputs: vec![write_in_order(&question)],
     }
 }
 
@@ -259,7 +260,7 @@ mod tests {
     const OWN: [usize; 4] = [0, 1, 6, MOST_VARIABLES];
 
     fn question(own: usize, shape: Shape) -> Question {
-        read(&split(own, shape).questions[0]).expect("accepted")
+        read(&split(own, shape).inputs[0]).expect("accepted")
     }
 
     /// The answers are those that are told.

@@ -18,16 +18,19 @@ const CALLS: [&str; 2] = ["zimorgal_ask", "zimorgal_constant"];
 const NO_REPEATS: &str = "glibc.cpu.x86_rep_stosb_threshold=1000000000:\
                            glibc.cpu.x86_rep_movsb_threshold=1000000000";
 
-/// Asks all questions and reads all texts once, for callgrind. Where the library has no such call nothing is counted.
+/// Asks all questions and reads all texts once, for callgrind. Prints of each family whether the library has its call; if not, nothing
+/// is counted.
 pub fn ask_once() {
     let mut buffers = Buffers::new();
     for line in lines::all() {
-        if line.call.is_there() {
-            for bytes in &line.family.questions {
-                buffers.call(line.call, bytes);
+        let there = line.call.is_there();
+        if there {
+            for input in &line.family.inputs {
+                buffers.call(line.call, input);
             }
         }
         bench_family_ends();
+        println!("{there}");
     }
 }
 
@@ -38,10 +41,24 @@ extern "C" fn bench_family_ends() {
     black_box(());
 }
 
-/// The instructions of each family, all questions together, or why there are none.
+/// The instructions of each family, all inputs together, or why there are none.
 pub fn count(program: &Path) -> Result<Vec<u64>, String> {
     let folder = Folder::new().map_err(|error| error.to_string())?;
     let counts = folder.0.join("counts");
+    let printed = run_counted(program, &counts)?;
+    let count = |(number, there): (usize, &str)| {
+        let file = counts.with_extension((number + 1).to_string());
+        match count_of_file(&file)? {
+            0 if there.parse() != Ok(false) => Err("callgrind counted nothing".to_string()),
+            count => Ok(count),
+        }
+    };
+    printed.lines().enumerate().map(count).collect()
+}
+
+/// Runs a program under callgrind, which writes a file for each family: `counts` and the family's number, from 1. Gives what the program
+/// prints.
+fn run_counted(program: &Path, counts: &Path) -> Result<String, String> {
     let run = Command::new("valgrind")
         .arg("--tool=callgrind")
         .args(CALLS.map(|call| format!("--toggle-collect={call}")))
@@ -61,14 +78,7 @@ pub fn count(program: &Path) -> Result<Vec<u64>, String> {
         let last = said.lines().last().unwrap_or_default();
         return Err(format!("valgrind failed: {last}"));
     }
-    let count = |number: usize| count_of_file(&counts.with_extension(number.to_string()));
-    let counts: Vec<u64> = (1..=lines::all().len())
-        .map(count)
-        .collect::<Result<_, _>>()?;
-    match counts.iter().any(|count| *count > 0) {
-        true => Ok(counts),
-        false => Err("callgrind counted nothing".to_string()),
-    }
+    Ok(String::from_utf8_lossy(&run.stdout).into_owned())
 }
 
 /// The number that a file of callgrind gives as its total.

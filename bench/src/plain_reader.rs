@@ -6,7 +6,7 @@ use crate::families::Family;
 use crate::lines::Call;
 use brute::calls::constant_due;
 use brute::tree::CONSTANT_HEIGHT;
-use brute::tree_text::{packed, Read, COULD_BE_FOLDED, LONGEST_READ, NO_TREE_TEXT, TALLER};
+use brute::tree_text::{packed, Read, LONGEST_READ, NOT_FOLDED, NOT_TREE_TEXT, TOO_TALL};
 use std::hint::black_box;
 use std::slice::Iter;
 use std::time::Duration;
@@ -66,7 +66,7 @@ impl Reader<'_> {
 
 fn read(text: &[u8]) -> Read {
     if text.len() > LONGEST_READ {
-        return Err(NO_TREE_TEXT);
+        return Err(NOT_TREE_TEXT);
     }
     let mut reader = Reader {
         rest: text.iter(),
@@ -75,20 +75,20 @@ fn read(text: &[u8]) -> Read {
     match reader.tree(0) {
         Some(tree) if reader.rest.as_slice().is_empty() => {
             if reader.some_pair_folds {
-                Err(COULD_BE_FOLDED)
+                Err(NOT_FOLDED)
             } else if tree.height > CONSTANT_HEIGHT {
-                Err(TALLER)
+                Err(TOO_TALL)
             } else {
                 Ok(tree.leaves)
             }
         }
-        _ => Err(NO_TREE_TEXT),
+        _ => Err(NOT_TREE_TEXT),
     }
 }
 
 /// The library, this reader and that of tests/brute must give the same.
 pub fn must_agree(family: &Family) {
-    for text in &family.questions {
+    for text in &family.inputs {
         let given = Buffers::new().call(Call::Constant, text);
         let due = (packed(read(text)), constant_due(text));
         assert_eq!((given, given), due, "{}", family.name);

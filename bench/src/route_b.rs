@@ -37,7 +37,7 @@ fn ask_route_b(bytes: &[u8]) {
 /// Both solvers must say the same, of as many questions as go into the time that is too long for one.
 pub fn must_agree(family: &Family) {
     let began = Instant::now();
-    for question in &family.questions {
+    for question in &family.inputs {
         assert_eq!(
             library_says(question),
             route_b_says(question),
@@ -53,6 +53,6 @@ pub fn must_agree(family: &Family) {
 /// Route B's nanoseconds per question, unless it takes too long.
 pub fn time(family: &Family, long: Duration) -> Option<f64> {
     let began = Instant::now();
-    ask_route_b(family.questions.first()?);
+    ask_route_b(family.inputs.first()?);
     (began.elapsed() <= TOO_LONG).then(|| median_round(family, long, ask_route_b))
 }

@@ -25,7 +25,7 @@ impl Archive {
     fn instructions(&self, number: usize, line: &Line) -> String {
         match &self.counts {
             Ok(counts) => {
-                let count = counts[number] as f64 / line.family.questions.len() as f64;
+                let count = counts[number] as f64 / line.family.inputs.len() as f64;
                 format!("{count:.0}")
             }
             Err(_) => "-".to_string(),
@@ -38,7 +38,7 @@ pub fn print(other: Option<&Path>) {
     let own = std::env::current_exe().expect("the path of this program");
     let mut archives = vec![Archive::new(&own)];
     archives.extend(other.map(Archive::new));
-    print_line("family", "questions", &head(other.is_some()));
+    print_line("family", "inputs", &head(other.is_some()));
     let mut differs = false;
     let lines = lines::all();
     let there = |(_, line): &(usize, &Line)| line.call.is_there();
@@ -47,8 +47,8 @@ pub fn print(other: Option<&Path>) {
         let times = times(number, &mut archives);
         differs |= times.contains(&None);
         let cells = cells(number, line, &archives, &times);
-        let questions = line.family.questions.len();
-        print_line(&line.family.name, &questions.to_string(), &cells);
+        let inputs = line.family.inputs.len();
+        print_line(&line.family.name, &inputs.to_string(), &cells);
     }
     if differs {
         println!("differs: the other archive gives another result or has no such call, and is not measured");
@@ -61,8 +61,8 @@ pub fn print(other: Option<&Path>) {
     }
 }
 
-fn print_line(family: &str, questions: &str, cells: &[String]) {
-    print!("{family:<52} {questions:>9}");
+fn print_line(family: &str, inputs: &str, cells: &[String]) {
+    print!("{family:<52} {inputs:>9}");
     for cell in cells {
         print!(" {cell:>14}");
     }

@@ -20,7 +20,7 @@ pub fn all() -> Vec<Family> {
     let constants = constants.map(|leaves| tree_of_number(leaves).text().into_bytes());
     let mut families = vec![Family {
         name: "tree text, random constants".to_string(),
-        questions: constants.collect(),
+        inputs: constants.collect(),
     }];
     for (name, text) in [
         ("a leaf", b"*".to_vec()),
@@ -39,7 +39,7 @@ pub fn all() -> Vec<Family> {
     ] {
         families.push(Family {
             name: format!("tree text, {name}"),
-            questions: vec![text; TEXTS],
+            inputs: vec![text; TEXTS],
         });
     }
     families
@@ -64,10 +64,10 @@ mod tests {
         let due = [0, 0, 0, 0, 15, 15, 16, 17];
         for (family, due) in all().iter().zip(due) {
             let number = |text: &Vec<u8>| constant_of_text(text).err().unwrap_or(0);
-            let numbers: Vec<u8> = family.questions.iter().map(number).collect();
+            let numbers: Vec<u8> = family.inputs.iter().map(number).collect();
             assert_eq!(numbers, [due; TEXTS], "{}", family.name);
         }
-        let lengths: Vec<usize> = all()[1..].iter().map(|f| f.questions[0].len()).collect();
+        let lengths: Vec<usize> = all()[1..].iter().map(|f| f.inputs[0].len()).collect();
         assert_eq!(lengths, [1, 7, 94, 95, 93, 94, 94]);
     }
 }

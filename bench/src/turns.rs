@@ -38,8 +38,8 @@ fn results(line: &Line) -> String {
         return String::new();
     }
     let mut buffers = Buffers::new();
-    let questions = line.family.questions.iter();
-    let results = questions.map(|bytes| buffers.call(line.call, bytes));
+    let inputs = line.family.inputs.iter();
+    let results = inputs.map(|bytes| buffers.call(line.call, bytes));
     let digits: Vec<String> = results.map(|result| format!("{result:016X}")).collect();
     digits.concat()
 }

@@ -633,6 +633,8 @@ void results() {
         check(describe(static_cast<Refusal>(i)) != "unknown refusal", "a text for refusal " + std::to_string(i));
     for (unsigned i = 0; i <= 13; ++i)
         check(describe(static_cast<Error>(i)) != "unknown error", "a text for error " + std::to_string(i));
+    check(describe(Error::not_tree_text) == describe(Refusal::not_tree_text),
+          "no tree text, in the words of the C header");
     check(describe(static_cast<Error>(14)) == "unknown error" &&
               describe(static_cast<Verdict>(3)) == "unknown verdict" &&
               describe(static_cast<Refusal>(255)) == "unknown refusal" &&

@@ -84,7 +84,7 @@ def program_says(string):
 def build_reader(archive):
     """Compiles the program that calls the library."""
     strict = ["-std=c99", "-Wall", "-Wextra", "-Werror", "-pedantic", "-Wconversion", f"-I{TOP / 'include'}"]
-    subprocess.run(["cc", *strict, TOP / "tests" / "front_end" / "read_constants.c", archive, "-o", READER], check=True)
+    subprocess.run(["gcc", *strict, TOP / "tests" / "front_end" / "read_constants.c", archive, "-o", READER], check=True)
 
 
 def library_reads(texts):

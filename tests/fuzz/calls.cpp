@@ -1,7 +1,8 @@
 // The C calls, for libFuzzer. The first byte of an input chooses the lengths of the lent buffers and what they hold, and
 // whether the rest is the question as it is, or numbers that one is made of which is accepted. The rest is read as a tree
-// text as well. What is checked of each call is in docs/SPEC.md: 4 and 7 for asking, 6 for rows and texts. That a shown
-// counterexample does not extend is left to tests/brute. tests/fuzz/run builds and runs it.
+// text as well. What is checked of each call is in docs/SPEC.md: 4 and 7 for asking, 6 for rows and texts, 6.5.2 and 7
+// for the constant call. That a shown counterexample does not extend is left to tests/brute. tests/fuzz/run builds and
+// runs it.
 #include <algorithm>
 #include <bitset>
 #include <cstdio>

@@ -95,7 +95,7 @@ mod tests {
     use brute::single::decide;
 
     fn questions(family: usize) -> Vec<Question> {
-        let bytes = &all()[family].questions;
+        let bytes = &all()[family].inputs;
         assert_eq!(bytes.len(), QUESTIONS);
         bytes.iter().map(|b| read(b).expect("accepted")).collect()
     }

@@ -121,7 +121,7 @@ mod tests {
     fn questions() -> Vec<Vec<Question>> {
         let read = |bytes: &Vec<u8>| read(bytes).expect("accepted");
         let families = all();
-        let questions = families.iter().map(|f| f.questions.iter().map(read));
+        let questions = families.iter().map(|f| f.inputs.iter().map(read));
         questions.map(Iterator::collect).collect()
     }
 

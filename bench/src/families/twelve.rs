@@ -72,8 +72,8 @@ mod tests {
     #[test]
     fn the_first_alone_is_satisfiable() {
         for (number, family) in all().iter().enumerate() {
-            assert_eq!(family.questions.len(), QUESTIONS);
-            for bytes in &family.questions {
+            assert_eq!(family.inputs.len(), QUESTIONS);
+            for bytes in &family.inputs {
                 let question = read(bytes).expect("accepted");
                 assert_eq!((question.free, question.height()), (MOST_VARIABLES, 5));
                 assert_eq!(satisfiable(&question), number == 0);
@@ -86,7 +86,7 @@ mod tests {
     fn what_rules_out_a_solution() {
         let [_, unmet, no_choice] = all();
         for (family, due) in [(unmet, true), (no_choice, false)] {
-            for bytes in &family.questions {
+            for bytes in &family.inputs {
                 let mut question = read(bytes).expect("accepted");
                 question.first = positive(&question.first);
                 assert_eq!(satisfiable(&question), due);

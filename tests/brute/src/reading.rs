@@ -8,7 +8,7 @@ use crate::report::{Family, Report};
 use crate::seen::Seen;
 use crate::tree::{row_of_tree, tree_of_number, CONSTANT_HEIGHT};
 use crate::tree_text::{
-    constant_of_text, packed, Read, COULD_BE_FOLDED, LONGEST_READ, MOST_PAIRS, NO_TREE_TEXT, TALLER,
+    constant_of_text, packed, Read, LONGEST_READ, MOST_PAIRS, NOT_FOLDED, NOT_TREE_TEXT, TOO_TALL,
 };
 use crate::typed::{due_of_grown, grown, grown_within, some_text, unfolded, BY_HAND, SIGNS};
 
@@ -23,7 +23,7 @@ pub const FAMILIES: &[Family] = &[
 ];
 
 /// The refusal numbers; 0 stands for none.
-const ALL_NUMBERS: [u8; 4] = [0, NO_TREE_TEXT, COULD_BE_FOLDED, TALLER];
+const ALL_NUMBERS: [u8; 4] = [0, NOT_TREE_TEXT, NOT_FOLDED, TOO_TALL];
 
 /// Reads one text after the other in the same memory.
 pub struct Reading<'a> {
@@ -60,13 +60,13 @@ impl Reading<'_> {
     /// A grown text of this height, and the same with a pair that could be folded.
     fn grown(&mut self, text: &[u8], height: usize) {
         let due = |due| match text.len() > LONGEST_READ {
-            true => Err(NO_TREE_TEXT),
+            true => Err(NOT_TREE_TEXT),
             false => due,
         };
         self.known(text, due(due_of_grown(text, height)));
         if height > 0 {
             let unfolded = unfolded(&mut self.random, text);
-            self.known(&unfolded, due(Err(COULD_BE_FOLDED)));
+            self.known(&unfolded, due(Err(NOT_FOLDED)));
         }
     }
 
@@ -151,7 +151,7 @@ fn every_short_text(report: &mut Report) {
     }
     // With no pair, one and two there are 2, 4 and 16 trees, of which 2, 2 and 8 are folded.
     let refusals = reading.seen.refusals;
-    let trees = (refusals[0], refusals[usize::from(COULD_BE_FOLDED)]);
+    let trees = (refusals[0], refusals[usize::from(NOT_FOLDED)]);
     report.same_apart("trees, folded and not", trees, (12, 10));
 }
 
@@ -210,12 +210,12 @@ fn round_the_longest(report: &mut Report) {
             let text = grown(&mut reading.random, height, pairs);
             reading.grown(&text, height);
             for cut in 1..=2 {
-                reading.known(&text[..text.len() - cut], Err(NO_TREE_TEXT));
+                reading.known(&text[..text.len() - cut], Err(NOT_TREE_TEXT));
             }
             for sign in SIGNS {
                 for more in 1..=3 {
                     let longer = [&text[..], &vec![sign; more]].concat();
-                    reading.known(&longer, Err(NO_TREE_TEXT));
+                    reading.known(&longer, Err(NOT_TREE_TEXT));
                 }
             }
         }
@@ -232,7 +232,7 @@ fn grown_texts(report: &mut Report) {
             reading.grown(&text, height);
         }
     }
-    reading.seen_each(&[0, COULD_BE_FOLDED, TALLER], 500);
+    reading.seen_each(&[0, NOT_FOLDED, TOO_TALL], 500);
 }
 
 fn mistyped_texts(report: &mut Report) {

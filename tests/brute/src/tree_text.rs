@@ -8,9 +8,9 @@ pub const LONGEST_READ: usize = 94;
 /// A text has three signs for each pair, and one more.
 pub const MOST_PAIRS: usize = (LONGEST_READ - 1) / 3;
 
-pub const NO_TREE_TEXT: u8 = 15;
-pub const COULD_BE_FOLDED: u8 = 16;
-pub const TALLER: u8 = 17;
+pub const NOT_TREE_TEXT: u8 = 15;
+pub const NOT_FOLDED: u8 = 16;
+pub const TOO_TALL: u8 = 17;
 
 /// A constant, or the refusal number.
 pub type Read = Result<u32, u8>;
@@ -67,7 +67,7 @@ pub fn could_be_folded(tree: &Tree) -> bool {
     here || could_be_folded(left) || could_be_folded(right)
 }
 
-/// What the request says of a text, a part for each of its words.
+/// What docs/SPEC.md says of a text in 6.5.1, 6.5.2, 7.1.16 to 7.1.18 and 7.3, a part for each of its words.
 pub struct Words {
     pub longest: usize,
     pub tree: fn(&[u8]) -> Option<Tree>,
@@ -83,21 +83,21 @@ pub const AS_WRITTEN: Words = Words {
     tree: tree_of_text,
     could_be_folded,
     is_taller: |tree| tree.height() > CONSTANT_HEIGHT,
-    numbers: [NO_TREE_TEXT, COULD_BE_FOLDED, TALLER],
+    numbers: [NOT_TREE_TEXT, NOT_FOLDED, TOO_TALL],
     constant: number_of_tree,
 };
 
 impl Words {
     pub fn read(&self, text: &[u8]) -> Read {
-        let [no_tree_text, folds, taller] = self.numbers;
+        let [not_tree_text, not_folded, too_tall] = self.numbers;
         if text.len() > self.longest {
-            return Err(no_tree_text);
+            return Err(not_tree_text);
         }
-        let tree = (self.tree)(text).ok_or(no_tree_text)?;
+        let tree = (self.tree)(text).ok_or(not_tree_text)?;
         if (self.could_be_folded)(&tree) {
-            Err(folds)
+            Err(not_folded)
         } else if (self.is_taller)(&tree) {
-            Err(taller)
+            Err(too_tall)
         } else {
             Ok((self.constant)(&tree))
         }

@@ -2,7 +2,7 @@
 
 use crate::random::Random;
 use crate::tree::CONSTANT_HEIGHT;
-use crate::tree_text::{Read, COULD_BE_FOLDED, MOST_PAIRS, NO_TREE_TEXT, TALLER};
+use crate::tree_text::{Read, MOST_PAIRS, NOT_FOLDED, NOT_TREE_TEXT, TOO_TALL};
 
 /// The signs of tree text, and one that is none.
 pub const SIGNS: [u8; 5] = *b"o*()x";
@@ -10,9 +10,9 @@ const LEAVES: [u8; 2] = *b"o*";
 /// What a leaf becomes; neither could be folded.
 const PAIRS: [[u8; 4]; 2] = [*b"(o*)", *b"(*o)"];
 
-const NONE: Read = Err(NO_TREE_TEXT);
-const FOLDS: Read = Err(COULD_BE_FOLDED);
-const TALL: Read = Err(TALLER);
+const NONE: Read = Err(NOT_TREE_TEXT);
+const FOLDS: Read = Err(NOT_FOLDED);
+const TALL: Read = Err(TOO_TALL);
 
 /// Texts with what reading them gives.
 pub const BY_HAND: &[(&str, Read)] = &[

@@ -1,13 +1,13 @@
-//! Wrong readers of tree text: one word of the request is misread at a time. On many texts each gives another result, and the
-//! comparison with the library notices.
+//! Wrong readers of tree text: one word of docs/SPEC.md, 6.5.1, 6.5.2, 7.1.16 to 7.1.18 and 7.3, is misread at a time. On many texts
+//! each gives another result, and the comparison with the library notices.
 
 use crate::reading::Reading;
 use crate::report::{Family, Report};
 use crate::slips::enough;
 use crate::tree::{number_of_tree, Tree, CONSTANT_HEIGHT};
 use crate::tree_text::{
-    constant_of_text, could_be_folded, tree_of_text, Words, AS_WRITTEN, COULD_BE_FOLDED,
-    LONGEST_READ, NO_TREE_TEXT, TALLER,
+    constant_of_text, could_be_folded, tree_of_text, Words, AS_WRITTEN, LONGEST_READ, NOT_FOLDED,
+    NOT_TREE_TEXT, TOO_TALL,
 };
 use crate::typed::some_text;
 
@@ -32,7 +32,7 @@ const SLIPS: [(&str, Words); 15] = [
     (
         "16 and 17 swapped",
         Words {
-            numbers: [NO_TREE_TEXT, TALLER, COULD_BE_FOLDED],
+            numbers: [NOT_TREE_TEXT, TOO_TALL, NOT_FOLDED],
             ..AS_WRITTEN
         },
     ),

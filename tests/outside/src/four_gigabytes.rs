@@ -13,7 +13,7 @@ use brute::library::{ASK_WORK_BYTES, LONGEST_TEXT};
 use brute::make::random_row;
 use brute::random::Random;
 use brute::report::{Family, Report};
-use brute::tree_text::{packed, NO_TREE_TEXT};
+use brute::tree_text::{packed, NOT_TREE_TEXT};
 
 pub const FAMILIES: &[Family] = &[("buffers of 16 MiB to 4 GiB", four_gigabytes)];
 
@@ -171,7 +171,7 @@ fn rows_and_texts(report: &mut Report, random: &mut Random, long: &mut Long, lea
 
 /// A long tree text. With as many bytes as are lent here its low bits say that it ends where the tree does.
 fn tree_texts(report: &mut Report, random: &mut Random, long: &mut Long, least: usize) {
-    let due = packed(Err(NO_TREE_TEXT));
+    let due = packed(Err(NOT_TREE_TEXT));
     for text in samples::few_tree_texts(random) {
         for more in [0, text.len()] {
             let given = constant_gives(long.lend(least + more, &text, random.byte()), due);

@@ -14,7 +14,7 @@ fn main() {
             continue;
         }
         println!("family {}", family.name);
-        for question in family.questions {
+        for question in family.inputs {
             let digits: Vec<String> = question.iter().map(|byte| format!("{byte:02X}")).collect();
             println!("{}", digits.concat());
         }
