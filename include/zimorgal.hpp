@@ -95,7 +95,7 @@ constexpr std::string_view describe(Error error) noexcept {
         case Error::no_second_system: return "a clause of the second system in a satisfiability question";
         case Error::not_tree_text: return "a text over 94 bytes, or no tree text";
         case Error::too_tall: return "a tree taller than 5";
-        case Error::not_folded: return "a tree that is not folded";
+        case Error::not_folded: return "a pair that could be folded";
         case Error::foreign_constant: return "a constant of another question, or from before this one was started anew";
         case Error::unknown_relation: return "a relation that is none of the seven";
         case Error::unknown_system: return "a system that is none of the two";

@@ -1,7 +1,7 @@
 -- The theorems of asking: what it gives and shows for an answered question is exact, and the rule of heights holds of it. Assumes nothing.
 use mathlib.Core.Path.{_≡_, refl, sym, ap, _∙_, subst, subst₂, fun-ext}
 use mathlib.Core.List.{List}
-use Prim.Native.Nat.{ℕ, _*_, _≤_}
+use Prim.Native.Nat.{ℕ, _≤_}
 use native.Mathlib.Nat.{le-trans}
 use native.Mathlib.Omega.{arith}
 use lib.Dec.{T}
@@ -9,7 +9,6 @@ use lib.ListN.{length}
 use Rattle.shares.specs.Test.{is-true}
 use Rattle.shares.specs.Tree.{height}
 use Rattle.shares.specs.TreeLaws.{share-path}
-use Rattle.shares.specs.Constant.{bytesAt}
 use Rattle.leaves.specs.Heights.{anyHeight}
 use Rattle.systems.specs.Questions.{Kind, satisfiability, entailment, Question, WellFormed, questionHeight}
 use Rattle.systems.specs.Solutions.{Solution}

@@ -1,5 +1,5 @@
 -- Laws of what is told of a tree, for every number of levels: of a leaf, and of a pair by what is told of its halves. Assumes nothing.
-use mathlib.Core.Path.{_≡_, refl, sym, _∙_}
+use mathlib.Core.Path.{_≡_, refl, sym}
 use mathlib.Core.Bool.{Bool, true, false, cond, _&&_, Bool·beq}
 use Prim.Native.Nat.{ℕ, suc, _-_, _^_, _≤_, max}
 use native.Mathlib.Numerals.{add-one}
