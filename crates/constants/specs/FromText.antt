@@ -26,20 +26,20 @@ constantGiven NotTreeText = 0
 constantGiven NotFolded = 0
 constantGiven TooTall = 0
 
--- what a tree gives, where constants have k levels: 16 if some pair could be folded
+-- what a tree gives, where constants have k levels: 16 if some pair could be folded, then 17 if it is taller, else the number of its leaves
 abbrev pub ofFolding : ℕ → (t : Tree) → Dec (Folded t) → FromText
 ofFolding k t (no n) = NotFolded
 ofFolding k t (yes f) = cond (ltb k (height t)) TooTall (Constant (treeNumber k t))
 
--- then 17 if it is taller, else the number of its leaves; `decFolded` is believed by its type: it shows that the tree is folded, or that it is not
+-- the same by the tree alone: `decFolded` is believed by its type, it shows that the tree is folded, or that it is not
 unfoldable pub fromTree : ℕ → Tree → FromText
 fromTree k t = ofFolding k t (decFolded t)
 
--- what a text gives that is not too long: 15 if there is no tree that is written so, else what that tree gives
+-- what a text gives that is not too long: 15 if no tree is written so, else what that tree gives
 abbrev pub ofText : (k : ℕ) {s : List ℕ} → Dec (TreeText s) → FromText
 ofText k (no n) = NotTreeText
 ofText k (yes (t, e)) = fromTree k t
 
--- what a text gives: 15 if it is too long; `isTreeText` is believed by its type: it gives a tree that is written so, or shows that there is none
+-- what a text gives, 15 if it is too long: `isTreeText` is believed by its type, it gives a tree that is written so, or shows that there is none
 unfoldable pub fromText : ℕ → List ℕ → FromText
 fromText k s = cond (ltb (longestText k) (length s)) NotTreeText (ofText k (isTreeText s))
