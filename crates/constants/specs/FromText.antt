@@ -8,7 +8,7 @@ use Rattle.shares.specs.Tree.{Tree, Folded, height}
 use Rattle.shares.specs.Constant.{treeNumber}
 use Rattle.shares.specs.Text.{TreeText, longestText}
 use Rattle.constants.specs.FoldLaws.{decFolded}
-use Rattle.constants.specs.BeginLaws.{isTreeText}
+use Rattle.constants.specs.StackLaws.{isTreeText}
 use Rattle.constants.specs.declared.FromText.{FromText}
 use Rattle.constants.specs.declared.FromText.the-variants.{Constant, NotTreeText, NotFolded, TooTall}
 

@@ -1,25 +1,22 @@
 -- A constant, written and read again, is itself, and each text that gives a constant is what writing gives: for every number of levels. Assumes nothing.
 use mathlib.Core.Path.{_≡_, refl, sym, ap, _∙_}
 use mathlib.Core.Bool.{Bool, true, false, cond}
-use mathlib.Core.List.{List, [], _++_, append-nil}
-use Prim.Native.Nat.{ℕ, _+_, _*_, _^_, _≤_, _<_}
+use mathlib.Core.List.{List}
+use Prim.Native.Nat.{ℕ, _^_, _≤_, _<_}
 use native.Mathlib.Omega.{arith}
 use borrow.Author.Tests.{lt-ltb, le-ltb, ltb-false}
 use lib.Dec.{ltb}
 use lib.Pow.{pow-pos}
-use lib.ListN.{length, drop, length-drop, drop-of-length-le}
+use lib.ListN.{length}
 use Rattle.shares.specs.Tree.{Tree, Folded, height}
 use Rattle.shares.specs.TreeLaws.{treeOf-folded, treeOf-height}
 use Rattle.shares.specs.Constant.{bit, numberTree, treeNumber}
 use Rattle.shares.specs.ConstantLaws.{tree-number-lt, number-tree-number, tree-number-tree}
 use Rattle.shares.specs.Text.{text, TreeText, longestText}
-use Rattle.shares.specs.TextLaws.{text-length, height-text}
-use Rattle.constants.specs.BeginLaws.{same-start, one-tree, isTreeText}
+use Rattle.shares.specs.TextLaws.{text-length}
+use Rattle.constants.specs.StackLaws.{one-tree, isTreeText}
 use Rattle.constants.specs.FromText.{constantRefusal, constantGiven, ofFolding, fromTree, ofText, fromText}
-use Rattle.constants.specs.Tells.{Spans, Tells}
 use Rattle.constants.specs.FoldLaws.{decFolded}
-use Rattle.constants.specs.declared.Told.{Told}
-use Rattle.constants.specs.declared.Found.the-variants as found
 use Rattle.constants.specs.declared.FromText.{FromText}
 use Rattle.constants.specs.declared.FromText.the-variants.{Constant, NotTreeText, NotFolded, TooTall}
 
@@ -44,21 +41,6 @@ module _ (k : ℕ) (s : List ℕ) where
       go : (d : Dec (TreeText s)) → ofText k d ≡ fromTree k t
       go (yes (t′, e′)) = ap (fromTree k) (one-tree t′ t (e′ ∙ sym e))
       go (no n) = absurd (n (t, e))
-
--- ---- by what is told of the start of a text
-
-module _ (s : List ℕ) where
-  pub told-none : (n k : ℕ) → length s ≤ 3 * n + 3 → Tells n k s 0 found.Nothing → ¬ TreeText s
-  told-none n k short none (t, e) = none (t, [], sym (append-nil (text t) ∙ e), omega (arith, height-text t, ap length e))
-
-  module _ (t : Tree) (p : Told) (S : Spans s 0 t p) where
-    pub told-more : p .end < length s → ¬ TreeText s
-    told-more more (t′, e) =
-        let same = same-start t t′ (drop (p .end) s) [] (sym (S .begins) ∙ sym (append-nil (text t′) ∙ e)) .1 in
-        omega (arith, sym (length-drop (p .end) s) ∙ ap length same)
-
-    pub told-whole : length s ≤ p .end → text t ≡ s
-    told-whole all = sym (S .begins ∙ ap (λ u. text t ++ u) (drop-of-length-le s all) ∙ append-nil (text t))
 
 -- ---- by the tests of a tree
 

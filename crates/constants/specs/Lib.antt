@@ -1,9 +1,7 @@
 pub mod FoldLaws
-pub mod Begins
-pub mod BeginLaws
+pub mod Stacks
+pub mod StackLaws
 pub mod FromText
-pub mod Tells
 pub mod PairLaws
-pub mod ToldLaws
-pub mod TellLaws
+pub mod KeptLaws
 pub mod FromTextLaws

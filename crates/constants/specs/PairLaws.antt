@@ -11,7 +11,7 @@ use Rattle.shares.specs.Constant.{bit, numberOf, treeNumber}
 use Rattle.shares.specs.BitLaws.{bits-same}
 use Rattle.shares.specs.BitParts.{bit-low, bit-high}
 use Rattle.shares.specs.ConstantLaws.{tree-number-lt, bit-tree-number}
-use Rattle.constants.specs.Tells.{pairNumber}
+use Rattle.constants.specs.Stacks.{pairNumber}
 
 squared : (k : ℕ) → 2 ^ (2 ^ suc k) ≡ 2 ^ (2 ^ k) * 2 ^ (2 ^ k)
 squared k = let e : 2 ^ suc k ≡ 2 ^ k + 2 ^ k = omega (arith, two-pow-succ k) in rw e (pow-add 2 (2 ^ k) (2 ^ k))
@@ -37,6 +37,9 @@ pair-tree-number (suc k) l r =
     i u))
 
 -- ---- by the number of a half's full leaves
+
+pub ones-room : (k levels : ℕ) → k ≤ levels → 2 ^ (2 ^ k) - 1 < 2 ^ (2 ^ levels)
+ones-room k levels l = let p : 2 ^ (2 ^ k) ≤ 2 ^ (2 ^ levels) = pow-mono (pow-mono l) in omega (arith, pow-pos (2 ^ k))
 
 module _ (k ones : ℕ) (e : ones ≡ 2 ^ (2 ^ (k - 1)) - 1) (above : k ≡ 0 → ⊥) where
   scale : ones + 1 ≡ 2 ^ (2 ^ (k - 1))

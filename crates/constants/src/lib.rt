@@ -1,20 +1,21 @@
-// Constants from tree text: a whole text is read as one tree, in one pass, and gives the tree's leaves as a number.
+// Constants from tree text: a whole text is read as one tree, in one pass, and gives the tree's leaves as a number. What was read stands on a
+// stack, an opening bracket or a tree an item; a closing bracket makes two trees and the bracket below them one.
 ghost use mathlib.Core.Path.{_≡_};
-ghost use Prim.Native.Nat.{_-_, _^_, _≤_, _<_, max};
-ghost use lib.ListN.{length, getD};
+ghost use mathlib.Core.List.{List, []};
+ghost use mathlib.Core.Option.{some};
+ghost use Prim.Native.Nat.{ℕ, _+_, _-_, _%_, _^_, _≤_, _<_, max};
+ghost use lib.ListN.{length, getD, set};
 ghost use Rattle.shares.specs.Tree.{Tree};
 ghost use Rattle.shares.specs.Constant.{constantLevels};
 ghost use Rattle.shares.specs.Text.{longestText};
 ghost use Rattle.constants.specs.FromText.{fromTree, fromText};
-ghost use Rattle.constants.specs.Tells.{Of, Small, Tells, leafFound, pairNumber, equalLeaves, pairFolded, pairTold};
+ghost use Rattle.constants.specs.Stacks.{Item, runs, Shows, Steps, pairNumber, pairItem, equalLeaves, isPair, leafScan, openScan, closeScan, Of};
+ghost use Rattle.constants.specs.declared.Step.the-variants as step;
 
 // A constant is no taller, and no text of one is longer.
 const LEVELS: usize = 5;
 
 const LONGEST_TEXT: usize = 94;
-
-// No tree with so short a text, folded or not, is taller.
-const TALLEST: usize = 31;
 
 // What a text gives: the constant that it writes, or why it is turned away.
 pub enum FromText {
@@ -24,66 +25,55 @@ pub enum FromText {
     TooTall,
 }
 
-// What is told of a tree in a text: the offset after it, its leaves as a number, its height, and whether it is folded.
+// What is told of a tree: its leaves as a number, its height, and whether it is folded.
 struct Told {
-    end: usize,
     leaves: u32,
     height: usize,
     folded: bool,
 }
 
-// What is found at an offset of a text.
-enum Found {
-    Tree(Told),
-    Nothing,
+// What is told of a stack: how many items it has, how many pairs are open, the most that were open at once, and whether all its trees are folded.
+struct Scan {
+    top: usize,
+    pairs: usize,
+    highest: usize,
+    folded: bool,
 }
 
+// What a sign more gives.
+enum Step {
+    Goes(Scan),
+    Stops,
+}
+
+// A bracket is kept as 0, a tree as the number of its leaves with a bit above it.
+const LEAF: u64 = 0x1_0000_0000;
+
+const PAIR: u64 = 0x2_0000_0000;
+
 // Entry k has a bit for each of 2^k leaves.
-const FULL: [u32; 6] = [1, 3, 0xF, 0xFF, 0xFFFF, 0xFFFF_FFFF];
+const FULL: [u64; 6] = [1, 3, 0xF, 0xFF, 0xFFFF, 0xFFFF_FFFF];
 
 // The number of 2^levels full leaves.
-fn full_leaves(levels: usize) -> u32
+fn full_leaves(levels: usize) -> u64
     requires { ⌜ levels ≤ constantLevels ⌝ }
     ensures { λ r. ⌜ r ≡ 2 ^ (2 ^ levels) - 1 ⌝ }
 {
     FULL[levels]
 }
 
-// The leaf that a sign is, where it is one.
-fn leaf_of(sign: u8, end: usize, levels: usize) -> Found
-    requires { ⌜ levels ≤ constantLevels ⌝ }
-    ensures { λ r. ⌜ r ≡ leafFound levels sign end ⌝ }
+// The levels that so many open pairs leave.
+fn levels_below(pairs: usize) -> usize
+    ensures { λ r. ⌜ r ≡ constantLevels - pairs ⌝ }
 {
-    let mut leaf = Told {
-        end,
-        leaves: 0,
-        height: 0,
-        folded: true,
-    };
-    if sign == b'o' {
-        return Found::Tree(leaf);
-    }
-    if sign == b'*' {
-        leaf.leaves = full_leaves(levels);
-        return Found::Tree(leaf);
-    }
-    Found::Nothing
-}
-
-// The leaves of a pair, from those of its halves: the right half's lie above the left half's.
-fn pair_leaves(levels: usize, left: u32, right: u32) -> u32
-    requires { ⌜ levels ≤ constantLevels ⌝ }
-    requires { ⌜ (left < 2 ^ (2 ^ (levels - 1))) × (right < 2 ^ (2 ^ (levels - 1))) ⌝ }
-    ensures { λ r. ⌜ r ≡ pairNumber levels left right ⌝ }
-{
-    if levels == 0 {
+    if pairs > LEVELS {
         return 0;
     }
-    right * (full_leaves(levels - 1) + 1) + left
+    LEVELS - pairs
 }
 
-// The larger of two heights.
-fn taller(a: usize, b: usize) -> usize
+// The larger of two numbers.
+fn larger(a: usize, b: usize) -> usize
     ensures { λ r. ⌜ r ≡ max a b ⌝ }
 {
     if a < b {
@@ -92,83 +82,140 @@ fn taller(a: usize, b: usize) -> usize
     a
 }
 
-// Whether two trees are equal leaves.
-fn equal_leaves(left: Told, right: Told) -> bool
-    ensures { λ r. ⌜ r ≡ equalLeaves left right ⌝ }
-{
-    if taller(left.height, right.height) == 0 {
-        return left.leaves == right.leaves;
-    }
-    false
-}
-
-// Whether the pair of two trees is folded.
-fn pair_folded(left: Told, right: Told) -> bool
-    ensures { λ r. ⌜ r ≡ pairFolded left right ⌝ }
-{
-    if equal_leaves(left, right) {
-        return false;
-    }
-    left.folded && right.folded
-}
-
-// The pair of two trees.
-fn pair_of(left: Told, right: Told, end: usize, levels: usize) -> Told
+// The leaves of a pair, from those of its halves: the right half's lie above the left half's.
+fn pair_leaves(levels: usize, left: u64, right: u64) -> u64
     requires { ⌜ levels ≤ constantLevels ⌝ }
-    requires { ⌜ Small (levels - 1) left × Small (levels - 1) right ⌝ }
-    ensures { λ r. ⌜ r ≡ pairTold levels left right end ⌝ }
-{
-    Told {
-        end,
-        leaves: pair_leaves(levels, left.leaves, right.leaves),
-        height: taller(left.height, right.height) + 1,
-        folded: pair_folded(left, right),
-    }
-}
-
-// The levels of a half.
-fn below(levels: usize) -> usize
-    ensures { λ r. ⌜ r ≡ levels - 1 ⌝ }
+    requires { ⌜ (left < 2 ^ (2 ^ (levels - 1))) × (right < 2 ^ (2 ^ (levels - 1))) ⌝ }
+    ensures { λ r. ⌜ (r ≡ pairNumber levels left right) × (r < 2 ^ 32) ⌝ }
 {
     if levels == 0 {
         return 0;
     }
-    levels - 1
+    right * (full_leaves(levels - 1) + 1) + left
 }
 
-// The sign at an offset, 0 past the end.
-fn sign_at(text: &[u8], at: usize) -> u8
-    ensures { λ r. ⌜ r ≡ getD (now (text .entry)) at 0 ⌝ }
+// The number of the leaves of a tree that is kept.
+fn leaves_of(item: u64) -> u64
+    ensures { λ r. ⌜ (r ≡ item % 2 ^ (2 ^ constantLevels)) × (r < 2 ^ 32) ⌝ }
 {
-    if at < text.len() {
-        return text[at];
-    }
-    0
+    item % LEAF
 }
 
-// Reads the tree whose text begins at an offset, if it is no taller than so much. The height that is left falls with each call.
-fn read_tree(text: &[u8], at: usize, levels: usize, tallest: usize) -> Found
-    requires { ⌜ (at ≤ length (now text)) × (length (now text) ≤ longestText constantLevels) × (levels ≤ constantLevels) ⌝ }
-    ensures { λ r. ⌜ Tells tallest levels (now (text .entry)) at r ⌝ }
+// A leaf is put on the stack.
+fn put_leaf(items: &mut [u64], scan: Scan, leaves: u64) -> Step
+    requires { ⌜ (scan .top < length (now items)) × (leaves < 2 ^ 32) ⌝ }
+    ensures step { λ r. ⌜ r ≡ step.Goes (leafScan scan) ⌝ }
+    ensures items { λ _. ⌜ now (items .exit) ≡ set (now (items .entry)) (scan .top) (2 ^ (2 ^ constantLevels) + leaves) ⌝ }
 {
-    let sign = sign_at(text, at);
-    if sign != b'(' {
-        return leaf_of(sign, at + 1, levels);
+    let top = scan.top;
+    items[top] = LEAF + leaves;
+    Step::Goes(Scan {
+        top: top + 1,
+        pairs: scan.pairs,
+        highest: scan.highest,
+        folded: scan.folded,
+    })
+}
+
+// A pair is opened.
+fn open_pair(items: &mut [u64], scan: Scan) -> Step
+    requires { ⌜ (scan .top < length (now items)) × (scan .pairs ≤ scan .top) ⌝ }
+    ensures step { λ r. ⌜ r ≡ step.Goes (openScan scan) ⌝ }
+    ensures items { λ _. ⌜ now (items .exit) ≡ set (now (items .entry)) (scan .top) 0 ⌝ }
+{
+    let top = scan.top;
+    items[top] = 0;
+    let pairs = scan.pairs + 1;
+    Step::Goes(Scan {
+        top: top + 1,
+        pairs,
+        highest: larger(scan.highest, pairs),
+        folded: scan.folded,
+    })
+}
+
+// Whether two trees are kept on top of a bracket.
+fn is_pair(items: &[u64], top: usize) -> bool
+    requires { ⌜ top ≤ length (now items) ⌝ }
+    ensures { λ r. ⌜ r ≡ isPair (now (items .entry)) top ⌝ }
+{
+    if top < 3 {
+        return false;
     }
-    if tallest == 0 {
-        return Found::Nothing;
+    if items[top - 1] == 0 {
+        return false;
     }
-    let half = below(levels);
-    let Found::Tree(left) = read_tree(text, at + 1, half, tallest - 1) else {
-        return Found::Nothing;
-    };
-    let Found::Tree(right) = read_tree(text, left.end, half, tallest - 1) else {
-        return Found::Nothing;
-    };
-    if sign_at(text, right.end) != b')' {
-        return Found::Nothing;
+    if items[top - 2] == 0 {
+        return false;
     }
-    Found::Tree(pair_of(left, right, right.end + 1, levels))
+    items[top - 3] == 0
+}
+
+// Whether two trees are equal leaves.
+fn equal_leaves(left: u64, right: u64) -> bool
+    ensures { λ r. ⌜ r ≡ equalLeaves constantLevels left right ⌝ }
+{
+    if left == right {
+        return left < PAIR;
+    }
+    false
+}
+
+// The number that a pair is kept as.
+fn pair_item(levels: usize, left: u64, right: u64) -> u64
+    requires { ⌜ levels ≤ constantLevels ⌝ }
+    requires { ⌜ (left % 2 ^ (2 ^ constantLevels) < 2 ^ (2 ^ (levels - 1))) × (right % 2 ^ (2 ^ constantLevels) < 2 ^ (2 ^ (levels - 1))) ⌝ }
+    ensures { λ r. ⌜ r ≡ pairItem constantLevels levels left right ⌝ }
+{
+    PAIR + pair_leaves(levels, leaves_of(left), leaves_of(right))
+}
+
+// What is told of a stack whose upper two trees became one, with the bracket below them.
+fn closed_scan(scan: Scan, equal: bool) -> Scan
+    requires { ⌜ (2 ≤ scan .top) × (1 ≤ scan .pairs) ⌝ }
+    ensures { λ r. ⌜ r ≡ closeScan equal scan ⌝ }
+{
+    Scan {
+        top: scan.top - 2,
+        pairs: scan.pairs - 1,
+        highest: scan.highest,
+        folded: scan.folded && !equal,
+    }
+}
+
+// A pair is closed.
+fn close_pair(items: &mut [u64], scan: Scan) -> Step
+    requires { ⌜ ((σ : List Item) × Shows constantLevels (now items) scan σ × (length σ ≤ length (now items))) ⌝ }
+    ensures { λ r. ⌜ ((σ : List Item) → Shows constantLevels (now (items .entry)) scan σ → length σ ≤ length (now (items .entry)) → Steps constantLevels (now (items .exit)) 0x29 σ r) ⌝ }
+{
+    if is_pair(items, scan.top) {
+        let left = items[scan.top - 2];
+        let right = items[scan.top - 1];
+        let next = closed_scan(scan, equal_leaves(left, right));
+        items[next.top - 1] = pair_item(levels_below(next.pairs), left, right);
+        return Step::Goes(next);
+    }
+    Step::Stops
+}
+
+// A sign more.
+fn take_sign(items: &mut [u64], scan: Scan, sign: u8) -> Step
+    requires { ⌜ ((σ : List Item) × Shows constantLevels (now items) scan σ × (length σ < length (now items))) ⌝ }
+    ensures { λ r. ⌜ ((σ : List Item) → Shows constantLevels (now (items .entry)) scan σ → length σ < length (now (items .entry)) → Steps constantLevels (now (items .exit)) sign σ r) ⌝ }
+{
+    if sign == b'(' {
+        return open_pair(items, scan);
+    }
+    if sign == b'o' {
+        return put_leaf(items, scan, 0);
+    }
+    if sign == b'*' {
+        return put_leaf(items, scan, full_leaves(levels_below(scan.pairs)));
+    }
+    if sign == b')' {
+        return close_pair(items, scan);
+    }
+    Step::Stops
 }
 
 // What a text gives that is the whole text of this tree.
@@ -184,6 +231,23 @@ fn from_told(told: Told) -> FromText
     FromText::NotFolded
 }
 
+// What a whole text gives that left this stack.
+fn from_stack(scan: Scan, item: u64) -> FromText
+    ensures { λ r. ⌜ ((items : List ℕ) (σ : List Item) (s : List ℕ) → Shows constantLevels items scan σ → item ≡ getD items 0 0 → runs s (some []) ≡ some σ → length s ≤ longestText constantLevels → r ≡ fromText constantLevels s) ⌝ }
+{
+    if scan.top != 1 {
+        return FromText::NotTreeText;
+    }
+    if item == 0 {
+        return FromText::NotTreeText;
+    }
+    from_told(Told {
+        leaves: leaves_of(item) as u32,
+        height: scan.highest,
+        folded: scan.folded,
+    })
+}
+
 // What a text gives, of whatever length.
 pub fn from_text(text: &[u8]) -> FromText
     ensures { λ r. ⌜ r ≡ fromText constantLevels (now (text .entry)) ⌝ }
@@ -191,11 +255,20 @@ pub fn from_text(text: &[u8]) -> FromText
     if text.len() > LONGEST_TEXT {
         return FromText::NotTreeText;
     }
-    let Found::Tree(whole) = read_tree(text, 0, LEVELS, TALLEST) else {
-        return FromText::NotTreeText;
+    let mut items = [0u64; LONGEST_TEXT];
+    let mut scan = Scan {
+        top: 0,
+        pairs: 0,
+        highest: 0,
+        folded: true,
     };
-    if whole.end < text.len() {
-        return FromText::NotTreeText;
+    let mut at: usize = 0;
+    while at < text.len() {
+        let Step::Goes(next) = take_sign(&mut items, scan, text[at]) else {
+            return FromText::NotTreeText;
+        };
+        scan = next;
+        at += 1;
     }
-    from_told(whole)
+    from_stack(scan, items[0])
 }
