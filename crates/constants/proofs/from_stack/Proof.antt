@@ -10,7 +10,7 @@ use Rattle.constants.proofs.from_stack.Statement.{statement}
 use Rattle.constants.proofs.from_stack.Tie as tie
 
 returns : tie.Need-returns
-returns c items σ s S e runs-s short = sym (text-none constantLevels s (whole-none s (ended s σ runs-s ∙ not-alone constantLevels items _ σ S (c .if1 .taken))))
+returns c items σ s S e runs-s short = sym (text-none constantLevels s (whole-none s (ended s σ runs-s ∙ not-alone constantLevels items _ σ S (λ one. omega (arith, c .if1 .taken)))))
 
 returns-2 : tie.Need-returns-2
 returns-2 c items σ s S e runs-s short = sym (text-none constantLevels s (whole-none s (ended s σ runs-s ∙ bracket-alone constantLevels items _ σ S _ e (c .before .if1 .left) (c .if2 .taken))))

@@ -22,7 +22,7 @@ abbrev μ-loop : tie.MeasureT-loop
 μ-loop text items₀ scan₀ at₀ items scan at = length text - at
 
 returns : tie.Need-returns Inv-loop μ-loop
-returns c = sym (text-long constantLevels (c .before .before .args .text .now) (c .if1 .taken))
+returns c = sym (text-long constantLevels (c .before .before .args .text .now) (omega (arith, c .if1 .taken)))
 
 loop-holds : tie.Need-loop-holds Inv-loop μ-loop
 loop-holds c = (refl, omega arith, ([], none-yet, omega arith, refl))
