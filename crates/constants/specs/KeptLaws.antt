@@ -1,6 +1,6 @@
 -- Laws of the numbers that a stack is kept in, for every number of levels. Assumes nothing.
 use mathlib.Core.Path.{_≡_, refl, sym, ap, _∙_, subst}
-use mathlib.Core.Bool.{Bool, true, false, not, cond, _&&_, Bool·beq}
+use mathlib.Core.Bool.{Bool, true, false, not, cond, _&&_, Bool·beq, and-true, and-false}
 use mathlib.Core.List.{List, [], _∷_}
 use mathlib.Core.Option.{none, some}
 use Rattle.shares.specs.Test.{of-true, of-false}
@@ -157,14 +157,6 @@ module _ (levels : ℕ) (items : List ℕ) where
   no-pair (tree r ∷ tree l ∷ bracket ∷ ρ) h t =
       absurd (rw (three (length ρ), some-tree _ (suc (suc (length ρ))) r (h .0), some-tree _ (suc (length ρ)) l (h .1 .0), eq-eqb (getD items (length ρ) 0) 0 (h .1 .1 .0)) at t)
 
-and-true : (a : Bool) → (a && true) ≡ a
-and-true true = refl
-and-true false = refl
-
-and-false : (a : Bool) → (a && false) ≡ false
-and-false true = refl
-and-false false = refl
-
 folded-order : (n r l f : Bool) → ((r && (l && f)) && n) ≡ ((n && (l && r)) && f)
 folded-order n false true f = rw (and-false n)
 folded-order n false false f = rw (and-false n)
@@ -219,7 +211,7 @@ module _ (levels : ℕ) (items : List ℕ) (scan : Scan) (r l : Tree) (ρ : List
           (getD-set-same items (length ρ) v 0 (omega arith) ∙ is, kept-set levels items ρ (length ρ) v (le-refl (length ρ)) (S .kept .1 .1 .1));
     }
 
--- by the test
+-- ---- by the test of a pair
 
 module _ (levels : ℕ) (items : List ℕ) (scan : Scan) (σ : List Item) (S : Shows levels items scan σ) (t : Bool) (e : t ≡ isPair items (scan .top)) where
   tested : t ≡ isPair items (length σ)

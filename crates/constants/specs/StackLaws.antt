@@ -2,7 +2,7 @@
 use mathlib.Core.Path.{_≡_, refl, sym, ap, _∙_, subst}
 use mathlib.Core.Bool.{Bool, true, false}
 use mathlib.Core.List.{List, [], _∷_, _++_, append-assoc, append-nil}
-use mathlib.Core.Option.{Option, none, some, Option·some-injective}
+use mathlib.Core.Option.{Option, none, some, Option·some-injective, Option·none-ne-some}
 use native.Mathlib.Decide.{ℕ-discrete}
 use native.Mathlib.Omega.{arith}
 use Prim.Native.Nat.{ℕ, suc, _+_, _≤_, _<_}
@@ -41,19 +41,16 @@ whole-text t = ap (λ s. only (runs s (some []))) (sym (append-nil (text t))) �
 
 -- ---- what is on the stack spells what was read
 
-none-some : {A : Type 0} {x : A} → none ≡ some x → ⊥
-none-some {A} {x} e = let z : _≡_ {A = ℕ} 0 1 = ap (λ (o : Option A). elim o [ none ↦ 0 | some y ↦ 1 ]) e in omega arith
-
 -- what holds of each stack that a sign can give holds of the one it gives
 closed-law : (P : List Item → Type 0) (σ τ : List Item) → closed σ ≡ some τ
     → ((r l : Tree) (ρ : List Item) → σ ≡ tree r ∷ tree l ∷ bracket ∷ ρ → P (tree (pair l r) ∷ ρ)) → P τ
 unfolding closed
-closed-law P [] τ e f = absurd (none-some e)
-closed-law P (bracket ∷ σ) τ e f = absurd (none-some e)
-closed-law P (tree r ∷ []) τ e f = absurd (none-some e)
-closed-law P (tree r ∷ bracket ∷ σ) τ e f = absurd (none-some e)
-closed-law P (tree r ∷ tree l ∷ []) τ e f = absurd (none-some e)
-closed-law P (tree r ∷ tree l ∷ tree t ∷ σ) τ e f = absurd (none-some e)
+closed-law P [] τ e f = absurd (Option·none-ne-some _ e)
+closed-law P (bracket ∷ σ) τ e f = absurd (Option·none-ne-some _ e)
+closed-law P (tree r ∷ []) τ e f = absurd (Option·none-ne-some _ e)
+closed-law P (tree r ∷ bracket ∷ σ) τ e f = absurd (Option·none-ne-some _ e)
+closed-law P (tree r ∷ tree l ∷ []) τ e f = absurd (Option·none-ne-some _ e)
+closed-law P (tree r ∷ tree l ∷ tree t ∷ σ) τ e f = absurd (Option·none-ne-some _ e)
 closed-law P (tree r ∷ tree l ∷ bracket ∷ ρ) τ e f = subst P (Option·some-injective _ _ e) (f r l ρ refl)
 
 onto-law : (P : List Item → Type 0) (x : ℕ) (σ τ : List Item) → onto x σ ≡ some τ
@@ -70,7 +67,7 @@ onto-law P x σ τ e f g h = go (ℕ-discrete x 0x28) (ℕ-discrete x (sign fals
     go (no a) (yes b) c d = got _ (rw (ne-eqb x 0x28 a, eq-eqb x (sign false) b) at e) (g false b)
     go (no a) (no b) (yes c) d = got _ (rw (ne-eqb x 0x28 a, ne-eqb x (sign false) b, eq-eqb x (sign true) c) at e) (g true c)
     go (no a) (no b) (no c) (yes d) = closed-law P σ τ (rw (ne-eqb x 0x28 a, ne-eqb x (sign false) b, ne-eqb x (sign true) c, eq-eqb x 0x29 d) at e) (h d)
-    go (no a) (no b) (no c) (no d) = absurd (none-some (rw (ne-eqb x 0x28 a, ne-eqb x (sign false) b, ne-eqb x (sign true) c, ne-eqb x 0x29 d) at e))
+    go (no a) (no b) (no c) (no d) = absurd (Option·none-ne-some _ (rw (ne-eqb x 0x28 a, ne-eqb x (sign false) b, ne-eqb x (sign true) c, ne-eqb x 0x29 d) at e))
 
 -- it has one item more at most
 onto-length : (x : ℕ) (σ τ : List Item) → onto x σ ≡ some τ → length τ ≤ suc (length σ)
@@ -104,7 +101,7 @@ runs-spell [] σ τ e = ap spell (sym (Option·some-injective _ _ e)) ∙ sym (a
 runs-spell (x ∷ s) σ τ e = go (onto x σ) refl (λ ρ. runs-spell s ρ τ) e
   where
     go : (o : Option (List Item)) → onto x σ ≡ o → ((ρ : List Item) → runs s (some ρ) ≡ some τ → spell τ ≡ spell ρ ++ s) → runs s o ≡ some τ → spell τ ≡ spell σ ++ (x ∷ s)
-    go none p below q = absurd (none-some (sym (runs-none s) ∙ q))
+    go none p below q = absurd (Option·none-ne-some _ (sym (runs-none s) ∙ q))
     go (some ρ) p below q = below ρ q ∙ ap (λ u. u ++ s) (onto-spell x σ ρ p) ∙ append-assoc (spell σ) (x ∷ []) s
 
 pub text-whole : (s : List ℕ) (t : Tree) → whole s ≡ some t → text t ≡ s
@@ -112,11 +109,11 @@ unfolding whole spell
 text-whole s t e = go (runs s (some [])) refl e
   where
     go : (o : Option (List Item)) → runs s (some []) ≡ o → only o ≡ some t → text t ≡ s
-    go none p q = absurd (none-some q)
-    go (some []) p q = absurd (none-some q)
-    go (some (bracket ∷ σ)) p q = absurd (none-some q)
+    go none p q = absurd (Option·none-ne-some _ q)
+    go (some []) p q = absurd (Option·none-ne-some _ q)
+    go (some (bracket ∷ σ)) p q = absurd (Option·none-ne-some _ q)
     go (some (tree u ∷ [])) p q = ap text (sym (Option·some-injective _ _ q)) ∙ runs-spell s [] (tree u ∷ []) p
-    go (some (tree u ∷ x ∷ σ)) p q = absurd (none-some q)
+    go (some (tree u ∷ x ∷ σ)) p q = absurd (Option·none-ne-some _ q)
 
 -- ---- one tree at most, and whether there is one can be told
 
@@ -128,7 +125,7 @@ pub one-tree : (a b : Tree) → text a ≡ text b → a ≡ b
 one-tree a b e = Option·some-injective _ _ (sym (whole-text a) ∙ ap whole e ∙ whole-text b)
 
 pub whole-none : (s : List ℕ) → whole s ≡ none → ¬ TreeText s
-whole-none s p (t, e) = none-some (sym p ∙ ap whole (sym e) ∙ whole-text t)
+whole-none s p (t, e) = Option·none-ne-some _ (sym p ∙ ap whole (sym e) ∙ whole-text t)
 
 pub isTreeText : (s : List ℕ) → Dec (TreeText s)
 isTreeText s = go (whole s) refl

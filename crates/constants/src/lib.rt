@@ -46,7 +46,7 @@ enum Step {
     Stops,
 }
 
-// A bracket is kept as 0, a tree as the number of its leaves with a bit above it.
+// A bracket is kept as 0, a tree as the number of its leaves with a bit above it: this one for a leaf, the next for a pair.
 const LEAF: u64 = 0x1_0000_0000;
 
 const PAIR: u64 = 0x2_0000_0000;

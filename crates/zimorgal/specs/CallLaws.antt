@@ -1,13 +1,13 @@
 -- Laws of the other calls' numbers: what they hold is read back from them. Assumes nothing.
 use mathlib.Core.Path.{_≡_, refl, sym, ap, _∙_}
 use mathlib.Core.List.{List}
-use mathlib.Core.Option.{none, some, Option·some-injective}
+use mathlib.Core.Option.{Option·some-injective, Option·none-ne-some}
 use Prim.Native.Nat.{ℕ, _+_, _*_, _/_, _%_, _^_, _≤_, _<_}
 use native.Mathlib.Decide.{ℕ-discrete}
 use native.Mathlib.Omega.{arith}
 use borrow.Author.Tests.{eq-eqb, ne-eqb}
 use lib.ListN.{length, take, drop}
-use Rattle.shares.specs.Tree.{Tree, leafAt}
+use Rattle.shares.specs.Tree.{leafAt}
 use Rattle.shares.specs.TreeLaws.{treeOf-folded, treeOf-height, leafAt-treeOf}
 use Rattle.shares.specs.Text.{text}
 use Rattle.shares.specs.Constant.{constantLevels, bit, numberTree}
@@ -71,9 +71,6 @@ module _ (levels n : ℕ) where
   pub row-written : (s : List ℕ) → fromText levels s ≡ given.Constant n → rowText (rowLevels levels) (rowOf (rowLevels levels) (numberTree levels n)) ≡ s
   row-written s e = constant-row-text ∙ read-written levels s n e .1
 
-not-both : (t : Tree) → none ≡ some t → ⊥
-not-both t e = let z : _≡_ {A = ℕ} 0 1 = cc in omega arith
-
 -- a number up to that of no join is known by the join that it stands for, so the join call's contract leaves one number
 pub join-only : (levels n m : ℕ) → n ≤ undefinedJoin levels → m ≤ undefinedJoin levels → numberJoin levels n ≡ numberJoin levels m → n ≡ m
 join-only levels n m ln lm e = go (ℕ-discrete n no-join) (ℕ-discrete m no-join)
@@ -83,8 +80,8 @@ join-only levels n m ln lm e = go (ℕ-discrete n no-join) (ℕ-discrete m no-jo
 
     go : Dec (n ≡ no-join) → Dec (m ≡ no-join) → n ≡ m
     go (yes a) (yes b) = omega arith
-    go (yes a) (no b) = absurd (not-both _ (rw (eq-eqb n no-join a, ne-eqb m no-join b) at e))
-    go (no a) (yes b) = absurd (not-both _ (sym (rw (ne-eqb n no-join a, eq-eqb m no-join b) at e)))
+    go (yes a) (no b) = absurd (Option·none-ne-some _ (rw (eq-eqb n no-join a, ne-eqb m no-join b) at e))
+    go (no a) (yes b) = absurd (Option·none-ne-some _ (sym (rw (ne-eqb n no-join a, eq-eqb m no-join b) at e)))
     go (no a) (no b) =
         let same : numberTree levels n ≡ numberTree levels m = Option·some-injective _ _ (rw (ne-eqb n no-join a, ne-eqb m no-join b) at e) in
         bits-same (2 ^ levels) n m (omega arith) (omega arith)
