@@ -3,5 +3,5 @@ pub mod Stacks
 pub mod StackLaws
 pub mod FromText
 pub mod PairLaws
-pub mod KeptLaws
+pub mod StackedLaws
 pub mod FromTextLaws

@@ -39,10 +39,10 @@ pub whole-text : (t : Tree) → whole (text t) ≡ some t
 unfolding whole runs
 whole-text t = ap (λ s. only (runs s (some []))) (sym (append-nil (text t))) ∙ ap only (runs-text t [] [])
 
--- ---- what is on the stack spells what was read
+-- ---- what is on the stack spells what was read, and nothing else
 
 -- what holds of each stack that a sign can give holds of the one it gives
-closed-law : (P : List Item → Type 0) (σ τ : List Item) → closed σ ≡ some τ
+pub closed-law : (P : List Item → Type 0) (σ τ : List Item) → closed σ ≡ some τ
     → ((r l : Tree) (ρ : List Item) → σ ≡ tree r ∷ tree l ∷ bracket ∷ ρ → P (tree (pair l r) ∷ ρ)) → P τ
 unfolding closed
 closed-law P [] τ e f = absurd (Option·none-ne-some _ e)
@@ -73,6 +73,7 @@ onto-law P x σ τ e f g h = go (ℕ-discrete x 0x28) (ℕ-discrete x (sign fals
 onto-length : (x : ℕ) (σ τ : List Item) → onto x σ ≡ some τ → length τ ≤ suc (length σ)
 onto-length x σ τ e = onto-law (λ τ. length τ ≤ suc (length σ)) x σ τ e (λ _. omega arith) (λ b _. omega arith) (λ _ r l ρ is. omega (arith, ap length is))
 
+-- the signs that were read, from the bottom on
 spell : List Item → List ℕ
 spell [] = []
 spell (bracket ∷ σ) = spell σ ++ (0x28 ∷ [])

@@ -88,22 +88,22 @@ allFolded (bracket ∷ σ) = allFolded σ
 allFolded (tree t ∷ σ) = isFolded t && allFolded σ
 
 -- the items are kept from the bottom on, each with its leaves unfolded to the height that the open pairs below leave
-abbrev pub Kept : ℕ → List ℕ → List Item → Type 0
-Kept levels items [] = Unit {0}
-Kept levels items (x ∷ σ) = (getD items (length σ) 0 ≡ itemNumber levels (levels - brackets σ) x) × Kept levels items σ
+abbrev pub Numbered : ℕ → List ℕ → List Item → Type 0
+Numbered levels items [] = Unit {0}
+Numbered levels items (x ∷ σ) = (getD items (length σ) 0 ≡ itemNumber levels (levels - brackets σ) x) × Numbered levels items σ
 
 -- a stack is kept in numbers
-pub record Shows (levels : ℕ) (items : List ℕ) (scan : Scan) (σ : List Item) : Type 0 where
+pub record Stacked (levels : ℕ) (items : List ℕ) (scan : Scan) (σ : List Item) : Type 0 where
   pub top : scan .top ≡ length σ
   pub pairs : scan .pairs ≡ brackets σ
   pub highest : scan .highest ≡ highest σ
   pub folded : scan .folded ≡ allFolded σ
-  pub kept : Kept levels items σ
+  pub kept : Numbered levels items σ
 
 -- what a sign more gives
-abbrev pub Steps : ℕ → List ℕ → ℕ → List Item → Step → Type 0
-Steps levels items x σ (step.Goes scan) = (τ : List Item) × (onto x σ ≡ some τ) × Shows levels items scan τ
-Steps levels items x σ step.Stops = onto x σ ≡ none
+abbrev pub Stepped : ℕ → List ℕ → ℕ → List Item → Step → Type 0
+Stepped levels items x σ (step.Goes scan) = (τ : List Item) × (onto x σ ≡ some τ) × Stacked levels items scan τ
+Stepped levels items x σ step.Stops = onto x σ ≡ none
 
 -- ---- what the reader computes
 

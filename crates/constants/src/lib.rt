@@ -9,7 +9,7 @@ ghost use Rattle.shares.specs.Tree.{Tree};
 ghost use Rattle.shares.specs.Constant.{constantLevels};
 ghost use Rattle.shares.specs.Text.{longestText};
 ghost use Rattle.constants.specs.FromText.{fromTree, fromText};
-ghost use Rattle.constants.specs.Stacks.{Item, runs, Shows, Steps, pairNumber, pairItem, equalLeaves, isPair, leafScan, openScan, closeScan, Of};
+ghost use Rattle.constants.specs.Stacks.{Item, runs, Stacked, Stepped, pairNumber, pairItem, equalLeaves, isPair, leafScan, openScan, closeScan, Of};
 ghost use Rattle.constants.specs.declared.Step.the-variants as step;
 
 // A constant is no taller, and no text of one is longer.
@@ -185,8 +185,8 @@ fn closed_scan(scan: Scan, equal: bool) -> Scan
 
 // A pair is closed.
 fn close_pair(items: &mut [u64], scan: Scan) -> Step
-    requires { ⌜ ((σ : List Item) × Shows constantLevels (now items) scan σ × (length σ ≤ length (now items))) ⌝ }
-    ensures { λ r. ⌜ ((σ : List Item) → Shows constantLevels (now (items .entry)) scan σ → length σ ≤ length (now (items .entry)) → Steps constantLevels (now (items .exit)) 0x29 σ r) ⌝ }
+    requires { ⌜ ((σ : List Item) × Stacked constantLevels (now items) scan σ × (length σ ≤ length (now items))) ⌝ }
+    ensures { λ r. ⌜ ((σ : List Item) → Stacked constantLevels (now (items .entry)) scan σ → length σ ≤ length (now (items .entry)) → Stepped constantLevels (now (items .exit)) 0x29 σ r) ⌝ }
 {
     if is_pair(items, scan.top) {
         let left = items[scan.top - 2];
@@ -200,8 +200,8 @@ fn close_pair(items: &mut [u64], scan: Scan) -> Step
 
 // A sign more.
 fn take_sign(items: &mut [u64], scan: Scan, sign: u8) -> Step
-    requires { ⌜ ((σ : List Item) × Shows constantLevels (now items) scan σ × (length σ < length (now items))) ⌝ }
-    ensures { λ r. ⌜ ((σ : List Item) → Shows constantLevels (now (items .entry)) scan σ → length σ < length (now (items .entry)) → Steps constantLevels (now (items .exit)) sign σ r) ⌝ }
+    requires { ⌜ ((σ : List Item) × Stacked constantLevels (now items) scan σ × (length σ < length (now items))) ⌝ }
+    ensures { λ r. ⌜ ((σ : List Item) → Stacked constantLevels (now (items .entry)) scan σ → length σ < length (now (items .entry)) → Stepped constantLevels (now (items .exit)) sign σ r) ⌝ }
 {
     if sign == b'(' {
         return open_pair(items, scan);
@@ -233,7 +233,7 @@ fn from_told(told: Told) -> FromText
 
 // What a whole text gives that left this stack.
 fn from_stack(scan: Scan, item: u64) -> FromText
-    ensures { λ r. ⌜ ((items : List ℕ) (σ : List Item) (s : List ℕ) → Shows constantLevels items scan σ → item ≡ getD items 0 0 → runs s (some []) ≡ some σ → length s ≤ longestText constantLevels → r ≡ fromText constantLevels s) ⌝ }
+    ensures { λ r. ⌜ ((items : List ℕ) (σ : List Item) (s : List ℕ) → Stacked constantLevels items scan σ → item ≡ getD items 0 0 → runs s (some []) ≡ some σ → length s ≤ longestText constantLevels → r ≡ fromText constantLevels s) ⌝ }
 {
     if scan.top != 1 {
         return FromText::NotTreeText;

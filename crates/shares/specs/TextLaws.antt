@@ -1,18 +1,11 @@
--- The signs and the length of a tree's text, for every height. Assumes nothing.
-use mathlib.Core.Path.{_≡_}
-use mathlib.Core.Bool.{Bool, true, false}
-use Prim.Native.Nat.{ℕ, zero, suc, _+_, _*_, _^_, _≤_, _<_}
+-- The length of a tree's text, for every height. Assumes nothing.
+use Prim.Native.Nat.{ℕ, zero, suc, _+_, _*_, _^_, _≤_}
 use native.Mathlib.Nat.{not-suc-le-zero, two-pow-succ}
 use native.Mathlib.Omega.{arith}
 use lib.ListN.{length, length-append}
 use lib.Pow.{pow-pos}
 use Rattle.shares.specs.Tree.{Tree, leaf, pair, height}
-use Rattle.shares.specs.Text.{sign, text, longestText}
-
--- a bracket is no leaf's sign
-pub sign-bracket : (b : Bool) → sign b ≡ 0x28 → ⊥
-sign-bracket true e = omega arith
-sign-bracket false e = omega arith
+use Rattle.shares.specs.Text.{text, longestText}
 
 text-room : (k : ℕ) (t : Tree) → height t ≤ k → length (text t) + 2 ≤ 3 * 2 ^ k
 unfolding text height
@@ -24,9 +17,3 @@ text-room (suc k) (pair l r) h =
 -- no text of a tree of height k is longer
 pub text-length : (k : ℕ) (t : Tree) → height t ≤ k → length (text t) ≤ longestText k
 text-length k t h = omega (arith, text-room k t h)
-
--- a level takes at least three bytes
-pub height-text : (t : Tree) → 3 * height t < length (text t)
-unfolding text height
-height-text (leaf b) = omega arith
-height-text (pair l r) = simp (length-append) (omega (arith, height-text l, height-text r))

@@ -15,7 +15,6 @@ use Rattle.shares.specs.Test.{of-true}
 use Rattle.shares.specs.NumberLaws.{halved}
 use Rattle.shares.specs.Tree.{Tree, leaf, pair}
 use Rattle.shares.specs.Text.{sign, text}
-use Rattle.shares.specs.TextLaws.{sign-bracket, height-text}
 use Rattle.rows.specs.Blocks.{Inside, blockTree, AllLeaves}
 use Rattle.rows.specs.BlockLaws.{halves-inside, block-leaf-iff, block-pair}
 use Rattle.text.specs.Put.{Put}
@@ -34,12 +33,18 @@ pair-first (pair l r) n = refl
 -- a bracket is no leaf's, and any other sign is the whole text
 no-leaf : (v : Bool) → 0x28 ≡ getD (text (leaf v)) 0 0 → ⊥
 unfolding text
-no-leaf v e = sign-bracket v (sym e)
+no-leaf true e = omega arith
+no-leaf false e = omega arith
 
 alone : (t : Tree) (s : ℕ) → s ≡ getD (text t) 0 0 → (s ≡ 0x28 → ⊥) → text t ≡ s ∷ []
 unfolding text
 alone (leaf v) s e n = rw e
 alone (pair l r) s e n = absurd (n e)
+
+text-some : (t : Tree) → 0 < length (text t)
+unfolding text
+text-some (leaf v) = omega arith
+text-some (pair l r) = omega arith
 
 pair-length : (l r : Tree) → length (text (pair l r)) ≡ 2 + length (text l) + length (text r)
 unfolding text
@@ -85,7 +90,7 @@ module _ (row : List ℕ) (h q : ℕ) (inside : Inside h q (length row)) where
   number-small = let e : q * 1 ≤ q * 2 ^ h = mul-le-mul-left q (pow-pos h) in omega (arith, inside .fits, inside .few, mul-one q)
 
   pub at-room : (at : ℕ) (buffer : List ℕ) → at + length (text (blockTree row h q)) ≤ length buffer → at < length buffer
-  at-room at buffer room = omega (arith, height-text (blockTree row h q))
+  at-room at buffer room = omega (arith, text-some (blockTree row h q))
 
   -- its first sign, by the tests of its leaves
   pub first-leaf : (v t : Bool) → T t ↔ AllLeaves row h q v → t ≡ true → sign v ≡ getD (text (blockTree row h q)) 0 0

@@ -3,7 +3,7 @@ use mathlib.Core.Path.{refl, ap, _∙_}
 use Prim.Native.Nat.{_-_}
 use native.Mathlib.Omega.{arith}
 use Rattle.shares.specs.Constant.{constantLevels}
-use Rattle.constants.specs.KeptLaws.{pair-sizes, halves-room, steps-close, steps-stop}
+use Rattle.constants.specs.StackedLaws.{pair-sizes, halves-room, steps-close, steps-stop}
 use borrow.Author.Needs.{needs}
 use Rattle.constants.proofs.close_pair.Statement.{statement}
 use Rattle.constants.proofs.close_pair.Tie as tie

@@ -1,4 +1,5 @@
 -- `constants::equal_leaves` meets its contract. Assumes nothing.
+use mathlib.Core.Path.{refl}
 use borrow.Author.Tests.{eq-eqb, ne-eqb}
 use Rattle.constants.specs.Stacks.{equalLeaves}
 use Rattle.constants.proofs.equal_leaves.Statement.{statement}
@@ -6,7 +7,7 @@ use Rattle.constants.proofs.equal_leaves.Tie as tie
 
 returns : tie.Need-returns
 unfolding equalLeaves
-returns c = rw (eq-eqb _ _ (c .if1 .taken))
+returns c = rw (eq-eqb _ _ (c .if1 .taken)) refl
 
 returns-2 : tie.Need-returns-2
 unfolding equalLeaves

@@ -3,7 +3,7 @@ use mathlib.Core.Path.{sym, _∙_}
 use native.Mathlib.Omega.{arith}
 use Rattle.shares.specs.Constant.{constantLevels}
 use Rattle.constants.specs.StackLaws.{ended, whole-none, text-whole}
-use Rattle.constants.specs.KeptLaws.{not-alone, bracket-alone, tree-alone}
+use Rattle.constants.specs.StackedLaws.{not-alone, bracket-alone, tree-alone}
 use Rattle.constants.specs.FromTextLaws.{text-none, text-tree}
 use borrow.Author.Needs.{needs}
 use Rattle.constants.proofs.from_stack.Statement.{statement}

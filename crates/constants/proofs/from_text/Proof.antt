@@ -7,16 +7,16 @@ use native.Mathlib.Omega.{arith}
 use lib.ListN.{length, drop}
 use borrow.Author.Needs.{needs}
 use Rattle.shares.specs.Constant.{constantLevels}
-use Rattle.constants.specs.Stacks.{Item, runs, Shows, Steps}
+use Rattle.constants.specs.Stacks.{Item, runs, Stacked, Stepped}
 use Rattle.constants.specs.StackLaws.{whole-none, turn-goes, turn-stops, all-read}
-use Rattle.constants.specs.KeptLaws.{none-yet}
+use Rattle.constants.specs.StackedLaws.{none-yet}
 use Rattle.constants.specs.FromTextLaws.{text-long, text-none}
 use Rattle.constants.proofs.from_text.Statement.{statement}
 use Rattle.constants.proofs.from_text.Tie as tie
 
 abbrev Inv-loop : tie.InvT-loop
 Inv-loop text items₀ scan₀ at₀ items scan at =
-    (length items ≡ 94) × (at ≤ length text) × ((σ : List Item) × Shows constantLevels items scan σ × (length σ ≤ at) × (runs (drop at text) (some σ) ≡ runs text (some [])))
+    (length items ≡ 94) × (at ≤ length text) × ((σ : List Item) × Stacked constantLevels items scan σ × (length σ ≤ at) × (runs (drop at text) (some σ) ≡ runs text (some [])))
 
 abbrev μ-loop : tie.MeasureT-loop
 μ-loop text items₀ scan₀ at₀ items scan at = length text - at
@@ -47,7 +47,7 @@ returns-2 c =
     let l = c .before .before .before .before .before .before .before .loop in
     let s = c .before .before .before .before .before .before .before .before .before .before .args .text .now in
     let (σ, S, few, so-far) = l .inv .2 in
-    let stops = subst (Steps constantLevels _ _ σ) (c .enum-told .given .1) (c .before .before .before .take-sign .ensures σ S (omega (arith, l .inv .0, few, c .before .before .before .before .before .before .loop-test .taken, c .before .before .before .before .before .before .before .before .if1 .left))) in
+    let stops = subst (Stepped constantLevels _ _ σ) (c .enum-told .given .1) (c .before .before .before .take-sign .ensures σ S (omega (arith, l .inv .0, few, c .before .before .before .before .before .before .loop-test .taken, c .before .before .before .before .before .before .before .before .if1 .left))) in
     sym (text-none constantLevels s (whole-none s (turn-stops s (l .at) (c .before .before .before .before .before .before .loop-test .taken) σ so-far stops)))
 
 add-at : tie.Need-add-at Inv-loop μ-loop
@@ -62,7 +62,7 @@ loop-again c =
     let s = c .before .before .before .before .before .before .before .before .before .before .before .args .text .now in
     let (σ, S, few, so-far) = l .inv .2 in
     let inside = c .before .before .before .before .before .before .before .loop-test .taken in
-    let (τ, e, T) = subst (Steps constantLevels _ _ σ) (c .before .next .given .1) (c .before .before .before .before .take-sign .ensures σ S (omega (arith, l .inv .0, few, inside, c .before .before .before .before .before .before .before .before .before .if1 .left))) in
+    let (τ, e, T) = subst (Stepped constantLevels _ _ σ) (c .before .next .given .1) (c .before .before .before .before .take-sign .ensures σ S (omega (arith, l .inv .0, few, inside, c .before .before .before .before .before .before .before .before .before .if1 .left))) in
     let turn = turn-goes s (l .at) inside σ so-far τ e few in
     (c .before .before .before .before .take-sign .kept .0 ∙ l .inv .0, omega arith, (τ, T, turn .0, turn .1))
 

@@ -1,4 +1,5 @@
 -- `constants::pair_item` meets its contract. Assumes nothing.
+use mathlib.Core.Path.{refl}
 use native.Mathlib.Omega.{arith}
 use Rattle.constants.specs.Stacks.{pairItem}
 use borrow.Author.Needs.{needs}
@@ -19,7 +20,7 @@ add-result c = omega (arith, c .pair-leaves .ensures .1)
 
 returns : tie.Need-returns
 unfolding pairItem
-returns c = rw (c .pair-leaves .ensures .0, c .before .leaves-of2 .ensures .0, c .before .before .leaves-of .ensures .0)
+returns c = rw (c .pair-leaves .ensures .0, c .before .leaves-of2 .ensures .0, c .before .before .leaves-of .ensures .0) refl
 
 pub pair-item-spec : {M : Type 1} → statement M
 pair-item-spec =

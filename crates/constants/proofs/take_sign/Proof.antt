@@ -5,7 +5,7 @@ use Prim.Native.Nat.{_-_, _^_}
 use native.Mathlib.Omega.{arith}
 use Rattle.shares.specs.Constant.{constantLevels}
 use Rattle.constants.specs.PairLaws.{ones-room}
-use Rattle.constants.specs.KeptLaws.{brackets-few, steps-open, steps-leaf, onto-other, steps-same}
+use Rattle.constants.specs.StackedLaws.{brackets-few, steps-open, steps-leaf, onto-other, steps-same}
 use Rattle.constants.proofs.take_sign.Statement.{statement}
 use Rattle.constants.proofs.take_sign.Tie as tie
 

@@ -1,4 +1,5 @@
 -- `zimorgal::constant_number` gives the number of what a text gives. Assumes nothing.
+use mathlib.Core.Path.{refl}
 use native.Mathlib.Omega.{arith}
 use borrow.Author.Needs.{needs}
 use Rattle.zimorgal.proofs.constant_number.Statement.{statement}
@@ -32,13 +33,13 @@ returns : tie.Need-returns
 returns c = rw (c .before .read .given .1) (omega arith)
 
 returns-2 : tie.Need-returns-2
-returns-2 c = rw (c .enum-told .given .1)
+returns-2 c = rw (c .enum-told .given .1) refl
 
 returns-3 : tie.Need-returns-3
-returns-3 c = rw (c .enum-told2 .given .1)
+returns-3 c = rw (c .enum-told2 .given .1) refl
 
 returns-4 : tie.Need-returns-4
-returns-4 c = rw (c .enum-told3 .given .1)
+returns-4 c = rw (c .enum-told3 .given .1) refl
 
 pub constant-number-spec : {M : Type 1} → statement M
 constant-number-spec =
