@@ -60,6 +60,10 @@ class Line:
         """The next word, or one after or before it; empty at the end of the line."""
         return self.words[min(self.at + ahead, len(self.words) - 1)][0]
 
+    def rest(self, ahead):
+        """The words from the next one on, or from one after it."""
+        return " ".join(word for word, _ in self.words[self.at + ahead:-1])
+
     def column(self):
         return self.words[self.at][1]
 

@@ -1,10 +1,10 @@
 """Questions as readable text, both ways."""
 
-from front_end.files import LONG_NAME, quote, shown
+from front_end.files import LONG_NAME, LONG_WORD, quote, shown
 from front_end.lines import NAME, NAME_DUE, Line, TextFault, code_lines
 from front_end.question import (CLAUSES, COMMANDS, CONSTANTS, EQUAL, JOIN, MAY_READ, MAY_WRITE, MOST_VARIABLES, NO_JOIN, UNEQUAL, WITH, Fault,
                                 Question)
-from front_end.trees import write_tree
+from front_end.trees import join, write_tree
 
 LONGEST = 255  # characters of a name
 KINDS = ["satisfiable", "entails"]
@@ -17,6 +17,10 @@ NOT_WITH = ("that shares may not be held together cannot be said as one clause: 
             "'p join q is a', 'p join r is b' and 'p may read'")
 TWICE = "two negations: write '{}'"
 
+# What is due where a share is, and how a name comes to be one; the same for a share that a 'let' joins.
+SHARE_DUE = "a name or a tree", "a line 'free {}' before the first clause makes it a variable"
+CONSTANT_DUE = "a tree or a constant's name", "a line 'let {} = (*o)' before this one makes it a constant"
+
 # What stands behind 'may': the clause, and how to write that it does not hold.
 RIGHTS = {"write": (MAY_WRITE, "is not *"), "read": (MAY_READ, "is o")}
 
@@ -25,7 +29,9 @@ FORM = f"""The text: one thing a line; '#' starts a comment.
     satisfiable                    or: entails; the first line
     free writer reader rest owner  free variables, by name
     own part                       own variables of the second system
-    let L = (*o)                   a constant, as tree text; these three kinds of line stand before the first clause
+    let L = (*o)                   a constant, as tree text
+    let W = L join (o(*o))         a constant that is joined while the text is read, of trees and of constants of lines before; an error if
+                                   the join is undefined; these three kinds of line stand before the first clause
     writer join reader is rest     a join
     not writer join reader is *    its negation: another share, or undefined
     a join b join c is d join e    joins inside: all are defined and both sides are one share; each counts as a variable more, one less than
@@ -43,6 +49,10 @@ A name is letters a to z, small or capital, digits and '_', with no digit first;
 cannot be names. A share in a clause is a name or tree text. Tree text has no spaces; in a clause it is the first constant with that
 tree, and if there is none, it becomes one, after those of 'let'.
 """
+
+
+def starts_tree(word):
+    return word == "o" or word[:1] in ("(", "*", ")")
 
 
 def turned(line):
@@ -151,10 +161,41 @@ class TextReader:
         line.expect("let")
         name = self.read_name(line)
         line.expect("=")
-        if not line.peek():
-            raise line.due("a tree")
         with line.here():
-            self.lets[name] = self.question.define(line.take_tree())
+            self.lets[name] = self.question.define(self.read_joined(line))
+
+    def read_joined(self, line):
+        """Takes constants with 'join' between them, to the end of the line, and gives the leaves of their join."""
+        so_far = self.read_constant(line)
+        while line.skip("join"):
+            word, column = line.peek(), line.column()
+            leaves = self.read_constant(line)
+            joined = join(so_far, leaves)
+            if joined is None:
+                what = f"the join is undefined: {quote(word)} and what stands before it, '{write_tree(so_far)}', have the common part"
+                raise TextFault(f"{what} '{write_tree(so_far & leaves)}'", line.number, column)
+            so_far = joined
+        if line.peek():
+            raise line.due("'join' or the end of the line")
+        return so_far
+
+    def read_constant(self, line):
+        """Takes a tree text or the name of a constant, and gives its leaves."""
+        word = line.peek()
+        if starts_tree(word):
+            return line.take_tree()
+        if word not in self.lets:
+            raise self.no_constant(line, word)
+        line.take("a constant")
+        return self.question.constants[self.lets[word] - CONSTANTS]
+
+    def no_constant(self, line, word):
+        """The fault of a word that is no constant, where 'let' joins constants."""
+        if word in self.free + self.own:
+            return line.fault(f"a constant is due here, and {quote(word)} is a variable: a join with a variable is a clause, as in 'a join b is c'")
+        if word in self.lines:
+            return line.fault(f"a constant of a line before is due here, and {quote(word)} is the one that this line defines")
+        return self.unknown(line, word, *CONSTANT_DUE)
 
     def read_system(self, line):
         if line.peek() == "then":
@@ -277,14 +318,14 @@ class TextReader:
     def read_share(self, line):
         """Takes a name or a tree text, and gives its term."""
         word = line.peek()
-        if word == "o" or word[:1] in ("(", "*", ")"):
+        if starts_tree(word):
             with line.here():
                 return self.constant(line.take_tree())
         if word in self.own and not self.second:
             raise line.fault(f"{quote(word)} is an own variable, and they stand in the second system alone: "
                              f"write 'then' before this clause, or make {quote(word)} free")
         if word not in self.lines:
-            raise self.unknown(line, word)
+            raise self.unknown(line, word, *SHARE_DUE)
         line.take("a share")
         return self.lets[word] if word in self.lets else self.names().index(word)
 
@@ -293,17 +334,17 @@ class TextReader:
         fresh_free, fresh_own = self.question.free - len(self.free), self.question.own - len(self.own)
         return self.free + [None] * fresh_free + self.own + [None] * fresh_own
 
-    def unknown(self, line, word):
-        """The fault of a word that is no share, where one is due."""
+    def unknown(self, line, word, due, cure):
+        """The fault of a word that is no share, where one is due; 'cure' says how a name comes to be one."""
         if word in ("0", "1"):
             return line.fault(f"'{word}' is no share: write 'o' for the empty one, '*' for the full one")
         if not NAME.fullmatch(word) or word in KEPT:
-            return line.no_name("a name or a tree")
+            return line.no_name(due)
         if line.peek(1) == "=":
-            tree = line.peek(2) or "(*o)"
+            joined = line.rest(2) or "(*o)"
             return line.fault(f"nothing is named {quote(word)}: a constant is defined by 'let', before the first clause: "
-                              f"write 'let {shown(word, LONG_NAME)} = {shown(tree, LONG_NAME)}'")
-        return line.fault(f"nothing is named {quote(word)}: a line 'free {shown(word, 40)}' before the first clause makes it a variable")
+                              f"write 'let {shown(word, LONG_NAME)} = {shown(joined, LONG_NAME)}'")
+        return line.fault(f"nothing is named {quote(word)}: {cure.format(shown(word, LONG_WORD))}")
 
     def constant(self, leaves):
         """The term of the first constant with these leaves, which is a new one if there is none."""

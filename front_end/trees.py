@@ -82,3 +82,8 @@ def write_tree(leaves, height=TALLEST):
     if left == right and len(left) == 1:
         return left
     return f"({left}{right})"
+
+
+def join(a, b):
+    """The join of two shares, all leaves at once: None, undefined, exactly if some leaf is full in both, and otherwise their sum."""
+    return None if a & b else a + b

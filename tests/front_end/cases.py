@@ -69,11 +69,28 @@ BYTES = [
     ("satisfiable\nlet low = (((((*o)o)o)o)o)\nlet high = (o(o(o(o(o*)))))", "01 00 00 00 03 01 00 00 00 03 00 00 00 80 00"),
     ("satisfiable\nlet mixed = ((*(o*))(o(*o)))", "01 00 00 00 03 FF F0 00 0F 00"),
     (f"satisfiable\nlet longest = {LONGEST_TREE}", "01 00 00 00 03 AA AA AA AA 00"),
+    # Joins in 'let': one constant a line, no variable and no clause.
+    ("satisfiable\nlet L = (*o)\nlet R = (o*)\nlet F = L join R", f"01 00 00 00 {LEFT} {RIGHT} {FULL} 00"),
+    ("satisfiable\nlet F=(*o)  join\t(o*) # full\r", f"01 00 00 00 {FULL} 00"),
+    ("satisfiable\nlet F = o join * join o\nlet E = o join o", f"01 00 00 00 {FULL} {EMPTY} 00"),
+    ("satisfiable\nlet low = (((((*o)o)o)o)o)\nlet J = ((o*)o) join low join (o(o(o(o(o*)))))\nlet K = J join (((o*)o)o)",
+     "01 00 00 00 03 01 00 00 00 03 01 FF 00 80 03 F1 FF 00 80 00"),
+    (f"satisfiable\nlet A = {LONGEST_TREE}\nlet B = A join {LONGEST_TREE.replace('(o*)', '(*o)')}", f"01 00 00 00 03 AA AA AA AA {FULL} 00"),
+    ("entails\nown x\nlet F = (*o) join (o*)\nfree a\nthen\nx is F", f"01 01 01 01 {FULL} 22 01 20 00"),
+    # A constant's name alone defines another constant. The trees of a join are no constants of their own.
+    ("satisfiable\nlet A = (*o)\nlet B = A\nB is A", f"01 00 00 00 {LEFT} {LEFT} 12 21 20 00"),
+    ("satisfiable\nlet F = (*o) join (o*)\n* is (o*)", f"01 00 00 00 {FULL} {RIGHT} 12 20 21 00"),
+    # In a clause a join of constants is a clause.
+    ("satisfiable\nfree x\nlet L = (*o)\nlet R = (o*)\nL join R is x", f"01 00 01 00 {LEFT} {RIGHT} 10 20 21 00 00"),
 ]
 
 NAME = "a name (letters a to z, digits and '_', no digit first)"
 KEPT = "satisfiable, entails, free, own, let, if, then, not, join, is and o have a meaning of their own"
 UNKNOWN = "a line 'free {0}' before the first clause makes it a variable"
+UNKNOWN_CONSTANT = "a line 'let {0} = (*o)' before this one makes it a constant"
+CONSTANT = "a tree or a constant's name"
+VARIABLE = "a constant is due here, and '{}' is a variable: a join with a variable is a clause, as in 'a join b is c'"
+UNDEFINED = "the join is undefined: '{}' and what stands before it, '{}', have the common part '{}'"
 NOT_INSIDE = "a negated clause has one join, 'not a join b is c': give the join inside it a variable of its own, as in 'a join b is t' and " \
     "'not t join c is d', which also asks that a join b is defined"
 NOT_WITH = "that shares may not be held together cannot be said as one clause: give their common part a variable of its own, as in " \
@@ -118,14 +135,43 @@ FAULTS = [
     # Trees.
     ("satisfiable\nlet L", "2:6: '=' is due here, and the line ends"),
     ("satisfiable\nlet L (*o)", "2:7: '=' is due here, not '(*o)'"),
-    ("satisfiable\nlet L =", "2:8: a tree is due here, and the line ends"),
-    ("satisfiable\nlet L = half", "2:9: no tree text: '(', 'o' or '*' is due here, not 'h'"),
+    ("satisfiable\nlet L =", f"2:8: {CONSTANT} is due here, and the line ends"),
     ("satisfiable\nlet L = (*x)", "2:11: no tree text: '(', 'o' or '*' is due here, not 'x'"),
     ("satisfiable\nlet L = (*)", "2:11: no tree text: '(', 'o' or '*' is due here, not ')'"),
     ("satisfiable\nlet L = (*o*)", "2:12: no tree text: ')' is due here, not '*'"),
     ("satisfiable\nlet L = (*o", "2:12: no tree text: it ends before the tree does"),
     ("satisfiable\nlet L = (*(o*)", "2:15: no tree text: it ends before the tree does"),
     ("satisfiable\nlet L = (*o)o", "2:13: no tree text: the tree ends before this character"),
+    # Constants that are joined.
+    ("satisfiable\nlet L = half", "2:9: nothing is named 'half': " + UNKNOWN_CONSTANT.format("half")),
+    ("satisfiable\nlet L = (*o)\nlet W = L join R\nlet R = (o*)", "3:16: nothing is named 'R': " + UNKNOWN_CONSTANT.format("R")),
+    ("satisfiable\nlet L = " + "l" * 50, f"2:9: nothing is named '{'l' * 40}...': " + UNKNOWN_CONSTANT.format("l" * 40 + "...")),
+    ("satisfiable\nlet L = R = (o*)", "2:9: nothing is named 'R': a constant is defined by 'let', before the first clause: write 'let R = (o*)'"),
+    ("satisfiable\nlet L = L", "2:9: a constant of a line before is due here, and 'L' is the one that this line defines"),
+    ("satisfiable\nlet L = (*o) join  L", "2:20: a constant of a line before is due here, and 'L' is the one that this line defines"),
+    (CLAUSE + "let L = (*o) join b", "3:19: " + VARIABLE.format("b")),
+    ("entails\nown x\nlet L = x", "3:9: " + VARIABLE.format("x")),
+    ("satisfiable\nlet L = join (*o)", f"2:9: {CONSTANT} is due here, not 'join'"),
+    ("satisfiable\nlet L = (*o) join", f"2:18: {CONSTANT} is due here, and the line ends"),
+    ("satisfiable\nlet L = (*o) join join (o*)", f"2:19: {CONSTANT} is due here, not 'join'"),
+    ("satisfiable\nlet L = (*o) join # (o*)", f"2:18: {CONSTANT} is due here, and the line ends"),
+    ("satisfiable\nlet L = (*o) join 1", "2:19: '1' is no share: write 'o' for the empty one, '*' for the full one"),
+    ("satisfiable\nlet L = (*o) join 7b", "2:19: '7b' starts with a digit, and a name does not: write '_7b', for example"),
+    ("satisfiable\nlet L = (*o) join =", f"2:19: {CONSTANT} is due here, not '='"),
+    ("satisfiable\nlet L = (*o) (o*)", "2:14: 'join' or the end of the line is due here, not '(o*)'"),
+    ("satisfiable\nlet L = (*o)\nlet R = L L", "3:11: 'join' or the end of the line is due here, not 'L'"),
+    ("satisfiable\nlet L = (*o) join (o*) is *", "2:24: 'join' or the end of the line is due here, not 'is'"),
+    ("satisfiable\nlet L = (*o) join (o(oo))", "2:21: a pair of two equal leaves must be folded: write 'o' for '(oo)'"),
+    ("satisfiable\nlet L = (*o) join (o *)", "2:21: tree text has no spaces: write '(o*)'"),
+    (CLAUSE + "W = L  join (o*)", "3:1: nothing is named 'W': a constant is defined by 'let', before the first clause: write 'let W = L join (o*)'"),
+    # Joins that are undefined, at the share that cannot be joined to what stands before it.
+    ("satisfiable\nlet F = * join *", "2:16: " + UNDEFINED.format("*", "*", "*")),
+    ("satisfiable\nlet L = (*o)\nlet M = ((o*)(*o))\nlet W = L join M", "4:16: " + UNDEFINED.format("M", "(*o)", "((o*)o)")),
+    ("satisfiable\nlet L = (*o)\nlet W = (o(*o)) join  L join (o*) join *", "3:30: " + UNDEFINED.format("(o*)", "(*(*o))", "(o(*o))")),
+    ("satisfiable\nlet L = (*o) join o join (*o) x", "2:26: " + UNDEFINED.format("(*o)", "(*o)", "(*o)")),
+    (f"satisfiable\nlet L = (o(o(o(o(o*))))) join {LONGEST_TREE}",
+     "2:31: " + UNDEFINED.format(LONGEST_TREE[:40] + "...", "(o(o(o(o(o*)))))", "(o(o(o(o(o*)))))")),
+    (f"satisfiable\nlet L = {LONGEST_TREE} join {LONGEST_TREE}", "2:109: " + UNDEFINED.format(LONGEST_TREE[:40] + "...", LONGEST_TREE, LONGEST_TREE)),
     # Trees with spaces inside.
     ("satisfiable\nlet L = (* o)", "2:11: tree text has no spaces: write '(*o)'"),
     (CLAUSE + "a is (o *)", "3:8: tree text has no spaces: write '(o*)'"),
@@ -319,6 +365,8 @@ EDGES = [
     ("31 shares that may read", "satisfiable\nfree a\n" + clauses(31, "a may read"), "a is not o",
      "34:1: a 32nd disequation in the first system: there may be 31"),
     ("32 constants", "satisfiable\n" + lets(32), "let more = o", "34:12: a 33rd constant: there may be 32"),
+    ("32 constants, the last a join", "satisfiable\n" + lets(31) + f"let all = {' join '.join(names(31, 'c').split())}\n", "let more = c1 join c2",
+     "34:12: a 33rd constant: there may be 32"),
     ("32 constants, one in a clause", "satisfiable\n" + lets(31) + "o is o\n", "o is *", "34:6: a 33rd constant: there may be 32"),
     ("32 constants in clauses", "satisfiable\n" + lines(*(f"{tree} is {tree}" for tree in trees(32))), "not o join o is o",
      "34:5: a 33rd constant: there may be 32"),

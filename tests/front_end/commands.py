@@ -45,6 +45,7 @@ def test_arguments():
     check("the help lists the reserved words", cases.KEPT.split(" have")[0] in out.decode(), True)
     clauses = [words for words, *_ in SORTS if not re.search(f"^ +{words.replace('{}', '[^ ]+')}  ", out.decode(), re.M)]
     check("the help has each sort of clause", clauses, [])
+    check("the help has a join of constants", re.search(r"^ +let \w+ = \S+ join \S+  ", out.decode(), re.M) is not None, True)
     check("the help tells the statuses", (status, errors, [line.split() for line in cases.STATUSES if line not in out.decode()]), (0, "", []))
 
 

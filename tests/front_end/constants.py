@@ -1,13 +1,15 @@
-"""Tests of constants from tree text: the front end's reader against the library's call."""
+"""Tests of constants, from tree text and joined: what the front end makes of them against the library's calls."""
 
+from collections import Counter
 from itertools import product
 from random import Random
 
 import make
-from front_end.trees import TreeFault, longest, read_tree, write_tree
-from harness import check, library_reads
+from front_end.trees import TreeFault, join, longest, read_tree, write_tree
+from harness import check, library_joins, library_reads
 
 SIGNS = b"o*()x"
+FULL, UNDEFINED = (1 << 32) - 1, 1 << 32  # the full share; what the library gives for a join that is undefined
 DAMAGE = SIGNS + b"o*() O\n\0\xc3\xa4\xff"  # among them the two bytes of a letter, and one that is no text
 
 
@@ -79,3 +81,38 @@ def test_written():
     constants = [make.random_leaves(random) for _ in range(300)] + [random.getrandbits(32) for _ in range(300)]
     for leaves, given in zip(constants, library_reads([write_tree(leaves).encode() for leaves in constants])):
         check(f"{leaves:08X} written and read", given, leaves)
+
+
+def compare_joins(pairs):
+    """Front end and library join the numbers of each pair alike, in either order. Gives how many joins were defined, and how many not."""
+    pairs = [pair for a, b in pairs for pair in ((a, b), (b, a))]
+    seen = Counter()
+    for (a, b), given in zip(pairs, library_joins(pairs)):
+        check(f"{a:08X} join {b:08X}", join(a, b), None if given == UNDEFINED else given)
+        seen[given != UNDEFINED] += 1
+    return seen[True], seen[False]
+
+
+def test_low_joins():
+    """Every pair of trees no taller than 2. Each of the 4 parts is full in one tree, in the other or in none if the join is defined."""
+    trees = [sum(0xFF << 8 * part for part in range(4) if bits >> part & 1) for bits in range(16)]
+    check("joins of low trees", compare_joins(product(trees, repeat=2)), (2 * 3**4, 2 * (16**2 - 3**4)))
+
+
+def test_single_leaves():
+    """At each leaf: two numbers that are full in common there and nowhere else, and the same with the leaf in one of them."""
+    random = Random(20)
+    for leaf in range(32):
+        bit, mask = 1 << leaf, random.getrandbits(32)
+        pairs = [(0, 0), (FULL ^ bit, 0), (random.getrandbits(32) & mask & ~bit, random.getrandbits(32) & ~mask & ~bit)]
+        check(f"joins at leaf {leaf}, in one", compare_joins((a | bit, b) for a, b in pairs), (6, 0))
+        check(f"joins at leaf {leaf}, in both", compare_joins((a | bit, b | bit) for a, b in pairs), (0, 6))
+
+
+def test_random_joins():
+    """Pairs of any numbers, nearly all of which are full in common somewhere, and pairs that are full in common nowhere."""
+    random = Random(21)
+    pairs = [(make.random_leaves(random), make.random_leaves(random)) for _ in range(500)]
+    check("joins of any numbers are defined and undefined", min(compare_joins(pairs)) > 0, True)
+    pairs = [(number & mask, number & ~mask) for number, mask in ((random.getrandbits(32), random.getrandbits(32)) for _ in range(500))]
+    check("joins of numbers apart", compare_joins(pairs), (1000, 0))

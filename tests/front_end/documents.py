@@ -8,7 +8,8 @@ from commands import KEYS
 from front_end.answer import MEANINGS
 from front_end.question import CLAUSES, OPERANDS, read_question
 from front_end.text import RESERVED, read_text
-from harness import TOP, check, command, library_reads, program
+from front_end.trees import write_tree
+from harness import TOP, check, command, library_joins, library_reads, program
 from texts import constant_question
 
 
@@ -114,8 +115,8 @@ def test_format():
             seen += ["join"]
         elif "zimorgal_height(a)" in row:
             check(name, program(constant_question(int(row["a"].strip("`"), 16)))[1], f"height {row['zimorgal_height(a)']}")
-            seen += ["height"]
-    due = {"answer no", "v00 (o*)", "reason 0", "reason 1", "reason 2", "reason 3 1", "tree", "join", "height"}
+            seen += [f"height {row['zimorgal_height(a)']}"]
+    due = {"answer no", "v00 (o*)", "reason 0", "reason 1", "reason 2", "reason 3 1", "tree", "join"} | {f"height {height}" for height in range(6)}
     due |= {f"4.5.{sentence}" for sentence in range(1, 6)} | {f"`{command}`" for command in ("30", "31", "32", "38", "39", "3A")}
     check("FORMAT.md has an example of everything", due | {f"refused {number}" for number in range(1, 11)}, set(seen))
 
@@ -133,6 +134,21 @@ def test_format_constants():
             check(f"FORMAT.md, {' | '.join(row.values())}: number", row["number"], refusals)
             seen.add(refusals)
     check("FORMAT.md has each refusal of a text and each order of two", seen, {"15", "16", "17", "15 before 16", "15 before 17", "16 before 17"})
+
+
+def test_format_joins():
+    """The joins in docs/FORMAT.md: of numbers, which are those of the library's call, and in 'let'."""
+    rows = list(tables((TOP / "docs" / "FORMAT.md").read_text()))
+    joins = [[int(cell.strip("`"), 16) for cell in row.values()] for row in rows if "zimorgal_join(a, b)" in row]
+    for (a, b, due), given in zip(joins, library_joins([(a, b) for a, b, _ in joins])):
+        check(f"FORMAT.md, {a:08X} join {b:08X}", given, due)
+    check("FORMAT.md says which bits are set in both numbers", [a & b for a, b, _ in joins], [0] * 6 + [1 << 0, 1 << 16, 1 << 31, (1 << 32) - 1])
+    lets = [[re.findall(r"`(.*?)`", cell) for cell in row.values()] for row in rows if "lines" in row]
+    for lines, [due] in lets:
+        status, out, errors = command("ask", "--bytes", "-", given="\n".join(["satisfiable", *lines]).encode())
+        found = errors[len("-:"):-len("\n")] if status else write_tree(read_question(out).constants[-1])
+        check(f"FORMAT.md, {lines}", found, due)
+    check("FORMAT.md has joins in 'let' and errors in them", [":" in due for _, [due] in lets], [False] * 3 + [True] * 3)
 
 
 def test_format_text():

@@ -14,7 +14,7 @@ from harness import TOP, check, command, program_says
 WORDS = ["satisfiable", "entails", "free", "own", "let", "if", "then", "not", "join", "is", "=", "o", "*", "(*o)", "(o*)", "(o *)", "(oo)", "((*o)o)",
          "(" * 7, ")", "(*", "a", "b", "c", "x", "y", "a", "b", "c", "a,", "7a", "0", "1", "#", "# o", "\t", "\r", "\ufeff", "\0", "\x1b[31m", "\u00e4",
          "\u2028", "\u202e", "\x85", "\xa0", "L", "L", "_", "a" * 300, "join join", "is not", "not a join b is", "a join b join c is", "may", "with", "write", "read",
-         "may write", "may read", "may not", "a with b", "a join b with"]
+         "may write", "may read", "may not", "a with b", "a join b with", "let L =", "let a = L join", "L join (o*)"]
 HEADS = ["satisfiable\nfree a b c\n", "entails\nfree a b\nown c x y\nlet L = (*o)\n", "entails\nfree a b c x y\nthen\n",
          "entails\nfree a may read\nown with write\nthen\n", ""]
 
@@ -61,7 +61,9 @@ def odd_texts():
             yield (head + sign * 20000).encode()
     for head, part, tail in (("satisfiable\nfree a\na", " join a", " is a"), ("satisfiable\nfree a\na join a is a", " join a", ""), ("satisfiable\nfree a\na is a", " join a", ""),
                              ("satisfiable\nfree a\nnot a", " join a", " is o"), ("satisfiable\nfree", " a", ""), ("satisfiable\nfree a", "\na is a", ""),
-                             ("satisfiable\nfree a\n(o", " (o", ""), ("satisfiable\nfree a\na is ((((((*o)o)o)o)o)", "o)", "")):
+                             ("satisfiable\nlet a = (*o)\nlet b = a", " join o", " join (o*)"), ("satisfiable\nlet a = *", " join *", ""),
+                             ("satisfiable\nlet a = o", " join", ""), ("satisfiable\nfree a\n(o", " (o", ""),
+                             ("satisfiable\nfree a\na is ((((((*o)o)o)o)o)", "o)", "")):
         yield (head + part * 5000 + tail).encode()
     for size in (0, 1, (1 << 20) - 1, 1 << 20):
         yield b"#" * size

@@ -11,7 +11,7 @@ from unittest import mock
 
 TOP = Path(__file__).resolve().parent.parent.parent
 FOLDER = tempfile.TemporaryDirectory()  # the commands run here, and tests write their files here
-READER = Path(FOLDER.name, "read_constants")  # a program that calls the library
+CALLER = Path(FOLDER.name, "call_library")  # a program that calls the library
 passed = failed = 0
 
 
@@ -81,13 +81,22 @@ def program_says(string):
     return "answer" if said in ("answer yes", "answer no") else said
 
 
-def build_reader(archive):
+def build_caller(archive):
     """Compiles the program that calls the library."""
     strict = ["-std=c99", "-Wall", "-Wextra", "-Werror", "-pedantic", "-Wconversion", f"-I{TOP / 'include'}"]
-    subprocess.run(["gcc", *strict, TOP / "tests" / "front_end" / "read_constants.c", archive, "-o", READER], check=True)
+    subprocess.run(["gcc", *strict, TOP / "tests" / "front_end" / "call_library.c", archive, "-o", CALLER], check=True)
+
+
+def library_calls(given):
+    """The numbers that the library's calls give, for input of call_library.c."""
+    return [int(line, 16) for line in subprocess.run([CALLER], input=given, stdout=subprocess.PIPE, check=True).stdout.split()]
 
 
 def library_reads(texts):
     """What the library's call on tree text gives for each of some byte strings."""
-    given = b"".join(b"%d:%b" % (len(text), text) for text in texts)
-    return [int(line, 16) for line in subprocess.run([READER], input=given, stdout=subprocess.PIPE, check=True).stdout.split()]
+    return library_calls(b"".join(b"%d:%b" % (len(text), text) for text in texts))
+
+
+def library_joins(pairs):
+    """What the library's join gives for each of some pairs of numbers."""
+    return library_calls(b"".join(b"%d+%d\n" % pair for pair in pairs))
