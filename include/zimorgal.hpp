@@ -341,7 +341,7 @@ using IfLeaves = std::enable_if_t<std::is_same_v<T, Leaves>, int>;
 
 }  // namespace detail
 
-// The join of two shares. It is undefined exactly if some leaf is full in both.
+// The join of two shares; none if it is undefined, which is exactly if some leaf is full in both.
 template <class Share, detail::IfLeaves<Share> = 0>
 [[nodiscard]] std::optional<Leaves> join(Share a, Share b) noexcept {
     const std::uint64_t number = zimorgal_join(a, b);
