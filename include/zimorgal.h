@@ -166,10 +166,11 @@ uint64_t zimorgal_text(const uint8_t *row, size_t row_length, uint8_t *text, siz
 ZIMORGAL_READS(1, 2)
 uint64_t zimorgal_constant(const uint8_t *text, size_t length);
 
-/* The join of two constants, as numbers with leaf i at bit i. Exactly 2^32 if it is undefined. */
+/* The join of two constants, as numbers with leaf i at bit i: their sum if no bit is set in both. Otherwise it is
+   undefined, and the result is exactly 2^32. It works on the numbers as wholes, without a loop over leaves. */
 uint64_t zimorgal_join(uint32_t a, uint32_t b);
 
-/* The height of a constant, 0 to 5. */
+/* The height of a constant, 0 to 5. It too works on the number as a whole. */
 uint32_t zimorgal_height(uint32_t a);
 
 /* The version of the library: major, minor and patch, a byte each, patch lowest. */

@@ -47,6 +47,7 @@
 #include <cstdint>
 #include <initializer_list>
 #include <iosfwd>
+#include <optional>
 #include <string>
 #include <string_view>
 #include <type_traits>
@@ -81,6 +82,7 @@ enum class Error : std::uint8_t {
     foreign_constant,       // of another question, or from before this one was started anew
     unknown_relation,       // a Relation that is none of the seven
     unknown_system,         // a System that is none of the two
+    undefined_join,         // a constant from a join that is undefined
 };
 
 constexpr std::string_view describe(Error error) noexcept {
@@ -99,6 +101,7 @@ constexpr std::string_view describe(Error error) noexcept {
         case Error::foreign_constant: return "a constant of another question, or from before this one was started anew";
         case Error::unknown_relation: return "a relation that is none of the seven";
         case Error::unknown_system: return "a system that is none of the two";
+        case Error::undefined_join: return "an undefined join";
     }
     return "unknown error";
 }
@@ -150,7 +153,7 @@ class Constant {
   public:
     constexpr Constant() noexcept = default;
 
-    // The share that it means.
+    // The share that it means; 0 if it names nothing.
     constexpr Leaves leaves() const noexcept { return leaves_; }
 
   private:
@@ -328,6 +331,32 @@ inline std::size_t place_of_fault(Error error, std::string_view text) noexcept {
 }
 Parsed from_text(std::nullptr_t) = delete;
 
+// ---------------------------------------------------------------- Join and height of constants
+
+namespace detail {
+
+// Leaves and nothing else: a character, bool or signed number would be taken for leaves without a word.
+template <class T>
+using IfLeaves = std::enable_if_t<std::is_same_v<T, Leaves>, int>;
+
+}  // namespace detail
+
+// The join of two shares; none if it is undefined, which is exactly if some leaf is full in both.
+template <class Share, detail::IfLeaves<Share> = 0>
+[[nodiscard]] std::optional<Leaves> join(Share a, Share b) noexcept {
+    const std::uint64_t number = zimorgal_join(a, b);
+    if (!zimorgal_join_defined(number)) return std::nullopt;
+    return zimorgal_join_leaves(number);
+}
+template <class A, class B, detail::IfTerms<A, B> = 0>
+std::optional<Leaves> join(A, B) = delete;  // a clause has three terms: join(a, b, c); constants join by leaves()
+
+// The height of a share, 0 to 5.
+template <class Share, detail::IfLeaves<Share> = 0>
+[[nodiscard]] unsigned height(Share leaves) noexcept {
+    return zimorgal_height(leaves);
+}
+
 // ---------------------------------------------------------------- Questions
 
 // Bytes to be read, kept by someone else.
@@ -350,11 +379,12 @@ struct NewConstant {
 
 namespace detail {
 
-// What is neither Leaves nor tree text: a character, bool or signed number would be taken for leaves without a word.
+// What is neither Leaves, nor tree text, nor what a join gives.
 template <class T>
-using IfNoShare = std::enable_if_t<!std::is_same_v<T, Leaves> && (!std::is_convertible_v<const T&, std::string_view> ||
-                                                                  std::is_null_pointer_v<T>),
-                                   int>;
+using IfNoShare =
+    std::enable_if_t<!is_one_of<T, std::optional<Leaves>, Leaves> &&
+                         (!std::is_convertible_v<const T&, std::string_view> || std::is_null_pointer_v<T>),
+                     int>;
 
 // A number that it gives only once.
 inline std::uint64_t next_identity() noexcept {
@@ -373,8 +403,8 @@ class Question {
         return start(Kind::entailment, free, own);
     }
 
-    // The constant with these leaves: the one that is there, otherwise the next. It may come after clauses: its bytes are
-    // put before them.
+    // The constant with these leaves, of this tree text, or of a join, constant(join(a, b)): the one that is there,
+    // otherwise the next. It may come after clauses: its bytes are put before them.
     [[nodiscard]] NewConstant constant(Leaves leaves) noexcept {
         std::size_t number = 0;
         while (number < constants_ && leaves_of(number) != leaves) ++number;
@@ -387,8 +417,12 @@ class Question {
         if (parsed.error != Error::none) return {parsed.error, {}, parsed.place};
         return constant(parsed.leaves);
     }
+    [[nodiscard]] NewConstant constant(std::optional<Leaves> joined) noexcept {
+        if (!joined) return {Error::undefined_join, {}, 0};
+        return constant(*joined);
+    }
     template <class Other, detail::IfNoShare<Other> = 0>
-    NewConstant constant(const Other&) = delete;  // a constant is made of Leaves (std::uint32_t) or of a tree text
+    NewConstant constant(const Other&) = delete;  // a constant is made of Leaves (std::uint32_t), a tree text or a join
     template <class Other = std::nullptr_t, detail::IfNoShare<Other> = 0>
     NewConstant constant(std::initializer_list<Other>) = delete;  // in braces too
 
@@ -515,8 +549,9 @@ class Draft {
     // A constant, also of the finished question. It names nothing if there is an error.
     [[nodiscard]] Constant constant(Leaves leaves) noexcept { return make(leaves); }
     [[nodiscard]] Constant constant(std::string_view text) noexcept { return make(text); }
+    [[nodiscard]] Constant constant(std::optional<Leaves> joined) noexcept { return make(joined); }
     template <class Other, detail::IfNoShare<Other> = 0>
-    Constant constant(const Other&) = delete;  // a constant is made of Leaves (std::uint32_t) or of a tree text
+    Constant constant(const Other&) = delete;  // a constant is made of Leaves (std::uint32_t), a tree text or a join
     template <class Other = std::nullptr_t, detail::IfNoShare<Other> = 0>
     Constant constant(std::initializer_list<Other>) = delete;  // in braces too
 
@@ -659,8 +694,8 @@ class Text : public detail::FixedText<ZIMORGAL_TEXT_BYTES> {
     explicit Text(Bytes row) noexcept { length_ = write_text(row, text_.data(), text_.size()).length; }
 };
 
-// The tree text of a constant. Only of Leaves, as with Question::constant.
-template <class Share, std::enable_if_t<std::is_same_v<Share, Leaves>, int> = 0>
+// The tree text of a constant.
+template <class Share, detail::IfLeaves<Share> = 0>
 [[nodiscard]] Text text_of(Share leaves) noexcept {
     std::array<std::uint8_t, ZIMORGAL_ROW_BYTES> row{};
     for (std::size_t i = 0; i < row.size(); ++i) row[i] = leaves >> i / 4 & 1 ? 0xFF : 0x00;
@@ -817,25 +852,6 @@ struct Answer {
 
 [[nodiscard]] inline Answer ask(const Question& question, Workspace& workspace) noexcept {
     return ask(question.bytes(), workspace);
-}
-
-// ---------------------------------------------------------------- Constants
-
-struct Joined {
-    bool defined;
-    Leaves leaves;  // 0 if undefined
-};
-
-// Both take Leaves and no other number.
-template <class Share, std::enable_if_t<std::is_same_v<Share, Leaves>, int> = 0>
-[[nodiscard]] Joined join_of(Share a, Share b) noexcept {
-    const std::uint64_t number = zimorgal_join(a, b);
-    return {zimorgal_join_defined(number) != 0, zimorgal_join_leaves(number)};
-}
-
-template <class Share, std::enable_if_t<std::is_same_v<Share, Leaves>, int> = 0>
-[[nodiscard]] unsigned height_of(Share leaves) noexcept {
-    return zimorgal_height(leaves);
 }
 
 }  // namespace zimorgal

@@ -5,6 +5,7 @@
 #include <iomanip>
 #include <limits>
 #include <new>
+#include <optional>
 #include <sstream>
 #include <string>
 #include <vector>
@@ -80,13 +81,15 @@ struct Corner : Point {};
 static constexpr bool equal(double a, double b) { return a <= b && b <= a; }
 static constexpr int not_equal(const Point&, const Point&) { return 7; }
 static constexpr long join(long a, long b, long c) { return a + b + c; }
+static constexpr long join(long a, long b) { return a * b; }
+static constexpr int height(const Point&) { return 10; }
 static constexpr double not_join(double a, double b, double c) { return a * b * c; }
 static constexpr int may_write(const Point&) { return 8; }
 static constexpr int may_read(const Point&) { return 9; }
 static constexpr long together(long a, long b) { return a - b; }
 static_assert(equal(1, 1) && !equal(0, 1) && join(1, 2, 3) == 6 && equal(not_join(1, 2, 3), 6), "not captured");
 static_assert(not_equal(Corner(), Corner()) == 7 && may_write(Corner()) == 8 && may_read(Corner()) == 9 &&
-                  together(5, 3) == 2,
+                  together(5, 3) == 2 && join(5, 3) == 15 && height(Corner()) == 10,
               "not captured");
 
 namespace {
@@ -120,7 +123,9 @@ static_assert(stands_second<decltype(join(own0, v0, c0))> && stands_second<declt
 static_assert(!stands_first<decltype(equal(Term(v0), c0))>, "a term known only at run time");
 static_assert(!stands_first<Clause> && !std::is_convertible_v<int, Term> && !std::is_convertible_v<Own, Free>);
 
-static_assert(noexcept(from_text(std::string_view())));
+static_assert(noexcept(from_text(std::string_view())) && noexcept(join(1u, 2u)) && noexcept(height(1u)));
+static_assert(std::is_same_v<decltype(join(1u, 2u)), std::optional<Leaves>>);
+static_assert(Error{13} == Error::unknown_system && Error{14} == Error::undefined_join, "errors keep their values");
 static_assert(describe(Verdict::no) == "no" && decode(2).verdict == Verdict::no, "at compile time too");
 
 // Variables from any integer; one out of range names nothing, and is no undefined behaviour.
@@ -216,6 +221,9 @@ void errors() {
     refused(sat, Error::not_folded, "a constant not folded", [&] { return sat.constant("(oo)").error; });
     refused(sat, Error::names_nothing, "a refused constant",
             [&] { return sat.first(equal(v0, sat.constant("(oo)").constant)); });
+    refused(sat, Error::undefined_join, "an undefined join", [&] { return sat.constant(join(3u, 6u)).error; });
+    refused(sat, Error::names_nothing, "the constant of an undefined join",
+            [&] { return sat.first(equal(v0, sat.constant(join(3u, 6u)).constant)); });
     refused(sat, Error::names_nothing, "free variable -1", [&] { return sat.first(equal(Free{-1}, v0)); });
     Free set{0};
     set.number = 256;
@@ -239,6 +247,9 @@ void limits() {
     refused(constants, Error::too_many_constants, "a 33rd constant", [&] { return constants.constant(32u).error; });
     take(constants.first(equal(last, take(constants.constant(0u)))));
     refused(constants, Error::too_many_constants, "a 33rd by text", [&] { return constants.constant("*").error; });
+    refused(constants, Error::too_many_constants, "a 33rd by a join",
+            [&] { return constants.constant(join(1u, 32u)).error; });
+    refused(constants, Error::undefined_join, "before a 33rd", [&] { return constants.constant(join(1u, 33u)).error; });
 
     // Of every sort some; one more of any sort is too many, whatever it names.
     const Clause positives[] = {equal(v0, v0), join(v0, v0, v0), may_write(v0), together(v0, v0)};
@@ -457,6 +468,8 @@ void whose_constant() {
                                                                 0x03, 0xFF, 0xFF, 0x00, 0x00, 0x12, 0x00, 0x20, 0x00},
           "equal constants are one");
     check(half.leaves() == 0x0000FFFF && Constant{}.leaves() == 0, "a constant says its share");
+    const Constant joined = take(question.constant(join(half.leaves(), 0xFFFF0000u)));
+    check(question.constants() == 2 && joined.leaves() == full_share, "and so is one from a join");
 
     // One kept over a start is refused, whatever the question has by then.
     Question again = question;
@@ -536,12 +549,36 @@ void drafts() {
     check(wrong.error() == Error::not_folded && wrong.step() == 1 && wrong.place() == 2, "the first error of a draft");
     check(wrong.finish(question) == Error::not_folded && copy(question) == before,
           "a draft with an error is not given");
+    check(wrong.constant(join(3u, 6u)).leaves() == 0 && wrong.error() == Error::not_folded && wrong.place() == 2,
+          "an undefined join comes after the first error");
 
     // A draft can go on after it was given.
     draft.second(equal(own0, half));
     Question longer;
     check(draft.finish(longer) == Error::none && copy(longer) == copy(question), "a draft goes on");
     check(Draft().finish(question) == Error::none && copy(question) == copy(Question()), "an empty draft");
+}
+
+void drafts_with_joins() {
+    Draft draft;
+    draft.start_satisfiability(1);
+    const Constant left = draft.constant("(*o)"), corner = draft.constant(0xFF000000u);
+    const Constant both = draft.constant(join(left.leaves(), corner.leaves()));
+    draft.first(equal(v0, both));
+    Question question;
+    check(draft.finish(question) == Error::none && draft.step() == 5 && both.leaves() == 0xFF00FFFF, "a join");
+    check(copy(question) == String{0x01, 0x00, 0x01, 0x00, 0x03, 0xFF, 0xFF, 0x00, 0x00, 0x03, 0x00, 0x00,
+                                   0x00, 0xFF, 0x03, 0xFF, 0xFF, 0x00, 0xFF, 0x12, 0x00, 0x22, 0x00},
+          "bytes of a join");
+
+    // An undefined join stays as the first error.
+    const Constant none = draft.constant(join(both.leaves(), left.leaves()));
+    check(none.leaves() == 0 && draft.error() == Error::undefined_join && draft.step() == 5 && draft.place() == 0,
+          "an undefined join");
+    check(draft.constant("(*(oo))").leaves() == 0 && draft.place() == 0, "no place of a text after it");
+    const String before = copy(question);
+    check(draft.first(equal(v0, none)).finish(question) == Error::undefined_join && copy(question) == before,
+          "a draft with an undefined join is not given");
 }
 
 // ---------------------------------------------------------------- Results
@@ -631,11 +668,11 @@ void results() {
 
     for (unsigned i = 0; i <= 17; ++i)
         check(describe(static_cast<Refusal>(i)) != "unknown refusal", "a text for refusal " + std::to_string(i));
-    for (unsigned i = 0; i <= 13; ++i)
+    for (unsigned i = 0; i <= 14; ++i)
         check(describe(static_cast<Error>(i)) != "unknown error", "a text for error " + std::to_string(i));
     check(describe(Error::not_tree_text) == describe(Refusal::not_tree_text),
           "no tree text, in the words of the C header");
-    check(describe(static_cast<Error>(14)) == "unknown error" &&
+    check(describe(static_cast<Error>(15)) == "unknown error" &&
               describe(static_cast<Verdict>(3)) == "unknown verdict" &&
               describe(static_cast<Refusal>(255)) == "unknown refusal" &&
               describe(static_cast<Reason>(4)) == "unknown reason",
@@ -793,7 +830,7 @@ class TextsCompared {
     }
 
     std::vector<std::string> wrong_{};
-    long seen_[14] = {};  // by error
+    long seen_[15] = {};  // by error
 };
 
 constexpr std::string_view signs = "o*()x";
@@ -920,12 +957,27 @@ void texts_in_buffers() {
     check(none.view().empty(), "no solution, no text");
 }
 
-void constants() {
-    const Joined halves = join_of(0x0000FFFFu, 0xFFFF0000u);
-    check(halves.defined && halves.leaves == full_share, "a join");
-    check(!join_of(3u, 6u).defined && join_of(3u, 6u).leaves == 0, "an undefined join");
-    check(height_of(0u) == 0 && height_of(full_share) == 0 && height_of(0x0000FFFFu) == 1 && height_of(1u) == 5,
-          "heights");
+// ---------------------------------------------------------------- Join and height of constants
+
+// Parts of a share join to it, in either order, and do not with one leaf that is full in both.
+void joins() {
+    check(join(0x0000FFFFu, 0xFFFF0000u) == full_share && join(empty_share, empty_share) == empty_share, "joins");
+    check(!join(3u, 6u) && !join(full_share, full_share), "undefined joins");
+    Random random;
+    long wrong = 0;
+    for (int i = 0; i < 3200; ++i) {
+        const Leaves share = random.leaves(), part = share & random.leaves(), rest = share & ~part;
+        const Leaves leaf = Leaves{1} << i % 32;
+        wrong += join(part, rest) != share || join(rest, part) != share || join(part | leaf, rest | leaf);
+    }
+    check(wrong == 0, "joins of parts: " + std::to_string(wrong) + " wrong");
+}
+
+void heights() {
+    const Leaves shares[] = {full_share, 0x0000FFFF, 0x00FF00FF, 0x0F0F0F0F, 0x33333333, 0x55555555};
+    for (unsigned tall = 0; tall < 6; ++tall)
+        check(height(shares[tall]) == tall && height(~shares[tall]) == tall, "height " + std::to_string(tall));
+    check(height(1u) == 5, "the height of one leaf");
 }
 
 // ---------------------------------------------------------------- Texts
@@ -967,6 +1019,8 @@ void no_heap() {
            question.second(not_equal(own0, v0)) == Error::none && question.second(equal(v0, half)) == Error::none;
     Draft draft;
     draft.start_satisfiability(1);
+    fine =
+        fine && draft.constant(join(half.leaves(), 0xFFFF0000u)).leaves() == full_share && height(half.leaves()) == 1;
     fine = fine && draft.error() == Error::none && draft.finish(drafted) == Error::none;
     fine = fine && from_text("(o").place == 2 && from_text("(o(oo))").place == 2 &&
            from_text("((((((o*)o)o)o)o)o)").place == 5;
@@ -990,6 +1044,7 @@ int main() {
     every_enum_value();
     whose_constant();
     drafts();
+    drafts_with_joins();
     results();
     policies();
     right_texts();
@@ -1000,7 +1055,8 @@ int main() {
     longest_texts();
     texts_of_leaves();
     texts_in_buffers();
-    constants();
+    joins();
+    heights();
     texts();
     no_heap();
     std::printf("%d passed, %d failed\n", passed, failed);

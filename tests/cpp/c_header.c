@@ -27,8 +27,22 @@ static void calls(void) {
         zimorgal_text(answer + zimorgal_row_offset(row), zimorgal_row_length(row), text, sizeof text);
     check(written == 4 && memcmp(text, "(o*)", 4) == 0, "the text of row 0 is (o*)");
     check(zimorgal_constant(text, zimorgal_text_length(written)) == 0xFFFF0000, "(o*) is read again");
+}
+
+static void joins_and_heights(void) {
+    const uint64_t undefined = (uint64_t)1 << 32;
     check(zimorgal_join(0x0000FFFF, 0xFFFF0000) == 0xFFFFFFFF, "the halves join to full");
-    check(zimorgal_join(1, 1) == (uint64_t)1 << 32, "an undefined join is 2^32");
+    check(zimorgal_join(0x40302010, 0x04030201) == 0x44332211, "a join is a sum");
+    check(zimorgal_join(0, 0) == 0, "empty with empty");
+    check(zimorgal_join(0xFFFFFFFF, 0xFFFFFFFF) == undefined, "full with full");
+    for (int leaf = 0; leaf < 32; ++leaf) {
+        const uint32_t one = (uint32_t)1 << leaf;
+        check(zimorgal_join(one, ~one) == 0xFFFFFFFF, "a leaf joins all others");
+        check(zimorgal_join(one, one) == undefined, "a leaf does not join itself");
+    }
+
+    const uint32_t by_height[] = {0xFFFFFFFF, 0x0000FFFF, 0x00FF00FF, 0x0F0F0F0F, 0x33333333, 0x55555555};
+    for (uint32_t height = 0; height < 6; ++height) check(zimorgal_height(by_height[height]) == height, "every height");
     check(zimorgal_height(1) == 5, "one leaf has height 5");
 }
 
@@ -125,6 +139,7 @@ static void nothing_lent(void) {
 
 int main(void) {
     calls();
+    joins_and_heights();
     tree_texts();
     version();
     fields();

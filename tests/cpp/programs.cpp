@@ -8,6 +8,7 @@
 // FOLDER: some questions are left there, as text (N.shares) and as bytes (N.bytes), and many as bytes with their meaning
 // (meanings, for tests/cpp/decoder); - for none. PROGRAMS: how many, 120 if not said; the same ones in every run. The
 // last line is 'N passed, M failed'.
+#include <array>
 #include <cstdio>
 #include <cstdlib>
 #include <fstream>
@@ -80,14 +81,20 @@ struct Put {
 };
 
 struct Step {
-    enum class Sort { satisfiability, entailment, leaves, text, add, first, second } sort;
+    enum class Sort { satisfiability, entailment, leaves, text, join, add, first, second } sort;
     std::size_t free = 0, own = 0;
-    Leaves leaves = 0;
+    Leaves leaves = 0;  // of a constant
     std::string text;
-    Error text_error = Error::none;
+    Leaves parts[2] = {};             // which are joined
+    Error share_error = Error::none;  // of the text or the join
     unsigned system = 0, relation = 0;
     std::vector<Put> terms;  // always three
+
+    bool gives_constant() const { return sort == Sort::leaves || sort == Sort::text || sort == Sort::join; }
 };
+
+// How often each error was due.
+using Seen = std::array<long, static_cast<std::size_t>(Error::undefined_join) + 1>;
 
 Error due_term(const Model& model, bool second, const Put& put, reader::Term& means) {
     const bool free = put.sort == reader::Sort::free, own = put.sort == reader::Sort::own;
@@ -152,10 +159,10 @@ Error due(Model& model, const Step& step) {
             model.question.own = static_cast<unsigned>(own);
             return Error::none;
         }
+        case Step::Sort::leaves:
         case Step::Sort::text:
-            if (step.text_error != Error::none) return step.text_error;
-            return due_constant(model, step.leaves);
-        case Step::Sort::leaves: return due_constant(model, step.leaves);
+        case Step::Sort::join:
+            return step.share_error != Error::none ? step.share_error : due_constant(model, step.leaves);
         default: return due_clause(model, step);
     }
 }
@@ -176,6 +183,7 @@ Error take(Question& question, const Step& step, Constant& constant) {
         case Step::Sort::entailment: return question.start_entailment(step.free, step.own);
         case Step::Sort::leaves: return keep(question.constant(step.leaves));
         case Step::Sort::text: return keep(question.constant(step.text));
+        case Step::Sort::join: return keep(question.constant(join(step.parts[0], step.parts[1])));
         case Step::Sort::add: return question.add(static_cast<System>(step.system), clause_of(step));
         case Step::Sort::first: return question.first(FirstClause{clause_of(step)});
         default: return question.second(clause_of(step));
@@ -188,6 +196,7 @@ void take(Draft& draft, const Step& step, Constant& constant) {
         case Step::Sort::entailment: draft.start_entailment(step.free, step.own); return;
         case Step::Sort::leaves: constant = draft.constant(step.leaves); return;
         case Step::Sort::text: constant = draft.constant(step.text); return;
+        case Step::Sort::join: constant = draft.constant(join(step.parts[0], step.parts[1])); return;
         case Step::Sort::add: draft.add(static_cast<System>(step.system), clause_of(step)); return;
         case Step::Sort::first: draft.first(FirstClause{clause_of(step)}); return;
         default: draft.second(clause_of(step)); return;
@@ -218,7 +227,7 @@ class Program {
         : random_(seed), starts_(seed % 2 == 0 ? 12 : 1000), wild_(seed % 3 == 0 ? 1000000 : 12) {}
 
     // Some steps on three questions. Gives how many were wrong. Some questions are left in a stream, if there is one.
-    long run(int steps, long (&seen)[14], std::ostream* meanings);
+    long run(int steps, Seen& seen, std::ostream* meanings);
 
     const Question& question() const { return questions_[0]; }
 
@@ -251,6 +260,29 @@ class Program {
         return {reader::Sort::share, 0, kept_[kept_.size() - 1 - random_.below(static_cast<unsigned>(among))]};
     }
 
+    // A constant by its leaves, as text, or as the join of two parts. Now and then a wrong text, or parts that have a
+    // leaf in common.
+    Step constant() {
+        const Step::Sort sorts[] = {Step::Sort::leaves, Step::Sort::text, Step::Sort::join};
+        Step step{};
+        step.sort = sorts[random_.below(3)];
+        step.leaves = leaves();
+        step.text = text_by_halves(step.leaves, 32);
+        step.parts[0] = step.leaves & leaves();
+        step.parts[1] = step.leaves & ~step.parts[0];
+        if (step.sort == Step::Sort::leaves || !random_.one_in(wild_)) return step;
+        if (step.sort == Step::Sort::text) {
+            const auto& wrong = wrong_texts[random_.below(6)];
+            step.text = wrong.text;
+            step.share_error = wrong.error;
+        } else {
+            const Leaves common = Leaves{1} << random_.below(32);
+            for (Leaves& part : step.parts) part |= common;
+            step.share_error = Error::undefined_join;
+        }
+        return step;
+    }
+
     Step step(const Model& model) {
         Step step{};
         if (random_.one_in(starts_) || model.question.free + model.question.own == 0) {
@@ -261,17 +293,7 @@ class Program {
             if (random_.one_in(wild_)) step.own = static_cast<std::size_t>(-1) - random_.below(13);
             return step;
         }
-        if (random_.one_in(5)) {
-            step.sort = random_.one_in(2) ? Step::Sort::leaves : Step::Sort::text;
-            step.leaves = leaves();
-            step.text = text_by_halves(step.leaves, 32);
-            if (step.sort == Step::Sort::text && random_.one_in(wild_)) {
-                const auto& wrong = wrong_texts[random_.below(6)];
-                step.text = wrong.text;
-                step.text_error = wrong.error;
-            }
-            return step;
-        }
+        if (random_.one_in(5)) return constant();
         step.system = random_.below(2);
         step.sort = random_.one_in(2) ? Step::Sort::add : step.system == 0 ? Step::Sort::first : Step::Sort::second;
         step.relation = random_.below(std::size(reader::sorts));
@@ -283,7 +305,7 @@ class Program {
 
     // What a step gave is kept, with what it is to mean.
     bool keep(const Step& step, const Model& model, Error error, Constant constant) {
-        if (step.sort != Step::Sort::leaves && step.sort != Step::Sort::text) return true;
+        if (!step.gives_constant()) return true;
         if (error != Error::none) return constant.leaves() == 0;
         const auto& constants = model.question.constants;
         std::size_t number = 0;
@@ -292,8 +314,8 @@ class Program {
         return constant.leaves() == step.leaves;
     }
 
-    bool take_step(std::size_t which, long (&seen)[14]);
-    bool take_draft(std::size_t which, long (&seen)[14]);
+    bool take_step(std::size_t which, Seen& seen);
+    bool take_draft(std::size_t which, Seen& seen);
     bool means_its_model(std::size_t which) const;
     bool reads_damage_alike(std::size_t which);
 
@@ -351,7 +373,7 @@ std::string meaning(const reader::Question& question) {
 
 // ---------------------------------------------------------------- Running
 
-bool Program::take_step(std::size_t which, long (&seen)[14]) {
+bool Program::take_step(std::size_t which, Seen& seen) {
     const Step next = step(models_[which]);
     const std::vector<std::uint8_t> before = copy(questions_[which]);
     const Error expected = due(models_[which], next);
@@ -363,7 +385,7 @@ bool Program::take_step(std::size_t which, long (&seen)[14]) {
 }
 
 // A whole question by a draft, put in the place of another one if there was no error.
-bool Program::take_draft(std::size_t which, long (&seen)[14]) {
+bool Program::take_draft(std::size_t which, Seen& seen) {
     Draft draft;
     Model model;
     Error first = Error::none;
@@ -416,7 +438,7 @@ bool Program::reads_damage_alike(std::size_t which) {
     return static_cast<unsigned>(result.refusal) == reading.refusal && result.place == reading.place;
 }
 
-long Program::run(int steps, long (&seen)[14], std::ostream* meanings) {
+long Program::run(int steps, Seen& seen, std::ostream* meanings) {
     long wrong = 0;
     Workspace workspace;
     for (int i = 0; i < steps; ++i) {
@@ -478,7 +500,7 @@ Question longest_text() {
 int main(int count, char** words) {
     const std::string folder = count > 1 && std::string(words[1]) != "-" ? words[1] : "";
     const int enough = 120, programs = count > 2 ? std::atoi(words[2]) : enough;
-    long seen[14] = {};
+    Seen seen{};
     std::ofstream meanings;
     if (!folder.empty()) meanings.open(folder + "/meanings");
     for (int seed = 0; seed < programs; ++seed) {
@@ -487,7 +509,7 @@ int main(int count, char** words) {
         check(wrong == 0, "program " + std::to_string(seed) + ": " + std::to_string(wrong) + " steps are wrong");
         if (!folder.empty() && seed < 10) leave(folder, seed, program.question());
     }
-    for (unsigned i = 0; i < 14 && programs >= enough; ++i)
+    for (unsigned i = 0; i < seen.size() && programs >= enough; ++i)
         check(seen[i] > 20, "the programs meet: " + std::string(describe(static_cast<Error>(i))));
     check(meanings.flush().good(), "the meanings are written");
     const Question longest = longest_text();
