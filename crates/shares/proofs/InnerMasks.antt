@@ -1,21 +1,20 @@
--- The height of a constant is tested with the table of masks. Assumes nothing.
+-- The masks with which the height of a constant is tested. Assumes nothing.
 use mathlib.Core.Path.{_≡_}
-use mathlib.Core.Logic.{_↔_}
-use mathlib.Core.Bool.{Bool, _&&_, Bool·beq}
+use mathlib.Core.Bool.{Bool, cond, _&&_, Bool·beq}
 use mathlib.Core.List.{List, [], _∷_}
-use Prim.Native.Nat.{ℕ, _/_, _^_, _≤_, _<_}
+use Prim.Native.Nat.{ℕ, suc, _/_, _^_, _<_, min}
 use native.Mathlib.Nat.{le-of-lt}
 use lib.Bits.{bitAnd, bitXor}
-use lib.Dec.{T, ltb, ltb→lt}
+use lib.Dec.{T, ltb, eqb, ltb→lt}
 use lib.ListN.{getD}
 use Rattle.shares.specs.Test.{and-left, and-right, beq-iff}
 use Rattle.shares.specs.Below.{everyBelow}
 use Rattle.shares.specs.BelowLaws.{every-at}
 use Rattle.shares.specs.Tree.{height}
 use Rattle.shares.specs.Constant.{constantLevels, bit, numberTree}
-use Rattle.shares.specs.ConstantLaws.{inner, InnerMask, height-mask-iff}
+use Rattle.shares.specs.ConstantLaws.{inner, InnerMask, height-more}
 
-abbrev pub masks : List ℕ
+abbrev masks : List ℕ
 masks = 0x7FFFFFFF ∷ 0x7FFF7FFF ∷ 0x7F7F7F7F ∷ 0x77777777 ∷ 0x55555555 ∷ []
 
 -- the rule of the table as a test
@@ -37,6 +36,7 @@ masks-right h l =
           (every-at (2 ^ constantLevels) same (and-right (ltb m (2 ^ (2 ^ constantLevels))) _ t) i u),
     )
 
--- a constant is no taller than h exactly if no leaf differs from its neighbour under mask h
-pub constant-height-iff : (h a : ℕ) → h < constantLevels → (height (numberTree constantLevels a) ≤ h) ↔ (bitAnd (bitXor a (a / 2)) (getD masks h 0) ≡ 0)
-constant-height-iff h a l = height-mask-iff h constantLevels a (getD masks h 0) (le-of-lt l) (masks-right h l)
+-- one test more, of what differs under mask h, raises what was found before to h + 1 or leaves it
+pub above-more : (h a : ℕ) {before : ℕ} → h < constantLevels → before ≡ min h (height (numberTree constantLevels a))
+    → cond (eqb (bitAnd (bitXor a (a / 2)) (getD masks h 0)) 0) before (suc h) ≡ min (suc h) (height (numberTree constantLevels a))
+above-more h a l = height-more h constantLevels a (getD masks h 0) _ (le-of-lt l) (masks-right h l)

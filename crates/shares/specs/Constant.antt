@@ -1,14 +1,18 @@
 -- Constants: numbers as trees, with leaf i at bit i. Assumes nothing.
-use mathlib.Core.Bool.{Bool}
+use mathlib.Core.Bool.{Bool, _&&_}
 use mathlib.Core.List.{List, [], _∷_}
 use Prim.Native.Nat.{ℕ, zero, suc, _+_, _*_, _/_, _%_, _^_}
 use lib.Dec.{eqb}
-use Rattle.shares.specs.Below.{one}
+use Rattle.shares.specs.Below.{one, someBelow}
 use Rattle.shares.specs.Tree.{Tree, leafAt, treeOf}
 
 -- bit i of a number, lowest first
 unfoldable pub bit : ℕ → ℕ → Bool
 bit n i = eqb (n / 2 ^ i % 2) 1
+
+-- some bit of the first w is set in both numbers
+unfoldable pub setInBoth : ℕ → ℕ → ℕ → Bool
+setInBoth w a b = someBelow w (λ i. bit a i && bit b i)
 
 -- the number of w bits that has f i as its bit i
 unfoldable pub numberOf : ℕ → (ℕ → Bool) → ℕ

@@ -3,22 +3,22 @@ use mathlib.Core.Path.{_≡_, refl, sym, ap, ap₂, _∙_, subst}
 use mathlib.Core.Bool.{Bool, true, false, not, cond, _&&_, _||_, xor}
 use mathlib.Core.Logic.{_↔_, _⊎_, inl, inr}
 use mathlib.Core.Option.{none, some}
-use Prim.Native.Nat.{ℕ, zero, suc, _+_, _-_, _*_, _/_, _%_, _^_, _≤_, _<_}
+use Prim.Native.Nat.{ℕ, zero, suc, _+_, _-_, _*_, _/_, _%_, _^_, _≤_, _<_, min}
 use native.Mathlib.Decide.{ℕ-discrete}
 use native.Mathlib.Nat.{zero-div, zero-mul, div-add-mod', mod-lt, lt-of-le-of-lt}
 use native.Mathlib.Omega.{arith}
 use lib.Arith.{digits-div}
-use lib.Bits.{bitAnd, bitXor, or-disjoint, and-lt, and-le-r}
-use lib.Dec.{T, ltb, eqb, ltb→lt, lt→ltb, eqb→eq, eqb-refl}
+use lib.Bits.{bitAnd, bitXor, or-disjoint, or-lt, and-lt, and-le-r}
+use lib.Dec.{T, ltb, eqb, ltb→lt, lt→ltb, eqb→eq, eqb-refl, T-not, not-T}
 use lib.Pow.{pow-pos}
 use borrow.Author.Tests.{eq-eqb, ne-eqb}
-use Rattle.shares.specs.Test.{is-false, and-intro, and-left, and-right}
-use Rattle.shares.specs.BelowLaws.{Below, some-or}
+use Rattle.shares.specs.Test.{is-true, is-false, passes, and-intro, and-left, and-right}
+use Rattle.shares.specs.BelowLaws.{Below, some-intro, some-found}
 use Rattle.shares.specs.Blocks.{blockOf, firstOf}
 use Rattle.shares.specs.Tree.{Tree, leaf, Folded, height, leafAt, treeOf, joinLeaf, joins, join}
 use Rattle.shares.specs.TreeLaws.{treeOf-folded, treeOf-height, leafAt-treeOf, leafAt-leaf, treeOf-ext, treeOf-leafAt, height-iff}
 use Rattle.shares.specs.JoinLaws.{join-iff, join-none-iff}
-use Rattle.shares.specs.Constant.{bit, numberTree, treeNumber}
+use Rattle.shares.specs.Constant.{bit, setInBoth, numberTree, treeNumber}
 use Rattle.shares.specs.BitLaws.{bit-and, bit-or, bit-xor, bit-half, bit-zero, bits-same, bits-zero, number-lt, bit-number}
 use Rattle.shares.specs.BitParts.{bit-ones}
 
@@ -61,14 +61,33 @@ joins-either true false t = tt
 joins-either false true t = tt
 joins-either false false t = tt
 
+module _ (w x y : ℕ) where
+  shared-iff : T (setInBoth w x y) ↔ Below w (λ i. bit x i && bit y i)
+  unfolding setInBoth
+  shared-iff = (some-found w _, λ (i, l, t). some-intro w _ i l t)
+
+  module _ (hx : x < 2 ^ w) (hy : y < 2 ^ w) where
+    apart : T (not (setInBoth w x y)) → bitAnd x y ≡ 0
+    apart t =
+        bits-zero w (bitAnd x y) (and-lt w x y hx hy)
+        (λ i l. bit-and x y i ∙ is-false (bit x i && bit y i) (not-T (bit x i && bit y i) (λ u. T-not (setInBoth w x y) t (shared-iff .1 (i, l, u)))))
+
+    overlapping : T (setInBoth w x y) → ¬ (bitAnd x y ≡ 0)
+    overlapping t e = let (i, l, u) = shared-iff .0 t in subst T (sym (bit-and x y i) ∙ ap (λ n. bit n i) e ∙ bit-zero i) u
+
+    -- some bit is set in both exactly if x & y is not 0
+    pub set-in-both : setInBoth w x y ≡ not (eqb (bitAnd x y) 0)
+    set-in-both = go (passes (setInBoth w x y))
+      where
+        go : T (setInBoth w x y) ⊎ T (not (setInBoth w x y)) → setInBoth w x y ≡ not (eqb (bitAnd x y) 0)
+        go (inl t) = rw (ne-eqb (bitAnd x y) 0 (overlapping t)) (is-true (setInBoth w x y) t)
+        go (inr t) = rw (eq-eqb (bitAnd x y) 0 (apart t)) (is-false (setInBoth w x y) t)
+
+    -- if none is, the sum has no more bits
+    pub sum-lt : T (not (setInBoth w x y)) → x + y < 2 ^ w
+    sum-lt t = rw (← (or-disjoint x y (apart t))) (or-lt w x y hx hy)
+
 module _ (k x y : ℕ) (hx : x < 2 ^ (2 ^ k)) (hy : y < 2 ^ (2 ^ k)) where
-  -- some bit is set in both exactly if x & y is not 0
-  apart : ((i : ℕ) → i < 2 ^ k → T (not (bit x i && bit y i))) → bitAnd x y ≡ 0
-  apart f = bits-zero (2 ^ k) (bitAnd x y) (and-lt (2 ^ k) x y hx hy) (λ i l. bit-and x y i ∙ is-false (bit x i && bit y i) (f i l))
-
-  overlapping : Below (2 ^ k) (λ i. bit x i && bit y i) → ¬ (bitAnd x y ≡ 0)
-  overlapping (i, l, t) e = subst T (sym (bit-and x y i) ∙ ap (λ n. bit n i) e ∙ bit-zero i) t
-
   -- the join is undefined exactly if some bit is set in both
   pub join-undefined-iff : (join (numberTree k x) (numberTree k y) ≡ none) ↔ Below (2 ^ k) (λ i. bit x i && bit y i)
   join-undefined-iff =
@@ -86,14 +105,14 @@ module _ (k x y : ℕ) (hx : x < 2 ^ (2 ^ k)) (hy : y < 2 ^ (2 ^ k)) where
       rw (leaf-number k x i l, leaf-number k y i l, leaf-number k (x + y) i l, ← (or-disjoint x y e), bit-or x y i)
       (joins-either (bit x i) (bit y i) apart-i))
 
-  -- both at once, as a test on the numbers as wholes
-  pub join-numbers : join (numberTree k x) (numberTree k y) ≡ cond (eqb (bitAnd x y) 0) (some (numberTree k (x + y))) none
-  join-numbers = go (some-or (2 ^ k) (λ i. bit x i && bit y i))
+  -- the law of the join of two numbers, both at once
+  pub join-numbers : join (numberTree k x) (numberTree k y) ≡ cond (setInBoth (2 ^ k) x y) none (some (numberTree k (x + y)))
+  join-numbers = go (passes (setInBoth (2 ^ k) x y))
     where
-      go : Below (2 ^ k) (λ i. bit x i && bit y i) ⊎ ((i : ℕ) → i < 2 ^ k → T (not (bit x i && bit y i)))
-          → join (numberTree k x) (numberTree k y) ≡ cond (eqb (bitAnd x y) 0) (some (numberTree k (x + y))) none
-      go (inl b) = rw (ne-eqb (bitAnd x y) 0 (overlapping b)) (join-undefined-iff .1 b)
-      go (inr f) = rw (eq-eqb (bitAnd x y) 0 (apart f)) (join-sum (apart f))
+      go : T (setInBoth (2 ^ k) x y) ⊎ T (not (setInBoth (2 ^ k) x y))
+          → join (numberTree k x) (numberTree k y) ≡ cond (setInBoth (2 ^ k) x y) none (some (numberTree k (x + y)))
+      go (inl t) = rw (is-true (setInBoth (2 ^ k) x y) t) (join-undefined-iff .1 (shared-iff (2 ^ k) x y .0 t))
+      go (inr t) = rw (is-false (setInBoth (2 ^ k) x y) t) (join-sum (apart (2 ^ k) x y hx hy t))
 
 -- ---- the height of a number
 
@@ -157,7 +176,7 @@ abbrev pub InnerMask : ℕ → ℕ → ℕ → Type 0
 InnerMask h w m = (m < 2 ^ (2 ^ w)) × ((i : ℕ) → i < 2 ^ w → bit m i ≡ inner h w i)
 
 -- with that mask the height is a test on the number as a whole: leaves that differ from their neighbours are the bits of x ^ (x >> 1)
-pub height-mask-iff : (h w x m : ℕ) → h ≤ w → InnerMask h w m
+height-mask-iff : (h w x m : ℕ) → h ≤ w → InnerMask h w m
     → (height (numberTree w x) ≤ h) ↔ (bitAnd (bitXor x (x / 2)) m ≡ 0)
 height-mask-iff h w x m le M = (λ low. masked (neighbours-iff h w (bit x) le .0 low), λ e. neighbours-iff h w (bit x) le .1 (same e))
   where
@@ -173,3 +192,14 @@ height-mask-iff h w x m le M = (λ low. masked (neighbours-iff h w (bit x) le .0
     same e i t =
         let l : suc i < 2 ^ w = ltb→lt (suc i) (2 ^ w) (and-left (ltb (suc i) (2 ^ w)) _ t) in
         same-under (bit x i) (bit x (suc i)) (inner h w i) .0 (sym (bit-i i (omega arith)) ∙ ap (λ n. bit n i) e ∙ bit-zero i) t
+
+-- so a test for each h, from the lowest, gives the height: one that fails raises what was found before
+pub height-more : (h w x m before : ℕ) → h ≤ w → InnerMask h w m → before ≡ min h (height (numberTree w x))
+    → cond (eqb (bitAnd (bitXor x (x / 2)) m) 0) before (suc h) ≡ min (suc h) (height (numberTree w x))
+height-more h w x m before le M b = go (ℕ-discrete (bitAnd (bitXor x (x / 2)) m) 0)
+  where
+    go : Dec (bitAnd (bitXor x (x / 2)) m ≡ 0) → cond (eqb (bitAnd (bitXor x (x / 2)) m) 0) before (suc h) ≡ min (suc h) (height (numberTree w x))
+    go (yes e) = rw (eq-eqb _ 0 e) (omega (arith, height-mask-iff h w x m le M .1 e))
+    go (no n) =
+        let taller : ¬ (height (numberTree w x) ≤ h) = λ low. n (height-mask-iff h w x m le M .0 low) in
+        rw (ne-eqb _ 0 n) (omega arith)

@@ -1,19 +1,20 @@
 -- Laws of the other calls' numbers: what they hold is read back from them. Assumes nothing.
 use mathlib.Core.Path.{_≡_, refl, sym, ap, _∙_}
+use mathlib.Core.Bool.{Bool, true, false, not, cond}
 use mathlib.Core.List.{List}
-use mathlib.Core.Option.{Option·some-injective, Option·none-ne-some}
+use mathlib.Core.Logic.{_⊎_, inl, inr}
+use mathlib.Core.Option.{none, some}
 use Prim.Native.Nat.{ℕ, _+_, _*_, _/_, _%_, _^_, _≤_, _<_}
-use native.Mathlib.Decide.{ℕ-discrete}
 use native.Mathlib.Omega.{arith}
 use borrow.Author.Tests.{eq-eqb, ne-eqb}
+use lib.Dec.{T}
 use lib.ListN.{length, take, drop}
-use Rattle.shares.specs.Tree.{leafAt}
-use Rattle.shares.specs.TreeLaws.{treeOf-folded, treeOf-height, leafAt-treeOf}
+use Rattle.shares.specs.Test.{is-true, is-false, passes}
+use Rattle.shares.specs.Tree.{join}
+use Rattle.shares.specs.TreeLaws.{treeOf-folded, treeOf-height}
 use Rattle.shares.specs.Text.{text}
-use Rattle.shares.specs.Constant.{constantLevels, bit, numberTree}
-use Rattle.shares.specs.BitLaws.{bits-same}
-use Rattle.shares.specs.Answer.{joinOf}
-use Rattle.shares.specs.declared.Joined.{Joined}
+use Rattle.shares.specs.Constant.{constantLevels, bit, numberTree, setInBoth}
+use Rattle.shares.specs.ConstantLaws.{sum-lt, join-numbers}
 use Rattle.shares.specs.declared.Joined.the-variants.{Constant, Undefined}
 use Rattle.rows.specs.Rows.{rowLevels, answerBytes, rowOf, rowRange, rowPart}
 use Rattle.rows.specs.declared.Range.{Range}
@@ -26,7 +27,7 @@ use Rattle.constants.specs.FromText.{constantRefusal, constantGiven, fromText}
 use Rattle.constants.specs.FromTextLaws.{written-read, read-written}
 use Rattle.constants.specs.declared.FromText.{FromText}
 use Rattle.constants.specs.declared.FromText.the-variants as given
-use Rattle.zimorgal.specs.Calls.{rangeNumber, textNumber, constantNumber, undefinedJoin, numberJoin}
+use Rattle.zimorgal.specs.Calls.{rangeNumber, textNumber, constantNumber, undefinedJoin, numberJoin, joinNumber}
 
 -- the offset and the length of the row call, and the bytes of that range, which are the part that is handed back
 module _ (answer : List ℕ) (v : ℕ) (r : Range) (e : r ≡ rowRange (rowLevels constantLevels) (length answer) v) where
@@ -71,21 +72,23 @@ module _ (levels n : ℕ) where
   pub row-written : (s : List ℕ) → fromText levels s ≡ given.Constant n → rowText (rowLevels levels) (rowOf (rowLevels levels) (numberTree levels n)) ≡ s
   row-written s e = constant-row-text ∙ read-written levels s n e .1
 
--- a number up to that of no join is known by the join that it stands for, so the join call's contract leaves one number
-pub join-only : (levels n m : ℕ) → n ≤ undefinedJoin levels → m ≤ undefinedJoin levels → numberJoin levels n ≡ numberJoin levels m → n ≡ m
-join-only levels n m ln lm e = go (ℕ-discrete n no-join) (ℕ-discrete m no-join)
-  where
-    no-join : ℕ
-    no-join = undefinedJoin levels
+-- the number of a join, told by the numbers, stands for the join of their trees, for every number of levels
+module _ (levels a b : ℕ) (ha : a < undefinedJoin levels) (hb : b < undefinedJoin levels) where
+  pub join-told : (r : ℕ) → r ≡ cond (setInBoth (2 ^ levels) a b) (undefinedJoin levels) (a + b)
+      → (r ≤ undefinedJoin levels) × (numberJoin levels r ≡ join (numberTree levels a) (numberTree levels b))
+  join-told r e = go (passes (setInBoth (2 ^ levels) a b))
+    where
+      told : (s : Bool) → setInBoth (2 ^ levels) a b ≡ s
+          → (r ≡ cond s (undefinedJoin levels) (a + b)) × (join (numberTree levels a) (numberTree levels b) ≡ cond s none (some (numberTree levels (a + b))))
+      told s h = rw (← h) (e, join-numbers levels a b ha hb)
 
-    go : Dec (n ≡ no-join) → Dec (m ≡ no-join) → n ≡ m
-    go (yes a) (yes b) = omega arith
-    go (yes a) (no b) = absurd (Option·none-ne-some _ (rw (eq-eqb n no-join a, ne-eqb m no-join b) at e))
-    go (no a) (yes b) = absurd (Option·none-ne-some _ (sym (rw (ne-eqb n no-join a, eq-eqb m no-join b) at e)))
-    go (no a) (no b) =
-        let same : numberTree levels n ≡ numberTree levels m = Option·some-injective _ _ (rw (ne-eqb n no-join a, ne-eqb m no-join b) at e) in
-        bits-same (2 ^ levels) n m (omega arith) (omega arith)
-        (λ i l. sym (leafAt-treeOf levels (bit n) i l) ∙ ap (λ t. leafAt levels t i) same ∙ leafAt-treeOf levels (bit m) i l)
+      go : T (setInBoth (2 ^ levels) a b) ⊎ T (not (setInBoth (2 ^ levels) a b))
+          → (r ≤ undefinedJoin levels) × (numberJoin levels r ≡ join (numberTree levels a) (numberTree levels b))
+      go (inl t) = let (n, j) = told true (is-true _ t) in (omega arith, rw (eq-eqb r (undefinedJoin levels) n, j) refl)
+      go (inr t) =
+          let (n, j) = told false (is-false _ t) in
+          let low : a + b < undefinedJoin levels = sum-lt (2 ^ levels) a b ha hb t in
+          (omega arith, rw (ne-eqb r (undefinedJoin levels) (omega arith), j, n) refl)
 
 -- ---- the cases
 
@@ -95,10 +98,6 @@ text-written w n e = rw e (omega arith)
 pub text-refused : (w : Written) (n x : ℕ) → w ≡ Refused n → x ≡ n → 4294967296 * x ≡ textNumber w
 text-refused w n x e h = rw e (omega arith)
 
-pub join-defined : (levels : ℕ) (j : Joined) (n : ℕ) → n < undefinedJoin levels → j ≡ Constant n
-    → (n ≤ undefinedJoin levels) × (numberJoin levels n ≡ joinOf levels j)
-join-defined levels j n l e = (omega arith, rw (e, ne-eqb n (undefinedJoin levels) (omega arith)))
-
-pub join-none : (levels : ℕ) (j : Joined) (n : ℕ) → n ≡ undefinedJoin levels → j ≡ Undefined
-    → (n ≤ undefinedJoin levels) × (numberJoin levels n ≡ joinOf levels j)
-join-none levels j n l e = (omega arith, rw (e, eq-eqb n (undefinedJoin levels) l))
+pub join-number : (levels : ℕ) (s : Bool) (n : ℕ) → joinNumber levels (cond s Undefined (Constant n)) ≡ cond s (undefinedJoin levels) n
+join-number levels true n = refl
+join-number levels false n = refl

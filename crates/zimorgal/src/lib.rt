@@ -4,11 +4,11 @@ use constants::FromText;
 use shares::Joined;
 use text::Written;
 ghost use mathlib.Core.Path.{_≡_};
-ghost use Prim.Native.Nat.{_≤_, _/_, _%_, _^_};
+ghost use mathlib.Core.Bool.{cond};
+ghost use Prim.Native.Nat.{_≤_, _+_, _/_, _%_, _^_};
 ghost use lib.ListN.{length, take, drop};
 ghost use Rattle.shares.specs.Tree.{height, join};
-ghost use Rattle.shares.specs.Constant.{constantLevels, numberTree};
-ghost use Rattle.shares.specs.Answer.{joinOf};
+ghost use Rattle.shares.specs.Constant.{constantLevels, numberTree, setInBoth};
 ghost use Rattle.systems.specs.Questions as model;
 ghost use Rattle.rows.specs.Rows.{rowLevels, rowRange, rowPart};
 ghost use Rattle.text.specs.Texts.{textAnswer, textAfter};
@@ -18,7 +18,7 @@ ghost use Rattle.asking.specs.Exact.{Exact};
 ghost use Rattle.asking.specs.Demand3.{Demand3};
 ghost use Rattle.zimorgal.specs.Packing.{packed, unpacked};
 ghost use Rattle.zimorgal.specs.PackingLaws.{InBytes};
-ghost use Rattle.zimorgal.specs.Calls.{rangeNumber, textNumber, constantNumber, undefinedJoin, numberJoin, versionNumber};
+ghost use Rattle.zimorgal.specs.Calls.{rangeNumber, textNumber, constantNumber, undefinedJoin, numberJoin, joinNumber, versionNumber};
 
 // The result as one number: each field is multiplied to its bytes.
 fn pack(outcome: Outcome) -> u64
@@ -97,17 +97,19 @@ fn constant_number(read: FromText) -> u64
     }
 }
 
-// The join of two constants in the low 32 bits; 2^32 where it is undefined.
+// The join of two constants in the low 32 bits, 2^32 where it is undefined; all leaves at once: undefined exactly where some bit is set in
+// both, and otherwise their sum.
 #[no_mangle]
 pub extern "C" fn zimorgal_join(a: u32, b: u32) -> u64
-    ensures { λ r. ⌜ (r ≤ undefinedJoin constantLevels) × (numberJoin constantLevels r ≡ join (numberTree constantLevels a) (numberTree constantLevels b)) ⌝ }
+    ensures tree { λ r. ⌜ (r ≤ undefinedJoin constantLevels) × (numberJoin constantLevels r ≡ join (numberTree constantLevels a) (numberTree constantLevels b)) ⌝ }
+    ensures numbers { λ r. ⌜ r ≡ cond (setInBoth (2 ^ constantLevels) a b) (undefinedJoin constantLevels) (a + b) ⌝ }
 {
     join_number(shares::join_constants(a, b))
 }
 
 // The number of a join.
 fn join_number(joined: Joined) -> u64
-    ensures { λ r. ⌜ (r ≤ undefinedJoin constantLevels) × (numberJoin constantLevels r ≡ joinOf constantLevels joined) ⌝ }
+    ensures { λ r. ⌜ r ≡ joinNumber constantLevels joined ⌝ }
 {
     match joined {
         Joined::Constant(n) => n as u64,
@@ -115,7 +117,7 @@ fn join_number(joined: Joined) -> u64
     }
 }
 
-// The height of a constant.
+// The height of a constant, all leaves at once.
 #[no_mangle]
 pub extern "C" fn zimorgal_height(a: u32) -> u32
     ensures { λ r. ⌜ r ≡ height (numberTree constantLevels a) ⌝ }

@@ -1,64 +1,44 @@
--- `shares::constant_height` meets its contract. The loop's invariant: the height is no less than h. Assumes nothing.
-use Prim.Native.Nat.{_≤_, _-_, zero-le}
-use native.Mathlib.Nat.{le-antisymm}
+-- `shares::constant_height` meets its contract: after the test of each mask the lower of its height and the constant's is found. Assumes nothing.
+use mathlib.Core.Path.{_∙_}
 use native.Mathlib.Omega.{arith}
-use Rattle.shares.specs.Tree.{height}
+use borrow.Author.Needs.{needs}
 use Rattle.shares.specs.TreeLaws.{treeOf-height}
-use Rattle.shares.specs.Constant.{constantLevels, bit, numberTree}
-use Rattle.shares.proofs.InnerMasks.{constant-height-iff}
+use Rattle.shares.specs.Constant.{constantLevels, bit}
+use Rattle.shares.proofs.InnerMasks.{above-more}
 use Rattle.shares.proofs.constant_height.Statement.{statement}
 use Rattle.shares.proofs.constant_height.Tie as tie
 
-abbrev Inv-loop : tie.InvT-loop
-Inv-loop a differs h₀ h = (h ≤ 5) × (h ≤ height (numberTree constantLevels a))
+above-requires : tie.Need-above-requires
+above-requires c κs = search needs
 
-abbrev μ-loop : tie.MeasureT-loop
-μ-loop a differs h₀ h = 5 - h
+above-requires-2 : tie.Need-above-requires-2
+above-requires-2 c κs = search needs
 
-loop-holds : tie.Need-loop-holds Inv-loop μ-loop
-loop-holds c = (omega arith, zero-le)
+above-requires-3 : tie.Need-above-requires-3
+above-requires-3 c κs = search needs
 
-mul-if1 : tie.Need-mul-if1 Inv-loop μ-loop
-mul-if1 c = omega arith
+above-requires-4 : tie.Need-above-requires-4
+above-requires-4 c κs = search needs
 
-array-read-if1 : tie.Need-array-read-if1 Inv-loop μ-loop
-array-read-if1 c = omega arith
+above-requires-5 : tie.Need-above-requires-5
+above-requires-5 c κs = search needs
 
-cast-result : tie.Need-cast-result Inv-loop μ-loop
-cast-result c = omega arith
-
-returns : tie.Need-returns Inv-loop μ-loop
+returns : tie.Need-returns
 returns c =
-    le-antisymm (c .before .before .loop .inv .1)
-    (constant-height-iff (c .before .before .loop .h) (c .before .before .before .args .a) (c .before .loop-test .taken) .1 (c .if1 .taken))
-
-add-h : tie.Need-add-h Inv-loop μ-loop
-add-h c = omega arith
-
-loop-less : tie.Need-loop-less Inv-loop μ-loop
-loop-less c = omega arith
-
-loop-again : tie.Need-loop-again Inv-loop μ-loop
-loop-again c =
-    let taller : ¬ (height (numberTree constantLevels (c .before .before .before .args .a)) ≤ c .before .before .loop .h) =
-    λ low. c .if1 .left (constant-height-iff (c .before .before .loop .h) _ (c .before .loop-test .taken) .0 low) in
-    (omega arith, omega arith)
-
-returns-2 : tie.Need-returns-2 Inv-loop μ-loop
-returns-2 c = omega (arith, treeOf-height constantLevels (bit (c .before .before .args .a)))
+    let a = c .before .before .before .before .before .args .a in
+    let one = c .before .before .before .before .above .ensures ∙ above-more 0 a (omega arith) (omega arith) in
+    let two = c .before .before .before .above2 .ensures ∙ above-more 1 a (omega arith) one in
+    let three = c .before .before .above3 .ensures ∙ above-more 2 a (omega arith) two in
+    let four = c .before .above4 .ensures ∙ above-more 3 a (omega arith) three in
+    c .above5 .ensures ∙ above-more 4 a (omega arith) four ∙ omega (arith, treeOf-height constantLevels (bit a))
 
 pub constant-height-spec : {M : Type 1} → statement M
 constant-height-spec =
     tie.close
     (tie.spec
-    Inv-loop
-    μ-loop
-    loop-holds
-    mul-if1
-    array-read-if1
-    cast-result
-    returns
-    add-h
-    loop-less
-    loop-again
-    returns-2)
+    above-requires
+    above-requires-2
+    above-requires-3
+    above-requires-4
+    above-requires-5
+    returns)

@@ -1,6 +1,11 @@
--- `zimorgal::zimorgal_join` gives the join by its number. Assumes nothing.
-use mathlib.Core.Path.{_∙_}
+-- `zimorgal::zimorgal_join` gives the join by its number: the law of the join of two numbers, at 32 leaves. Assumes nothing.
+use mathlib.Core.Path.{ap, _∙_}
+use Prim.Native.Nat.{_+_, _^_}
+use native.Mathlib.Omega.{arith}
 use borrow.Author.Needs.{needs}
+use Rattle.shares.specs.Constant.{constantLevels, setInBoth}
+use Rattle.zimorgal.specs.Calls.{joinNumber}
+use Rattle.zimorgal.specs.CallLaws.{join-told, join-number}
 use Rattle.zimorgal.proofs.zimorgal_join.Statement.{statement}
 use Rattle.zimorgal.proofs.zimorgal_join.Tie as tie
 
@@ -11,7 +16,13 @@ join-number-requires : tie.Need-join-number-requires
 join-number-requires c κs = search needs
 
 returns : tie.Need-returns
-returns c = (c .join-number .ensures .0, c .join-number .ensures .1 ∙ c .before .join-constants .ensures)
+returns c =
+    let a = c .before .before .args .a in
+    let b = c .before .before .args .b in
+    let told =
+    c .join-number .ensures ∙ ap (joinNumber constantLevels) (c .before .join-constants .ensures .1)
+        ∙ join-number constantLevels (setInBoth (2 ^ constantLevels) a b) (a + b) in
+    (join-told constantLevels a b (omega arith) (omega arith) _ told, told)
 
 pub zimorgal-join-spec : {M : Type 1} → statement M
 zimorgal-join-spec = tie.close (tie.spec join-constants-requires join-number-requires returns)
