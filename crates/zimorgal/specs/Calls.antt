@@ -5,8 +5,6 @@ use Prim.Native.Nat.{ℕ, _+_, _*_, _^_}
 use lib.Dec.{eqb}
 use Rattle.shares.specs.Tree.{Tree}
 use Rattle.shares.specs.Constant.{numberTree}
-use Rattle.shares.specs.declared.Joined.{Joined}
-use Rattle.shares.specs.declared.Joined.the-variants.{Constant, Undefined}
 use Rattle.rows.specs.declared.Range.{Range}
 use Rattle.text.specs.Texts.{textLength, textRefusal}
 use Rattle.text.specs.declared.Written.{Written}
@@ -32,11 +30,6 @@ undefinedJoin levels = 2 ^ (2 ^ levels)
 -- the tree that the number of a join of such constants stands for
 abbrev pub numberJoin : ℕ → ℕ → Option Tree
 numberJoin levels n = cond (eqb n (undefinedJoin levels)) none (some (numberTree levels n))
-
--- the number of what joining them gives
-abbrev pub joinNumber : ℕ → Joined → ℕ
-joinNumber levels (Constant n) = n
-joinNumber levels Undefined = undefinedJoin levels
 
 -- a version's three numbers, a byte each, the last lowest
 abbrev pub versionNumber : ℕ → ℕ → ℕ → ℕ

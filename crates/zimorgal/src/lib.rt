@@ -18,7 +18,8 @@ ghost use Rattle.asking.specs.Exact.{Exact};
 ghost use Rattle.asking.specs.Demand3.{Demand3};
 ghost use Rattle.zimorgal.specs.Packing.{packed, unpacked};
 ghost use Rattle.zimorgal.specs.PackingLaws.{InBytes};
-ghost use Rattle.zimorgal.specs.Calls.{rangeNumber, textNumber, constantNumber, undefinedJoin, numberJoin, joinNumber, versionNumber};
+ghost use Rattle.zimorgal.specs.Calls.{rangeNumber, textNumber, constantNumber, undefinedJoin, numberJoin, versionNumber};
+ghost use Rattle.zimorgal.specs.CallLaws.{joinNumber};
 
 // The result as one number: each field is multiplied to its bytes.
 fn pack(outcome: Outcome) -> u64
