@@ -37,10 +37,13 @@ pub fn text_due(row: &[u8], text_bytes: usize) -> (u64, Vec<u8>) {
     (text.len() as u64, text)
 }
 
+/// What an undefined join gives.
+pub const UNDEFINED: u64 = 1 << 32;
+
 /// The join in the low half, or exactly 2^32.
 pub fn join_due(a: u32, b: u32) -> u64 {
     let joined = tree_of_number(a).join(&tree_of_number(b));
-    joined.map_or(1 << 32, |tree| u64::from(number_of_tree(&tree)))
+    joined.map_or(UNDEFINED, |tree| u64::from(number_of_tree(&tree)))
 }
 
 /// The number that reading a text is to give.
