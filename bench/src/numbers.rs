@@ -11,7 +11,7 @@ use std::iter::repeat_with;
 use std::time::Duration;
 
 const INPUTS: usize = 1000;
-/// How often a round goes over all inputs, so that reading the clock costs nothing beside it.
+/// How often a round has all inputs, so that reading the clock costs nothing beside it.
 const TIMES: usize = 20;
 
 /// The bytes of an input are its numbers, each lowest byte first.
@@ -88,18 +88,28 @@ pub fn singles() -> [Family; 3] {
     ]
 }
 
+/// The inputs of a round: all of them so often, each time in another order, so that the processor does not learn what comes next.
+fn round_of<const COUNT: usize>(family: &Family) -> Vec<[u32; COUNT]> {
+    let mut random = Random::new(113);
+    let mut inputs: Vec<[u32; COUNT]> = family.inputs.iter().map(|i| numbers(i)).collect();
+    let mut round = Vec::new();
+    for _ in 0..TIMES {
+        shuffle(&mut random, &mut inputs);
+        round.extend(&inputs);
+    }
+    round
+}
+
 /// The nanoseconds per input of a call. The inputs are read beforehand, and a call does not wait for what the one before it gave.
 pub fn time<const COUNT: usize>(
     family: &Family,
     long: Duration,
     call: impl Fn([u32; COUNT]) -> u64,
 ) -> f64 {
-    let inputs: Vec<[u32; COUNT]> = family.inputs.iter().map(|i| numbers(i)).collect();
-    median_of_rounds(TIMES * inputs.len(), long, || {
-        for _ in 0..TIMES {
-            let given = black_box(&inputs).iter().map(|input| call(*input));
-            black_box(given.fold(0, u64::wrapping_add));
-        }
+    let inputs = round_of(family);
+    median_of_rounds(inputs.len(), long, || {
+        let given = black_box(&inputs).iter().map(|input| call(*input));
+        black_box(given.fold(0, u64::wrapping_add));
     })
 }
 
