@@ -42,19 +42,20 @@ const JOINS: [(&str, Join); 15] = [
     ("b less a", |a, b| {
         unless(a & b, u64::from(b.wrapping_sub(a)))
     }),
-    ("2^32 - 1 for undefined", |a, b| match a & b {
-        0 => u64::from(a | b),
-        _ => UNDEFINED - 1,
-    }),
-    ("0 for undefined", |a, b| match a & b {
-        0 => u64::from(a | b),
-        _ => 0,
-    }),
-    ("undefined beside leaves", |a, b| match a & b {
-        0 => u64::from(a | b),
-        _ => UNDEFINED + u64::from(a | b),
+    ("2^32 - 1 for undefined", |a, b| told(a, b, UNDEFINED - 1)),
+    ("0 for undefined", |a, b| told(a, b, 0)),
+    ("undefined beside leaves", |a, b| {
+        told(a, b, UNDEFINED + u64::from(a | b))
     }),
 ];
+
+/// The join, with "undefined" told by this number.
+fn told(a: u32, b: u32, undefined: u64) -> u64 {
+    match a & b {
+        0 => u64::from(a | b),
+        _ => undefined,
+    }
+}
 
 /// Undefined unless this is 0.
 fn unless(shared: u32, joined: u64) -> u64 {
@@ -151,27 +152,15 @@ fn slips_noticed(report: &mut Report) {
     for round in 0..report.rounds(10_000) {
         let (a, b) = some_pair(&mut random, round);
         let results = (join(report, a, b), library::join(a, b));
-        note(
-            report,
-            &mut joins,
-            results,
-            JOINS.map(|(_, slip)| slip(a, b)),
-        );
+        let by_slips = JOINS.map(|(_, slip)| slip(a, b));
+        note(report, &mut joins, results, by_slips);
         let a = some_number(&mut random, round);
         let results = (height(report, a), library::height(a));
-        note(
-            report,
-            &mut heights,
-            results,
-            HEIGHTS.map(|(_, slip)| slip(a)),
-        );
+        let by_slips = HEIGHTS.map(|(_, slip)| slip(a));
+        note(report, &mut heights, results, by_slips);
     }
-    enough(report, "joins", JOINS.map(|(name, _)| name), joins, 30);
-    enough(
-        report,
-        "heights",
-        HEIGHTS.map(|(name, _)| name),
-        heights,
-        30,
-    );
+    let names = JOINS.map(|(name, _)| name);
+    enough(report, "joins", names, joins, 30);
+    let names = HEIGHTS.map(|(name, _)| name);
+    enough(report, "heights", names, heights, 30);
 }
