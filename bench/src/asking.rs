@@ -1,7 +1,8 @@
-//! Calls the library with the questions or texts of a family, in rounds.
+//! Calls the library with the inputs of a family, in rounds.
 
 use crate::families::Family;
 use crate::lines::Call;
+use crate::numbers::numbers;
 use brute::judge::ANSWER_BYTES;
 use brute::library::{self, ASK_WORK_BYTES};
 use std::hint::black_box;
@@ -30,22 +31,37 @@ impl Buffers {
         black_box(match call {
             Call::Ask => library::ask(bytes, &mut self.answer, &mut self.work),
             Call::Constant => library::constant(bytes),
+            Call::Join => {
+                let [a, b] = numbers(bytes);
+                library::join(a, b)
+            }
+            Call::Height => {
+                let [a] = numbers(bytes);
+                u64::from(library::height(a))
+            }
         })
     }
 }
 
 /// Calls with all inputs in rounds for so long, once at least; gives the nanoseconds per input of the median round.
 pub fn median_round<T>(family: &Family, long: Duration, mut call: impl FnMut(&[u8]) -> T) -> f64 {
-    let mut rounds = Vec::new();
-    let began = Instant::now();
-    while rounds.is_empty() || (began.elapsed() < long && rounds.len() < MOST_ROUNDS) {
-        let round = Instant::now();
+    median_of_rounds(family.inputs.len(), long, || {
         for input in &family.inputs {
             call(input);
         }
-        rounds.push(round.elapsed());
+    })
+}
+
+/// The same of rounds with so many calls each.
+pub fn median_of_rounds(calls: usize, long: Duration, mut round: impl FnMut()) -> f64 {
+    let mut rounds = Vec::new();
+    let began = Instant::now();
+    while rounds.is_empty() || (began.elapsed() < long && rounds.len() < MOST_ROUNDS) {
+        let round_began = Instant::now();
+        round();
+        rounds.push(round_began.elapsed());
     }
     rounds.sort();
     let median = rounds[rounds.len() / 2];
-    median.as_nanos() as f64 / family.inputs.len() as f64
+    median.as_nanos() as f64 / calls as f64
 }

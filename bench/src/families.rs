@@ -22,7 +22,7 @@ use std::ops::Range;
 
 pub struct Family {
     pub name: String,
-    /// Questions, or the tree texts of src/texts.rs.
+    /// Questions, the tree texts of src/texts.rs, or the numbers of src/numbers.rs.
     pub inputs: Vec<Vec<u8>>,
 }
 

@@ -1,4 +1,4 @@
-//! Counts instructions inside zimorgal_ask and zimorgal_constant with valgrind's callgrind.
+//! Counts instructions inside the measured calls with valgrind's callgrind.
 
 use crate::asking::Buffers;
 use crate::lines;
@@ -7,19 +7,23 @@ use std::io::ErrorKind;
 use std::path::{Path, PathBuf};
 use std::process::Command;
 
-/// The argument with which this program asks all questions once.
+/// The argument with which this program calls once with each input.
 pub const ASK_ONCE: &str = "ask-once";
 
 /// The calls inside which instructions are counted.
-const CALLS: [&str; 2] = ["zimorgal_ask", "zimorgal_constant"];
+const CALLS: [&str; 4] = [
+    "zimorgal_ask",
+    "zimorgal_constant",
+    "zimorgal_join",
+    "zimorgal_height",
+];
 
 /// Settings of the C library: no `rep stosb` and no `rep movsb` in its memset and memcpy. Callgrind would count the one
 /// that clears the work area 4,096 times.
 const NO_REPEATS: &str = "glibc.cpu.x86_rep_stosb_threshold=1000000000:\
                            glibc.cpu.x86_rep_movsb_threshold=1000000000";
 
-/// Asks all questions and reads all texts once, for callgrind. Prints of each family whether the library has its call; if not, nothing
-/// is counted.
+/// Calls once with each input, for callgrind. Prints of each family whether the library has its call; if not, nothing is counted.
 pub fn ask_once() {
     let mut buffers = Buffers::new();
     for line in lines::all() {

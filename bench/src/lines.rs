@@ -1,7 +1,9 @@
-//! The lines of the table: families of questions, which are asked, and of tree texts, from which constants are read.
+//! The lines of the table: families of questions, which are asked, of tree texts, from which constants are read, and of constants,
+//! which are joined in pairs, or measured.
 
+use crate::asking::{median_round, Buffers};
 use crate::families::{self, Family};
-use crate::{plain_reader, route_b, texts};
+use crate::{by_leaves, numbers, plain_reader, route_b, texts};
 use brute::library;
 use std::time::Duration;
 
@@ -13,13 +15,15 @@ const LONG_ENOUGH: Duration = Duration::from_millis(150);
 pub enum Call {
     Ask,
     Constant,
+    Join,
+    Height,
 }
 
 impl Call {
     /// Whether the library that is linked has it.
     pub fn is_there(self) -> bool {
         match self {
-            Call::Ask => true,
+            Call::Ask | Call::Join | Call::Height => true,
             Call::Constant => library::reads_text(),
         }
     }
@@ -31,19 +35,39 @@ pub struct Line {
 }
 
 impl Line {
-    /// The library must say what it is compared with says: route B, or the plain reader.
+    /// The library must say what it is compared with says: route B, the plain reader, or a loop over the leaves.
     pub fn must_agree(&self) {
         match self.call {
             Call::Ask => route_b::must_agree(&self.family),
             Call::Constant => plain_reader::must_agree(&self.family),
+            Call::Join => by_leaves::joins_must_agree(&self.family),
+            Call::Height => by_leaves::heights_must_agree(&self.family),
         }
     }
 
-    /// The nanoseconds per question or text of what it is compared with, unless that takes too long.
-    pub fn time_compared(&self) -> Option<f64> {
+    /// The library's nanoseconds per input, from rounds for so long.
+    pub fn time(&self, long: Duration) -> f64 {
+        let family = &self.family;
         match self.call {
-            Call::Ask => route_b::time(&self.family, LONG_ENOUGH),
-            Call::Constant => Some(plain_reader::time(&self.family, LONG_ENOUGH)),
+            Call::Ask | Call::Constant => {
+                let mut buffers = Buffers::new();
+                median_round(family, long, |bytes| buffers.call(self.call, bytes))
+            }
+            Call::Join => numbers::time(family, long, |[a, b]| library::join(a, b)),
+            Call::Height => numbers::time(family, long, |[a]| u64::from(library::height(a))),
+        }
+    }
+
+    /// The nanoseconds per input of what it is compared with, unless that takes too long.
+    pub fn time_compared(&self) -> Option<f64> {
+        let (family, long) = (&self.family, LONG_ENOUGH);
+        match self.call {
+            Call::Ask => route_b::time(family, long),
+            Call::Constant => Some(plain_reader::time(family, long)),
+            Call::Join => Some(numbers::time(family, long, |[a, b]| by_leaves::join(a, b))),
+            Call::Height => Some(numbers::time(family, long, |[a]| {
+                u64::from(by_leaves::height(a))
+            })),
         }
     }
 }
@@ -52,5 +76,7 @@ pub fn all() -> Vec<Line> {
     let line = |call| move |family| Line { call, family };
     let asked = families::all().into_iter().map(line(Call::Ask));
     let read = texts::all().into_iter().map(line(Call::Constant));
-    asked.chain(read).collect()
+    let joined = numbers::pairs().into_iter().map(line(Call::Join));
+    let measured = numbers::singles().into_iter().map(line(Call::Height));
+    asked.chain(read).chain(joined).chain(measured).collect()
 }

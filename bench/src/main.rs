@@ -1,11 +1,13 @@
-//! Prints one table: nanoseconds and instructions per question or tree text for the library, and nanoseconds for route B or a plain
-//! reader, family by family. The library must be linked: set ZIMORGAL_LIB_DIR to the folder of libzimorgal.a. A second archive is
-//! measured beside it through this same program, built with that one.
+//! Prints one table: nanoseconds and instructions per question, tree text, join or height for the library, and nanoseconds for route B,
+//! a plain reader or a loop over the leaves, family by family. The library must be linked: set ZIMORGAL_LIB_DIR to the folder of
+//! libzimorgal.a. A second archive is measured beside it through this same program, built with that one.
 
 mod asking;
+mod by_leaves;
 mod families;
 mod instructions;
 mod lines;
+mod numbers;
 mod plain_reader;
 mod route_b;
 mod table;

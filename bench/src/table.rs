@@ -6,6 +6,9 @@ use crate::route_b::TOO_LONG;
 use crate::turns::{by_turns, Program};
 use std::path::Path;
 
+const LEGEND: &str = "ns and instructions: per question, tree text, join or height
+compared: route B of tests/brute, a plain reader of tree text, a loop over the 32 leaves";
+
 /// An archive that is measured.
 struct Archive {
     program: Program,
@@ -21,13 +24,10 @@ impl Archive {
         }
     }
 
-    /// The instructions per question or text.
+    /// The instructions per input.
     fn instructions(&self, number: usize, line: &Line) -> String {
         match &self.counts {
-            Ok(counts) => {
-                let count = counts[number] as f64 / line.family.inputs.len() as f64;
-                format!("{count:.0}")
-            }
+            Ok(counts) => few_digits(counts[number] as f64 / line.family.inputs.len() as f64),
             Err(_) => "-".to_string(),
         }
     }
@@ -50,6 +50,7 @@ pub fn print(other: Option<&Path>) {
         let inputs = line.family.inputs.len();
         print_line(&line.family.name, &inputs.to_string(), &cells);
     }
+    println!("{LEGEND}");
     if differs {
         println!("differs: the other archive gives another result or has no such call, and is not measured");
     }
@@ -82,7 +83,7 @@ fn head(with_other: bool) -> Vec<String> {
     cells.concat().into_iter().map(String::from).collect()
 }
 
-/// The nanoseconds per question or text of each archive; none where it gives other results than the first.
+/// The nanoseconds per input of each archive; none where it gives other results than the first.
 fn times(number: usize, archives: &mut [Archive]) -> Vec<Option<f64>> {
     let programs = archives.iter_mut().map(|archive| &mut archive.program);
     let results: Vec<String> = programs.map(|program| program.results(number)).collect();
@@ -107,7 +108,7 @@ fn cells(number: usize, line: &Line, archives: &[Archive], times: &[Option<f64>]
     let mut cells = Vec::new();
     for (archive, time) in archives.iter().zip(times) {
         cells.extend(match time {
-            Some(ns) => [nanoseconds(*ns), archive.instructions(number, line)],
+            Some(ns) => [few_digits(*ns), archive.instructions(number, line)],
             None => ["differs".to_string(), "differs".to_string()],
         });
     }
@@ -116,19 +117,20 @@ fn cells(number: usize, line: &Line, archives: &[Archive], times: &[Option<f64>]
     cells
 }
 
-/// With a digit behind the point where there are few.
-fn nanoseconds(ns: f64) -> String {
-    if ns < 100.0 {
-        format!("{ns:.1}")
-    } else {
-        format!("{ns:.0}")
-    }
+/// With a digit behind the point below 100, and two below 10.
+fn few_digits(number: f64) -> String {
+    let behind = match number {
+        n if n < 10.0 => 2,
+        n if n < 100.0 => 1,
+        _ => 0,
+    };
+    format!("{number:.behind$}")
 }
 
 /// The nanoseconds of what the library is compared with, and how many times the library's they are.
 fn compared_cells(line: &Line, by_library: f64) -> [String; 2] {
     match line.time_compared() {
-        Some(ns) => [nanoseconds(ns), format!("{:.1}", ns / by_library)],
+        Some(ns) => [few_digits(ns), format!("{:.1}", ns / by_library)],
         None => {
             let least = TOO_LONG.as_nanos() as f64;
             let ratio = least / by_library;

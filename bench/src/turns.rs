@@ -1,6 +1,6 @@
-//! Programs, each linked with one archive, that go through the questions or texts of a line by turns.
+//! Programs, each linked with one archive, that go through the inputs of a line by turns.
 
-use crate::asking::{median_round, Buffers};
+use crate::asking::Buffers;
 use crate::lines::{self, Line};
 use std::io::{stdin, BufRead, BufReader, Write};
 use std::path::Path;
@@ -26,13 +26,13 @@ pub fn serve() {
         let line = &lines[number.parse::<usize>().expect("a number")];
         match wanted {
             RESULTS => println!("{}", results(line)),
-            TIME => println!("{}", time(line)),
+            TIME => println!("{}", line.time(TURN)),
             _ => panic!("{input}"),
         }
     }
 }
 
-/// What the library gives for each question or text, in hexadecimal digits; nothing where it has no such call.
+/// What the library gives for each input, in hexadecimal digits; nothing where it has no such call.
 fn results(line: &Line) -> String {
     if !line.call.is_there() {
         return String::new();
@@ -42,11 +42,6 @@ fn results(line: &Line) -> String {
     let results = inputs.map(|bytes| buffers.call(line.call, bytes));
     let digits: Vec<String> = results.map(|result| format!("{result:016X}")).collect();
     digits.concat()
-}
-
-fn time(line: &Line) -> f64 {
-    let mut buffers = Buffers::new();
-    median_round(&line.family, TURN, |bytes| buffers.call(line.call, bytes))
 }
 
 /// A program that serves. It ends when its input ends.
@@ -84,7 +79,7 @@ impl Program {
         line.trim_end().to_string()
     }
 
-    /// What the library that is linked there gives for each question or text of a line.
+    /// What the library that is linked there gives for each input of a line.
     pub fn results(&mut self, number: usize) -> String {
         self.answer(RESULTS, number)
     }
@@ -101,7 +96,7 @@ impl Drop for Program {
     }
 }
 
-/// The nanoseconds per question or text of each program's median turn. The programs take turns.
+/// The nanoseconds per input of each program's median turn. The programs take turns.
 pub fn by_turns(programs: &mut [&mut Program], number: usize) -> Vec<f64> {
     let mut times = vec![Vec::new(); programs.len()];
     for _ in 0..TURNS {

@@ -1,21 +1,17 @@
-//! Families of the calls beside asking: the row of a variable, tree text, join and height of constants. What is due
-//! comes from the plain trees.
+//! What is due of the calls beside asking, which comes from the plain trees, and families of two of them: the row of a variable
+//! and tree text.
 
 use crate::judge::{ANSWER_BYTES, ROW_BYTES};
 use crate::lent::{Lent, CONTENTS};
 use crate::library::{self, LONGEST_TEXT};
-use crate::make::{random_leaves, random_row};
+use crate::make::random_row;
 use crate::question::{hex, MOST_VARIABLES};
 use crate::random::Random;
 use crate::report::{Family, Report};
 use crate::tree::{number_of_tree, tree_of_number, tree_of_row};
 use crate::tree_text::{constant_of_text, packed};
 
-pub const FAMILIES: &[Family] = &[
-    ("the row call", rows),
-    ("the text call", texts),
-    ("join and height of constants", constants),
-];
+pub const FAMILIES: &[Family] = &[("the row call", rows), ("the text call", texts)];
 
 /// The row of a variable: its offset in the low half, its length in the high one; 0 for the empty part.
 pub fn row_due(answer_bytes: usize, variable: usize) -> u64 {
@@ -37,10 +33,13 @@ pub fn text_due(row: &[u8], text_bytes: usize) -> (u64, Vec<u8>) {
     (text.len() as u64, text)
 }
 
+/// What an undefined join gives.
+pub const UNDEFINED: u64 = 1 << 32;
+
 /// The join in the low half, or exactly 2^32.
 pub fn join_due(a: u32, b: u32) -> u64 {
     let joined = tree_of_number(a).join(&tree_of_number(b));
-    joined.map_or(1 << 32, |tree| u64::from(number_of_tree(&tree)))
+    joined.map_or(UNDEFINED, |tree| u64::from(number_of_tree(&tree)))
 }
 
 /// The number that reading a text is to give.
@@ -142,29 +141,4 @@ fn texts(report: &mut Report) {
     }
     let longest = tree_of_row(&[0x55; ROW_BYTES]).text().len();
     report.same_apart("the longest text", longest, LONGEST_TEXT);
-}
-
-fn constants(report: &mut Report) {
-    let mut random = report.random();
-    let mut undefined = 0;
-    for round in 0..report.rounds(30_000) {
-        let a = random_leaves(&mut random, 5);
-        let b = match round % 3 {
-            0 => random_leaves(&mut random, 5),
-            1 => random_leaves(&mut random, 5) & !a,
-            _ => !a,
-        };
-        let due = join_due(a, b);
-        undefined += usize::from(due == 1 << 32);
-        report.same("join", (a, b, library::join(a, b)), (a, b, due));
-        report.same("height", (a, library::height(a)), (a, height_due(a)));
-    }
-    for bit in 0..32 {
-        let a = 1 << bit;
-        report.same("a join of two full leaves", library::join(a, a), 1 << 32);
-        report.same("height of one leaf", library::height(a), 5);
-        report.same("join with empty", library::join(a, 0), u64::from(a));
-        report.same("join to full", library::join(a, !a), 0xFFFF_FFFF);
-    }
-    report.same_apart("some joins were undefined", undefined > 1000, true);
 }

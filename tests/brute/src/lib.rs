@@ -6,25 +6,28 @@
 //! - `single`: route B, one choice of values at a time, leaf by leaf;
 //! - `fixed`, `least`, `slips`: the fixed solution by its words, by whole trees, and with one word misread;
 //! - `tree_text`, `typed`, `wrong_readers`: a reader of tree text, texts for it, and readers with one word misread;
+//! - `halves`, `wrong_joins`: join and height of constants by another route than `tree`, and with one word misread;
 //! - `judge`: whether shown rows are a solution, and do not extend for the reason given;
 //! - `random`, `make`, `hidden`, `damage`, `worked`, `refusals`, `limits`, `every_byte`: questions and bytes;
 //! - `draft`, `pinned`: questions whose answer is told by how they were built;
 //! - `library`, `lent`, `due`, `asking`: the exported calls, what is lent to them and what they are to give;
 //! - `options`, `report`, `seen`: what a run is told, what it counts and what it must have seen;
 //! - `plain`, `routes`, `judging`: families of the solver alone;
-//! - `calls`, `reading`, `documents`, `by_hand`, `before`, `made`, `misread`, `policies`, `splits`, `numbers`, `terms`, `loose`:
-//!   families of the library.
+//! - `calls`, `constants`, `reading`, `documents`, `by_hand`, `before`, `made`, `misread`, `policies`, `splits`, `numbers`, `terms`,
+//!   `loose`: families of the library.
 
 pub mod asking;
 pub mod before;
 pub mod by_hand;
 pub mod calls;
+pub mod constants;
 pub mod damage;
 pub mod documents;
 pub mod draft;
 pub mod due;
 pub mod every_byte;
 pub mod fixed;
+pub mod halves;
 pub mod hidden;
 pub mod judge;
 pub mod judging;
@@ -57,6 +60,7 @@ pub mod tree_text;
 pub mod typed;
 pub mod whole;
 pub mod worked;
+pub mod wrong_joins;
 pub mod wrong_readers;
 
 use report::Family;
@@ -65,6 +69,8 @@ use report::Family;
 /// table of tests/README.md.
 pub const WITH_THE_LIBRARY: &[&[Family]] = &[
     calls::FAMILIES,
+    constants::FAMILIES,
+    wrong_joins::FAMILIES,
     reading::FAMILIES,
     wrong_readers::FAMILIES,
     documents::FAMILIES,

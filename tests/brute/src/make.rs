@@ -34,6 +34,16 @@ pub const ALL_CLAUSES: Counts = Counts {
     policies: true,
 };
 
+/// Leaves as a number: the low 2^`height` of these bits, unfolded to height 5.
+pub fn unfolded_bits(bits: u64, height: u32) -> u32 {
+    let times = 32 >> height;
+    let mut leaves = 0;
+    for leaf in 0..32 {
+        leaves |= (((bits >> (leaf / times)) % 2) as u32) << leaf;
+    }
+    leaves
+}
+
 /// Leaves as a number, unfolded to height 5, of a tree no taller than `height`.
 pub fn random_leaves(random: &mut Random, height: u32) -> u32 {
     let height = random.below(height as usize + 1) as u32;
@@ -43,12 +53,7 @@ pub fn random_leaves(random: &mut Random, height: u32) -> u32 {
         2 => random.number() | random.number(),
         _ => 1 << random.below(32),
     };
-    let times = 32 >> height;
-    let mut leaves = 0;
-    for leaf in 0..32 {
-        leaves |= (((bits >> (leaf / times)) % 2) as u32) << leaf;
-    }
-    leaves
+    unfolded_bits(bits, height)
 }
 
 pub fn random_tree(random: &mut Random, height: u32) -> Tree {

@@ -2,7 +2,7 @@
 
 use crate::lent::Lent;
 use crate::library;
-use crate::make::random_leaves;
+use crate::make::{random_leaves, unfolded_bits};
 use crate::random::Random;
 use crate::report::{Family, Report};
 use crate::seen::Seen;
@@ -185,10 +185,7 @@ fn every_byte(report: &mut Report) {
 /// All constants no taller than 4; those with one or two leaves full, and with one or two empty; and random ones.
 fn written_and_read(report: &mut Report) {
     let mut reading = Reading::new(report);
-    let low = (0..=u16::MAX).map(|halves| {
-        let twice = |bit: u32| (u32::from(halves >> bit) % 2 * 0b11) << (2 * bit);
-        (0..16).map(twice).sum()
-    });
+    let low = (0..1 << 16).map(|bits| unfolded_bits(bits, 4));
     let mut constants: Vec<u32> = low.collect();
     let two = (0..32).flat_map(|one| (0..=one).map(move |other| 1 << one | 1 << other));
     constants.extend(two.flat_map(|two: u32| [two, !two]));

@@ -16,6 +16,15 @@ pub struct Seen {
     pub refusals: [usize; 18],
 }
 
+/// Each of these was seen so often.
+pub fn enough(report: &mut Report, what: &str, counts: &[usize], least: usize) {
+    report.apart(if counts.iter().all(|count| *count >= least) {
+        Ok(())
+    } else {
+        Err(format!("{what} seen too seldom: {counts:?}"))
+    });
+}
+
 impl Seen {
     pub fn note(&mut self, question: &Question, outcome: &Outcome) {
         self.refusals[0] += 1;
@@ -31,28 +40,20 @@ impl Seen {
         self.refusals[usize::from(number)] += 1;
     }
 
-    fn enough(&self, report: &mut Report, what: &str, counts: &[usize], least: usize) {
-        report.apart(if counts.iter().all(|count| *count >= least) {
-            Ok(())
-        } else {
-            Err(format!("{what} seen too seldom: {counts:?}"))
-        });
-    }
-
     /// Both verdicts of kind 0 were seen so often.
     pub fn kind_0(&self, report: &mut Report, least: usize) {
-        self.enough(report, "verdicts of kind 0", &self.satisfiable, least);
+        enough(report, "verdicts of kind 0", &self.satisfiable, least);
     }
 
     /// Each reason of kind 1 was seen so often, and a disequation number above 0.
     pub fn kind_1(&self, report: &mut Report, least: usize) {
-        self.enough(report, "reasons", &self.reasons, least);
-        self.enough(report, "higher numbers", &[self.higher_numbers], 1);
+        enough(report, "reasons", &self.reasons, least);
+        enough(report, "higher numbers", &[self.higher_numbers], 1);
     }
 
     /// Each of these refusals was seen so often.
     pub fn refused(&self, report: &mut Report, numbers: &[usize], least: usize) {
         let counts: Vec<usize> = numbers.iter().map(|n| self.refusals[*n]).collect();
-        self.enough(report, "refusals", &counts, least);
+        enough(report, "refusals", &counts, least);
     }
 }

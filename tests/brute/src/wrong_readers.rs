@@ -144,7 +144,7 @@ fn equal_halves(tree: &Tree) -> bool {
     }
 }
 
-fn left_height(tree: &Tree) -> u32 {
+pub fn left_height(tree: &Tree) -> u32 {
     match tree {
         Tree::Pair(left, _) => 1 + left_height(left),
         _ => 0,

@@ -1,7 +1,8 @@
-//! Eight threads ask at once, each with buffers of its own. What each gets is what is due.
+//! Eight threads ask at once, each with buffers of its own, and join and measure constants at once. What each gets is what is due.
 
 use crate::samples;
-use brute::calls::constant_due;
+use brute::calls::{constant_due, height_due, join_due};
+use brute::constants::some_pair;
 use brute::due::{decided, due};
 use brute::judge::{ANSWER_BYTES, ROW_BYTES};
 use brute::library::{self, ASK_WORK_BYTES, LONGEST_TEXT};
@@ -11,12 +12,18 @@ use brute::tree::tree_of_row;
 use std::sync::Barrier;
 use std::thread;
 
-pub const FAMILIES: &[Family] = &[("eight threads at once", eight_threads)];
+pub const FAMILIES: &[Family] = &[
+    ("eight threads at once", eight_threads),
+    ("join and height in eight threads at once", join_and_height),
+];
 
 const THREADS: usize = 8;
 const QUESTIONS: usize = 4000;
-/// How often each thread goes through all questions.
+/// How often each thread goes through all questions or pairs.
 const TIMES: usize = 2;
+const PAIRS: usize = 4000;
+/// How often a pair is joined and measured in a row. A call is so short that threads would otherwise be done one after the other.
+const IN_A_ROW: usize = 100;
 
 /// What the calls give for one question: asking, the text of the first row, and the constant that is read from it.
 #[derive(PartialEq, Eq)]
@@ -69,7 +76,8 @@ fn eight_threads(report: &mut Report) {
         questions.push(samples::accepted(&mut random));
     }
     let all_due: Vec<Given> = questions.iter().map(|bytes| given_due(bytes)).collect();
-    for fault in at_once(&questions, &all_due) {
+    let ask = |bytes: &Vec<u8>| given(bytes);
+    for fault in at_once(&questions, &all_due, ask) {
         report.case(match fault {
             None => Ok(()),
             Some(number) => {
@@ -80,9 +88,28 @@ fn eight_threads(report: &mut Report) {
     }
 }
 
+fn join_and_height(report: &mut Report) {
+    let mut random = report.random();
+    let pairs: Vec<(u32, u32)> = (0..PAIRS).map(|n| some_pair(&mut random, n)).collect();
+    let due = |&(a, b): &(u32, u32)| [(join_due(a, b), height_due(a)); IN_A_ROW];
+    let all_due: Vec<_> = pairs.iter().map(due).collect();
+    let call =
+        |&(a, b): &(u32, u32)| [(); IN_A_ROW].map(|_| (library::join(a, b), library::height(a)));
+    for fault in at_once(&pairs, &all_due, call) {
+        report.case(match fault {
+            None => Ok(()),
+            Some(number) => Err(format!("not what is due; pair {:X?}", pairs[number])),
+        });
+    }
+}
+
 /// For each thread and question: none, or the number of the question where the thread got something else.
 /// Each thread begins at another question, so that at any moment different ones are asked.
-fn at_once(questions: &[Vec<u8>], all_due: &[Given]) -> Vec<Option<usize>> {
+fn at_once<Asked: Clone + Sync, Got: PartialEq + Sync>(
+    questions: &[Asked],
+    all_due: &[Got],
+    ask: impl Fn(&Asked) -> Got + Sync,
+) -> Vec<Option<usize>> {
     let together = Barrier::new(THREADS);
     let one = |thread: usize| {
         let own_questions = questions.to_vec();
@@ -90,7 +117,7 @@ fn at_once(questions: &[Vec<u8>], all_due: &[Given]) -> Vec<Option<usize>> {
         let from = thread * questions.len() / THREADS;
         let numbers = (from..from + TIMES * questions.len()).map(|n| n % questions.len());
         let fault =
-            |number: usize| (given(&own_questions[number]) != all_due[number]).then_some(number);
+            |number: usize| (ask(&own_questions[number]) != all_due[number]).then_some(number);
         numbers.map(fault).collect::<Vec<_>>()
     };
     thread::scope(|scope| {
