@@ -14,5 +14,7 @@ pub mod JoinLaws
 pub mod BitLaws
 pub mod BitParts
 pub mod ConstantLaws
+pub mod Unlike
+pub mod UnlikeLaws
 pub mod TextLaws
 pub mod NumberLaws

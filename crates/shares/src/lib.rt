@@ -5,6 +5,8 @@ ghost use Prim.Native.Nat.{_+_, _^_};
 ghost use lib.Dec.{eqb};
 ghost use Rattle.shares.specs.Tree.{height, join};
 ghost use Rattle.shares.specs.Constant.{constantLevels, numberTree, setInBoth};
+ghost use Rattle.shares.specs.Unlike as Unlike;
+ghost use Rattle.shares.specs.Unlike.{raised};
 ghost use Rattle.shares.specs.Answer.{joinOf};
 ghost use Rattle.shares.specs.declared.Joined.the-variants.{Constant, Undefined};
 
@@ -32,24 +34,37 @@ fn overlap(a: u32, b: u32) -> bool
     a & b != 0
 }
 
-// The height of a constant, all leaves at once. Bit i of a mask is set where leaves i and i + 1 lie in one of the 2^h equal blocks that
-// the 32 leaves make up. If they differ anywhere, the height is above h.
+// The height of a constant, all leaves at once.
 pub fn constant_height(a: u32) -> u32
     ensures { λ r. ⌜ r ≡ height (numberTree constantLevels a) ⌝ }
 {
-    let differs = a ^ (a >> 1);
-    let one = above(differs & 0x7FFF_FFFF, 1, 0);
-    let two = above(differs & 0x7FFF_7FFF, 2, one);
-    let three = above(differs & 0x7F7F_7F7F, 3, two);
-    let four = above(differs & 0x7777_7777, 4, three);
-    above(differs & 0x5555_5555, 5, four)
+    unlike_height(unlike(a))
 }
 
-// The height if some leaves differ, and otherwise the one that was found before.
-fn above(differing: u32, height: u32, before: u32) -> u32
-    ensures { λ r. ⌜ r ≡ cond (eqb differing 0) before height ⌝ }
+// Bit i is set where leaf i of a constant is unlike leaf i + 1.
+pub fn unlike(a: u32) -> u32
+    ensures { λ r. ⌜ r ≡ Unlike.unlike a ⌝ }
 {
-    if differing == 0 {
+    a ^ (a >> 1)
+}
+
+// The height of a constant by its unlike leaves, or that of the tallest of several by all of theirs. A mask has bit i set where leaves i and
+// i + 1 lie in one of the 2^h equal blocks that the 32 leaves make up: if they are unlike anywhere there, the height is above h.
+pub fn unlike_height(leaves: u32) -> u32
+    ensures { λ r. ⌜ r ≡ raised constantLevels constantLevels leaves ⌝ }
+{
+    let one = above(leaves & 0x7FFF_FFFF, 1, 0);
+    let two = above(leaves & 0x7FFF_7FFF, 2, one);
+    let three = above(leaves & 0x7F7F_7F7F, 3, two);
+    let four = above(leaves & 0x7777_7777, 4, three);
+    above(leaves & 0x5555_5555, 5, four)
+}
+
+// A height if some leaves are unlike there, and otherwise the one that was found before.
+fn above(leaves: u32, height: u32, before: u32) -> u32
+    ensures { λ r. ⌜ r ≡ cond (eqb leaves 0) before height ⌝ }
+{
+    if leaves == 0 {
         return before;
     }
     height
