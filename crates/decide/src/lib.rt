@@ -6,7 +6,7 @@ use plans::Outline;
 use plans::Plan;
 use steps::Search;
 ghost use mathlib.Core.Path.{_≡_};
-ghost use Prim.Native.Nat.{ℕ, _^_, _<_, _≤_, max};
+ghost use Prim.Native.Nat.{ℕ, _^_, _<_, _≤_};
 ghost use lib.Dec.{T};
 ghost use lib.ListN.{length, getD, take};
 ghost use Rattle.shares.specs.Constant.{constantLevels};
@@ -37,29 +37,19 @@ fn number_of(constants: &[u64; 32], i: usize) -> u64
     constants[i]
 }
 
-// The greater of two heights.
-fn larger(a: usize, b: usize) -> usize
-    ensures { λ r. ⌜ r ≡ max a b ⌝ }
-{
-    if a < b {
-        return b;
-    }
-    a
-}
-
-// The height of a question: that of its tallest constant.
+// The height of a question: that of its tallest constant, by the leaves that are unlike their neighbours in any of them.
 fn question_height(constants: &[u64; 32], defined: usize) -> usize
     requires { ⌜ (defined ≤ 32) × (length (now constants) ≡ 32) × ((i : ℕ) → i < defined → getD (now constants) i 0 < 2 ^ 32) ⌝ }
     ensures { λ r. ⌜ r ≡ tallestConstant constantLevels (take defined (now (constants .entry))) ⌝ }
 {
-    let mut h: usize = 0;
+    let mut leaves: u32 = 0;
     let mut i: usize = 0;
     while i < defined {
         let x = number_of(constants, i);
-        h = larger(h, shares::constant_height(x as u32) as usize);
+        leaves = leaves | shares::unlike(x as u32);
         i += 1;
     }
-    h
+    shares::unlike_height(leaves) as usize
 }
 
 // The numbers of a question, with its height.
