@@ -6,7 +6,7 @@ use lib.Dec.{ltb, eqb}
 use Rattle.shares.specs.Blocks.{blockOf}
 use Rattle.shares.specs.Constant.{numberOf}
 
--- bit i is set where leaf i of a number is unlike leaf i + 1
+-- bit i is set where bit i of a number is unlike bit i + 1
 abbrev pub unlike : ℕ → ℕ
 unlike x = bitXor x (x / 2)
 
@@ -14,11 +14,11 @@ unlike x = bitXor x (x / 2)
 abbrev pub inner : ℕ → ℕ → ℕ → Bool
 inner h w i = ltb (suc i) (2 ^ w) && eqb (blockOf h w i) (blockOf h w (suc i))
 
--- the number that has these bits
+-- the number of 2 ^ w bits of which bit i says so
 unfoldable pub innerMask : ℕ → ℕ → ℕ
 innerMask h w = numberOf (2 ^ w) (inner h w)
 
--- the height that is found below h, of 2 ^ w leaves: one more than the greatest at which some leaf is unlike its neighbour in its block
+-- where d has the unlike ones of 2 ^ w leaves: one more than the greatest height below h at which some is unlike its neighbour in its block; 0 if none is
 unfoldable pub raised : ℕ → ℕ → ℕ → ℕ
 raised w zero d = 0
 raised w (suc h) d = cond (eqb (bitAnd d (innerMask h w)) 0) (raised w h d) (suc h)

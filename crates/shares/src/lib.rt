@@ -41,15 +41,15 @@ pub fn constant_height(a: u32) -> u32
     unlike_height(unlike(a))
 }
 
-// Bit i is set where leaf i of a constant is unlike leaf i + 1.
+// Bit i, up to 30, is set where leaf i of a constant is unlike leaf i + 1.
 pub fn unlike(a: u32) -> u32
     ensures { λ r. ⌜ r ≡ Unlike.unlike a ⌝ }
 {
     a ^ (a >> 1)
 }
 
-// The height of a constant by its unlike leaves, or that of the tallest of several by all of theirs. A mask has bit i set where leaves i and
-// i + 1 lie in one of the 2^h equal blocks that the 32 leaves make up: if they are unlike anywhere there, the height is above h.
+// The height of a constant by its unlike leaves, or that of the tallest of several by all of theirs. Bit i of a mask is set where leaves i
+// and i + 1 lie in one of the 2^h equal blocks that the 32 leaves make up: if some are unlike there, the height is above h.
 pub fn unlike_height(leaves: u32) -> u32
     ensures { λ r. ⌜ r ≡ raised constantLevels constantLevels leaves ⌝ }
 {
@@ -60,7 +60,7 @@ pub fn unlike_height(leaves: u32) -> u32
     above(leaves & 0x5555_5555, 5, four)
 }
 
-// A height if some leaves are unlike there, and otherwise the one that was found before.
+// A height if some leaves are unlike under its mask, and otherwise the one that was found before.
 fn above(leaves: u32, height: u32, before: u32) -> u32
     ensures { λ r. ⌜ r ≡ cond (eqb leaves 0) before height ⌝ }
 {
