@@ -112,7 +112,10 @@ class Line:
                 break
         if fault.at < len(first) or depth != 0 or number == 1:
             return None
-        whole = "".join(word for word, _ in self.words[self.at:self.at + number])
+        words = [word for word, _ in self.words[self.at:self.at + number]]
+        if "join" in words:
+            return TreeFault(fault.number, fault.at, "no tree text: a join stands without brackets round it")
+        whole = "".join(words)
         try:
             read_tree(whole)
             return TreeFault(fault.number, fault.at, f"tree text has no spaces: write '{whole}'")

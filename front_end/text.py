@@ -30,8 +30,8 @@ FORM = f"""The text: one thing a line; '#' starts a comment.
     free writer reader rest owner  free variables, by name
     own part                       own variables of the second system
     let L = (*o)                   a constant, as tree text
-    let W = L join (o(*o))         a constant that is joined while the text is read, of trees and of constants of lines before; an error if
-                                   the join is undefined; these three kinds of line stand before the first clause
+    let W = L join (o(*o))         a constant that is joined while the text is read, of trees and of constants of lines before, or 'let B = L';
+                                   an error if the join is undefined; 'free', 'own' and 'let' stand before the first clause
     writer join reader is rest     a join
     not writer join reader is *    its negation: another share, or undefined
     a join b join c is d join e    joins inside: all are defined and both sides are one share; each counts as a variable more, one less than
@@ -341,10 +341,18 @@ class TextReader:
         if not NAME.fullmatch(word) or word in KEPT:
             return line.no_name(due)
         if line.peek(1) == "=":
-            joined = line.rest(2) or "(*o)"
             return line.fault(f"nothing is named {quote(word)}: a constant is defined by 'let', before the first clause: "
-                              f"write 'let {shown(word, LONG_NAME)} = {shown(joined, LONG_NAME)}'")
+                              f"write 'let {shown(word, LONG_NAME)} = {shown(self.joined_or_example(line), LONG_NAME)}'")
         return line.fault(f"nothing is named {quote(word)}: {cure.format(shown(word, LONG_WORD))}")
+
+    def joined_or_example(self, line):
+        """What stands behind '=', if 'let' takes it, and otherwise a tree."""
+        joined = line.rest(2)
+        try:
+            self.read_joined(Line(line.number, joined))
+        except TextFault:
+            return "(*o)"
+        return joined
 
     def constant(self, leaves):
         """The term of the first constant with these leaves, which is a new one if there is none."""

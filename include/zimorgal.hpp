@@ -341,7 +341,8 @@ using IfLeaves = std::enable_if_t<std::is_same_v<T, Leaves>, int>;
 
 }  // namespace detail
 
-// The join of two shares; none if it is undefined, which is exactly if some leaf is full in both.
+// The join of two shares, their sum; none, undefined, exactly if some leaf is full in both. A constant joins by its
+// leaves(), which are 0, the empty share, if it names nothing.
 template <class Share, detail::IfLeaves<Share> = 0>
 [[nodiscard]] std::optional<Leaves> join(Share a, Share b) noexcept {
     const std::uint64_t number = zimorgal_join(a, b);

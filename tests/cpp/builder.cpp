@@ -221,9 +221,6 @@ void errors() {
     refused(sat, Error::not_folded, "a constant not folded", [&] { return sat.constant("(oo)").error; });
     refused(sat, Error::names_nothing, "a refused constant",
             [&] { return sat.first(equal(v0, sat.constant("(oo)").constant)); });
-    refused(sat, Error::undefined_join, "an undefined join", [&] { return sat.constant(join(3u, 6u)).error; });
-    refused(sat, Error::names_nothing, "the constant of an undefined join",
-            [&] { return sat.first(equal(v0, sat.constant(join(3u, 6u)).constant)); });
     refused(sat, Error::names_nothing, "free variable -1", [&] { return sat.first(equal(Free{-1}, v0)); });
     Free set{0};
     set.number = 256;
@@ -239,6 +236,21 @@ void errors() {
     take(ent.add(System::second, equal(v0, own0)));
 }
 
+// Constants from joins, in a question.
+void constants_from_joins() {
+    Question question = satisfiability(1);
+    const Constant half = take(question.constant("(*o)")), whole = take(question.constant("*"));
+    const Constant joined = take(question.constant(join(half.leaves(), 0xFFFF0000u)));
+    check(question.constants() == 2 && joined.leaves() == whole.leaves(), "one that is there is not made again");
+    refused(question, Error::undefined_join, "an undefined join", [&] { return question.constant(join(3u, 6u)).error; });
+    refused(question, Error::names_nothing, "the constant of an undefined join",
+            [&] { return question.first(equal(v0, question.constant(join(3u, 6u)).constant)); });
+    for (Leaves i = 2; i < 32; ++i) take(question.constant(i));
+    refused(question, Error::too_many_constants, "a 33rd by a join",
+            [&] { return question.constant(join(1u, 32u)).error; });
+    refused(question, Error::undefined_join, "before a 33rd", [&] { return question.constant(join(1u, 33u)).error; });
+}
+
 void limits() {
     Question constants;
     Constant last;
@@ -247,9 +259,6 @@ void limits() {
     refused(constants, Error::too_many_constants, "a 33rd constant", [&] { return constants.constant(32u).error; });
     take(constants.first(equal(last, take(constants.constant(0u)))));
     refused(constants, Error::too_many_constants, "a 33rd by text", [&] { return constants.constant("*").error; });
-    refused(constants, Error::too_many_constants, "a 33rd by a join",
-            [&] { return constants.constant(join(1u, 32u)).error; });
-    refused(constants, Error::undefined_join, "before a 33rd", [&] { return constants.constant(join(1u, 33u)).error; });
 
     // Of every sort some; one more of any sort is too many, whatever it names.
     const Clause positives[] = {equal(v0, v0), join(v0, v0, v0), may_write(v0), together(v0, v0)};
@@ -468,8 +477,6 @@ void whose_constant() {
                                                                 0x03, 0xFF, 0xFF, 0x00, 0x00, 0x12, 0x00, 0x20, 0x00},
           "equal constants are one");
     check(half.leaves() == 0x0000FFFF && Constant{}.leaves() == 0, "a constant says its share");
-    const Constant joined = take(question.constant(join(half.leaves(), 0xFFFF0000u)));
-    check(question.constants() == 2 && joined.leaves() == full_share, "and so is one from a join");
 
     // One kept over a start is refused, whatever the question has by then.
     Question again = question;
@@ -1039,6 +1046,7 @@ void no_heap() {
 int main() {
     bytes_of_questions();
     errors();
+    constants_from_joins();
     limits();
     random_steps();
     every_enum_value();

@@ -173,6 +173,8 @@ FAULTS = [
      "2:31: " + UNDEFINED.format(LONGEST_TREE[:40] + "...", "(o(o(o(o(o*)))))", "(o(o(o(o(o*)))))")),
     (f"satisfiable\nlet L = {LONGEST_TREE} join {LONGEST_TREE}", "2:109: " + UNDEFINED.format(LONGEST_TREE[:40] + "...", LONGEST_TREE, LONGEST_TREE)),
     # Trees with spaces inside.
+    ("satisfiable\nlet L = ((*o) join (o*))", "2:14: no tree text: a join stands without brackets round it"),
+    (CLAUSE + "((*o) join (o*)) is a", "3:6: no tree text: a join stands without brackets round it"),
     ("satisfiable\nlet L = (* o)", "2:11: tree text has no spaces: write '(*o)'"),
     (CLAUSE + "a is (o *)", "3:8: tree text has no spaces: write '(o*)'"),
     (CLAUSE + "( o\t(* o) ) is not a", "3:2: tree text has no spaces: write '(o(*o))'"),

@@ -27,7 +27,8 @@ def test_faults():
 def test_hints():
     """What a message says to write is accepted: in place of the line, or of the tree at its end."""
     for clause, kept in [("c is a join b", ""), ("c is not a join b", ""), ("a is (o *)", "a is "), ("a is ( (* o ) (o *))", "a is "),
-                         ("W = (*o) join (o*)", ""), ("let W = (*o) join ( o *)", "let W = (*o) join ")]:
+                         ("W = (*o) join (o*)", ""), ("W = (o *) join (*o)", ""), ("W = (*o) join R", ""), ("W = a join b", ""), ("W =", ""),
+                         ("let W = (*o) join ( o *)", "let W = (*o) join ")]:
         status, _, errors = command("ask", "--bytes", "-", given=(cases.CLAUSE + clause).encode())
         hint = errors.split("write '")[1].split("'")[0]
         check(f"the hint for {clause!r}", (status, command("ask", "--bytes", "-", given=(cases.CLAUSE + kept + hint).encode())[::2]), (2, (0, "")))

@@ -10,11 +10,11 @@ use Rattle.shares.specs.Constant.{numberOf}
 abbrev pub unlike : ℕ → ℕ
 unlike x = bitXor x (x / 2)
 
--- leaves i and i + 1, of 2 ^ w, are there and lie in one block of 2 ^ h
+-- leaves i and i + 1, of 2 ^ w, are there and lie in one of the 2 ^ h blocks
 abbrev pub inner : ℕ → ℕ → ℕ → Bool
 inner h w i = ltb (suc i) (2 ^ w) && eqb (blockOf h w i) (blockOf h w (suc i))
 
--- the number of 2 ^ w bits of which bit i says so
+-- the number of 2 ^ w bits that has `inner` as its bit i
 unfoldable pub innerMask : ℕ → ℕ → ℕ
 innerMask h w = numberOf (2 ^ w) (inner h w)
 

@@ -1,5 +1,5 @@
 -- Laws of unlike leaves: they give the height of a number, and those of two numbers together the greater of both heights. Assumes nothing.
-use mathlib.Core.Path.{_≡_, refl, sym, ap, ap₂, _∙_}
+use mathlib.Core.Path.{_≡_, refl, sym, ap, _∙_}
 use mathlib.Core.Bool.{Bool, true, false, cond, _&&_, _||_, xor, true≢false}
 use mathlib.Core.Logic.{_↔_}
 use Prim.Native.Nat.{ℕ, zero, suc, _+_, _-_, _*_, _/_, _%_, _^_, _≤_, _<_, min, max}
@@ -7,7 +7,7 @@ use native.Mathlib.Decide.{ℕ-discrete}
 use native.Mathlib.Nat.{zero-div, zero-mul, div-add-mod', mod-lt, lt-of-le-of-lt}
 use native.Mathlib.Omega.{arith}
 use lib.Arith.{digits-div}
-use lib.Bits.{bitAnd, bitOr, bitXor, and-le-r}
+use lib.Bits.{bitAnd, bitOr, and-le-r, and-zero-l}
 use lib.Dec.{T, ltb, eqb, ltb→lt, lt→ltb, eqb→eq, eqb-refl}
 use lib.Pow.{pow-pos}
 use borrow.Author.Tests.{eq-eqb, ne-eqb}
@@ -121,11 +121,19 @@ raised-height w (suc h) x le = go (ℕ-discrete (bitAnd (unlike x) (innerMask h 
         let taller : ¬ (height (numberTree w x) ≤ h) = λ low. n (height-mask-iff h w x (omega arith) .0 low) in
         rw (ne-eqb _ 0 n) (omega arith)
 
+-- all tests give its height
 pub unlike-height : (w x : ℕ) → raised w w (unlike x) ≡ height (numberTree w x)
 unlike-height w x = raised-height w w x (omega arith) ∙ omega (arith, treeOf-height w (bit x))
 
--- ---- of two numbers
+-- ---- what is unlike in several numbers
 
+-- none gives height 0
+pub raised-none : (w h : ℕ) → raised w h 0 ≡ 0
+unfolding raised
+raised-none w zero = refl
+raised-none w (suc h) = rw (and-zero-l (innerMask h w)) (raised-none w h)
+
+-- under a test, one of two bits is set nowhere exactly if neither is
 neither : (a b t : Bool) → (((a || b) && t) ≡ false) ↔ (((a && t) ≡ false) × ((b && t) ≡ false))
 neither true b true = (λ e. absurd (true≢false e), λ (p, q). p)
 neither true true false = (λ e. (refl, refl), λ p. refl)
@@ -153,6 +161,7 @@ module _ (h w d e : ℕ) where
       go (yes p) (no q) = rw (ne-eqb _ 0 (λ z. q (either-masked .0 z .1)), eq-eqb _ 0 p, ne-eqb _ 0 q) refl
       go (no p) q = rw (ne-eqb _ 0 (λ z. p (either-masked .0 z .0)), ne-eqb _ 0 p) refl
 
+-- what is found is no greater than what was tested for
 raised-le : (w h d : ℕ) → raised w h d ≤ h
 unfolding raised
 raised-le w zero d = omega arith
@@ -162,7 +171,7 @@ raised-le w (suc h) d = go (eqb (bitAnd d (innerMask h w)) 0) (raised-le w h d)
     go true ih = omega arith
     go false ih = omega arith
 
--- what is unlike in one of two numbers raises the height to the greater of theirs
+-- what is unlike in one or the other raises the height to the greater of theirs
 pub raised-or : (w h d e : ℕ) → raised w h (bitOr d e) ≡ max (raised w h d) (raised w h e)
 unfolding raised
 raised-or w zero d e = omega arith

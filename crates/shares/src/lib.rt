@@ -6,7 +6,6 @@ ghost use lib.Dec.{eqb};
 ghost use Rattle.shares.specs.Tree.{height, join};
 ghost use Rattle.shares.specs.Constant.{constantLevels, numberTree, setInBoth};
 ghost use Rattle.shares.specs.Unlike as Unlike;
-ghost use Rattle.shares.specs.Unlike.{raised};
 ghost use Rattle.shares.specs.Answer.{joinOf};
 ghost use Rattle.shares.specs.declared.Joined.the-variants.{Constant, Undefined};
 
@@ -51,7 +50,7 @@ pub fn unlike(a: u32) -> u32
 // The height of a constant by its unlike leaves, or that of the tallest of several by all of theirs. Bit i of a mask is set where leaves i
 // and i + 1 lie in one of the 2^h equal blocks that the 32 leaves make up: if some are unlike there, the height is above h.
 pub fn unlike_height(leaves: u32) -> u32
-    ensures { λ r. ⌜ r ≡ raised constantLevels constantLevels leaves ⌝ }
+    ensures { λ r. ⌜ r ≡ Unlike.raised constantLevels constantLevels leaves ⌝ }
 {
     let one = above(leaves & 0x7FFF_FFFF, 1, 0);
     let two = above(leaves & 0x7FFF_7FFF, 2, one);

@@ -1,5 +1,5 @@
--- Laws of the other calls' numbers: what they hold is read back from them. Assumes nothing.
-use mathlib.Core.Path.{_≡_, refl, sym, ap, _∙_}
+-- Laws of the other calls' numbers: what they hold is read back from them, and what a join's stands for. Assumes nothing.
+use mathlib.Core.Path.{_≡_, refl, ap, _∙_}
 use mathlib.Core.Bool.{Bool, true, false, not, cond}
 use mathlib.Core.List.{List}
 use mathlib.Core.Logic.{_⊎_, inl, inr}
@@ -15,7 +15,6 @@ use Rattle.shares.specs.TreeLaws.{treeOf-folded, treeOf-height}
 use Rattle.shares.specs.Text.{text}
 use Rattle.shares.specs.Constant.{constantLevels, bit, numberTree, setInBoth}
 use Rattle.shares.specs.ConstantLaws.{sum-lt, join-numbers}
-use Rattle.shares.specs.declared.Joined.{Joined}
 use Rattle.shares.specs.declared.Joined.the-variants.{Constant, Undefined}
 use Rattle.rows.specs.Rows.{rowLevels, answerBytes, rowOf, rowRange, rowPart}
 use Rattle.rows.specs.declared.Range.{Range}
@@ -29,6 +28,7 @@ use Rattle.constants.specs.FromTextLaws.{written-read, read-written}
 use Rattle.constants.specs.declared.FromText.{FromText}
 use Rattle.constants.specs.declared.FromText.the-variants as given
 use Rattle.zimorgal.specs.Calls.{rangeNumber, textNumber, constantNumber, undefinedJoin, numberJoin}
+use Rattle.zimorgal.specs.Joins.{joinNumber}
 
 -- the offset and the length of the row call, and the bytes of that range, which are the part that is handed back
 module _ (answer : List ℕ) (v : ℕ) (r : Range) (e : r ≡ rowRange (rowLevels constantLevels) (length answer) v) where
@@ -99,11 +99,6 @@ text-written w n e = rw e (omega arith)
 pub text-refused : (w : Written) (n x : ℕ) → w ≡ Refused n → x ≡ n → 4294967296 * x ≡ textNumber w
 text-refused w n x e h = rw e (omega arith)
 
--- the number of what joining two constants gives
-abbrev pub joinNumber : ℕ → Joined → ℕ
-joinNumber levels (Constant n) = n
-joinNumber levels Undefined = undefinedJoin levels
-
-pub join-number : (levels : ℕ) (s : Bool) (n : ℕ) → joinNumber levels (cond s Undefined (Constant n)) ≡ cond s (undefinedJoin levels) n
-join-number levels true n = refl
-join-number levels false n = refl
+pub number-cases : (levels : ℕ) (s : Bool) (n : ℕ) → joinNumber levels (cond s Undefined (Constant n)) ≡ cond s (undefinedJoin levels) n
+number-cases levels true n = refl
+number-cases levels false n = refl

@@ -3,4 +3,5 @@ pub mod Calls
 pub mod PackingLaws
 pub mod FitLaws
 pub mod PackedRight
+pub mod Joins
 pub mod CallLaws

@@ -19,7 +19,7 @@ ghost use Rattle.asking.specs.Demand3.{Demand3};
 ghost use Rattle.zimorgal.specs.Packing.{packed, unpacked};
 ghost use Rattle.zimorgal.specs.PackingLaws.{InBytes};
 ghost use Rattle.zimorgal.specs.Calls.{rangeNumber, textNumber, constantNumber, undefinedJoin, numberJoin, versionNumber};
-ghost use Rattle.zimorgal.specs.CallLaws.{joinNumber};
+ghost use Rattle.zimorgal.specs.Joins.{joinNumber};
 
 // The result as one number: each field is multiplied to its bytes.
 fn pack(outcome: Outcome) -> u64
@@ -98,8 +98,7 @@ fn constant_number(read: FromText) -> u64
     }
 }
 
-// The join of two constants in the low 32 bits, 2^32 where it is undefined; all leaves at once: undefined exactly where some bit is set in
-// both, and otherwise their sum.
+// The join of two constants, all leaves at once: their sum, or 2^32, undefined, exactly if some bit is set in both.
 #[no_mangle]
 pub extern "C" fn zimorgal_join(a: u32, b: u32) -> u64
     ensures tree { λ r. ⌜ (r ≤ undefinedJoin constantLevels) × (numberJoin constantLevels r ≡ join (numberTree constantLevels a) (numberTree constantLevels b)) ⌝ }

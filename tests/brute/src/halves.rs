@@ -1,4 +1,4 @@
-//! Joins and heights of constants once more, apart from `tree`: by halves of the numbers, with nothing unfolded and no leaf looked at alone.
+//! Joins and heights of constants once more: by halves and blocks of the numbers, without a list of leaves and without folding.
 
 use crate::calls::UNDEFINED;
 use crate::tree::{Tree, CONSTANT_HEIGHT};
@@ -42,7 +42,7 @@ fn join_trees(a: &Tree, b: &Tree) -> Option<Tree> {
         (Tree::Full, _) | (_, Tree::Full) => None,
         (Tree::Pair(a_left, a_right), Tree::Pair(b_left, b_right)) => {
             let (left, right) = (join_trees(a_left, b_left)?, join_trees(a_right, b_right)?);
-            Some(Tree::pair(left, right))
+            Some(Tree::Pair(Box::new(left), Box::new(right)))
         }
     }
 }

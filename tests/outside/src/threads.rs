@@ -103,21 +103,21 @@ fn join_and_height(report: &mut Report) {
     }
 }
 
-/// For each thread and question: none, or the number of the question where the thread got something else.
-/// Each thread begins at another question, so that at any moment different ones are asked.
+/// For each thread and input, a question or a pair: none, or the number of the input where the thread got something else.
+/// Each thread begins at another input, so that at any moment the calls have different ones.
 fn at_once<Asked: Clone + Sync, Got: PartialEq + Sync>(
-    questions: &[Asked],
+    inputs: &[Asked],
     all_due: &[Got],
     ask: impl Fn(&Asked) -> Got + Sync,
 ) -> Vec<Option<usize>> {
     let together = Barrier::new(THREADS);
     let one = |thread: usize| {
-        let own_questions = questions.to_vec();
+        let own_inputs = inputs.to_vec();
         together.wait();
-        let from = thread * questions.len() / THREADS;
-        let numbers = (from..from + TIMES * questions.len()).map(|n| n % questions.len());
+        let from = thread * inputs.len() / THREADS;
+        let numbers = (from..from + TIMES * inputs.len()).map(|n| n % inputs.len());
         let fault =
-            |number: usize| (ask(&own_questions[number]) != all_due[number]).then_some(number);
+            |number: usize| (ask(&own_inputs[number]) != all_due[number]).then_some(number);
         numbers.map(fault).collect::<Vec<_>>()
     };
     thread::scope(|scope| {

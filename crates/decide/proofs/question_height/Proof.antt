@@ -8,9 +8,9 @@ use lib.ListN.{take}
 use borrow.Author.Needs.{needs}
 use Rattle.decide.specs.QuestionHeightLaws.{tallest-none, tallest-more}
 use Rattle.systems.specs.Questions.{tallestConstant}
-use Rattle.shares.specs.Constant.{constantLevels, numberOf}
-use Rattle.shares.specs.Unlike.{innerMask, unlike, raised}
-use Rattle.shares.specs.UnlikeLaws.{unlike-height, raised-or}
+use Rattle.shares.specs.Constant.{constantLevels}
+use Rattle.shares.specs.Unlike.{unlike, raised}
+use Rattle.shares.specs.UnlikeLaws.{unlike-height, raised-none, raised-or}
 use Rattle.decide.proofs.question_height.Statement.{statement}
 use Rattle.decide.proofs.question_height.Tie as tie
 
@@ -22,8 +22,7 @@ abbrev μ-loop : tie.MeasureT-loop
 μ-loop constants defined leaves₀ i₀ leaves i = defined - i
 
 loop-holds : tie.Need-loop-holds Inv-loop μ-loop
-unfolding raised innerMask numberOf
-loop-holds c = (omega arith, sym (tallest-none constantLevels (c .args .constants .now)))
+loop-holds c = (omega arith, raised-none constantLevels constantLevels ∙ sym (tallest-none constantLevels (c .args .constants .now)))
 
 number-of-requires : tie.Need-number-of-requires Inv-loop μ-loop
 number-of-requires c κs = omega (arith, c .loop-test .taken, c .before .before .pre)

@@ -29,11 +29,12 @@ returns c = joined constantLevels (c .before .before .args .a) (c .before .befor
 returns-2 : tie.Need-returns-2
 returns-2 c = joined constantLevels (c .before .before .args .a) (c .before .before .args .b) (omega arith) (omega arith) false (sym (c .before .overlap .ensures) ∙ c .if1 .left)
 
+-- the sum fits: this need stands without its name, so that it is also asked of an edit that has another operation
 pub join-constants-spec : {M : Type 1} → statement M
 join-constants-spec =
     tie.close
     (tie.spec
     overlap-requires
     returns
-    (λ c. omega (arith, sum-lt 32 (c .before .before .args .a) (c .before .before .args .b) (omega arith) (omega arith) (of-false (sym (c .before .overlap .ensures) ∙ c .if1 .left))))
+    (λ c. omega (arith, sum-lt (2 ^ constantLevels) (c .before .before .args .a) (c .before .before .args .b) (omega arith) (omega arith) (of-false (sym (c .before .overlap .ensures) ∙ c .if1 .left))))
     returns-2)

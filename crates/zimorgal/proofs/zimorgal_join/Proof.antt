@@ -4,7 +4,8 @@ use Prim.Native.Nat.{_+_, _^_}
 use native.Mathlib.Omega.{arith}
 use borrow.Author.Needs.{needs}
 use Rattle.shares.specs.Constant.{constantLevels, setInBoth}
-use Rattle.zimorgal.specs.CallLaws.{joinNumber, join-told, join-number}
+use Rattle.zimorgal.specs.Joins.{joinNumber}
+use Rattle.zimorgal.specs.CallLaws.{join-told, number-cases}
 use Rattle.zimorgal.proofs.zimorgal_join.Statement.{statement}
 use Rattle.zimorgal.proofs.zimorgal_join.Tie as tie
 
@@ -20,7 +21,7 @@ returns c =
     let b = c .before .before .args .b in
     let told =
     c .join-number .ensures ∙ ap (joinNumber constantLevels) (c .before .join-constants .ensures .1)
-    ∙ join-number constantLevels (setInBoth (2 ^ constantLevels) a b) (a + b) in
+    ∙ number-cases constantLevels (setInBoth (2 ^ constantLevels) a b) (a + b) in
     (join-told constantLevels a b (omega arith) (omega arith) _ told, told)
 
 pub zimorgal-join-spec : {M : Type 1} → statement M
