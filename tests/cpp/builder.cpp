@@ -242,7 +242,8 @@ void constants_from_joins() {
     const Constant half = take(question.constant("(*o)")), whole = take(question.constant("*"));
     const Constant joined = take(question.constant(join(half.leaves(), 0xFFFF0000u)));
     check(question.constants() == 2 && joined.leaves() == whole.leaves(), "one that is there is not made again");
-    refused(question, Error::undefined_join, "an undefined join", [&] { return question.constant(join(3u, 6u)).error; });
+    refused(question, Error::undefined_join, "an undefined join",
+            [&] { return question.constant(join(3u, 6u)).error; });
     refused(question, Error::names_nothing, "the constant of an undefined join",
             [&] { return question.first(equal(v0, question.constant(join(3u, 6u)).constant)); });
     for (Leaves i = 2; i < 32; ++i) take(question.constant(i));

@@ -163,7 +163,8 @@ FAULTS = [
     ("satisfiable\nlet L = (*o) join (o*) is *", "2:24: 'join' or the end of the line is due here, not 'is'"),
     ("satisfiable\nlet L = (*o) join (o(oo))", "2:21: a pair of two equal leaves must be folded: write 'o' for '(oo)'"),
     ("satisfiable\nlet L = (*o) join (o *)", "2:21: tree text has no spaces: write '(o*)'"),
-    (CLAUSE + "W = L  join (o*)", "3:1: nothing is named 'W': a constant is defined by 'let', before the first clause: write 'let W = L join (o*)'"),
+    (CLAUSE + "let L = (*o)\nW = L  join (o*)", "4:1: nothing is named 'W': a constant is defined by 'let', before the first clause: write 'let W = L join (o*)'"),
+    (CLAUSE + "W = L join (o*)", "3:1: nothing is named 'W': a constant is defined by 'let', before the first clause: write 'let W = (*o)'"),
     # Joins that are undefined, at the share that cannot be joined to what stands before it.
     ("satisfiable\nlet F = * join *", "2:16: " + UNDEFINED.format("*", "*", "*")),
     ("satisfiable\nlet L = (*o)\nlet M = ((o*)(*o))\nlet W = L join M", "4:16: " + UNDEFINED.format("M", "(*o)", "((o*)o)")),

@@ -116,8 +116,7 @@ fn at_once<Asked: Clone + Sync, Got: PartialEq + Sync>(
         together.wait();
         let from = thread * inputs.len() / THREADS;
         let numbers = (from..from + TIMES * inputs.len()).map(|n| n % inputs.len());
-        let fault =
-            |number: usize| (ask(&own_inputs[number]) != all_due[number]).then_some(number);
+        let fault = |number: usize| (ask(&own_inputs[number]) != all_due[number]).then_some(number);
         numbers.map(fault).collect::<Vec<_>>()
     };
     thread::scope(|scope| {
