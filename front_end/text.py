@@ -349,10 +349,12 @@ class TextReader:
         """What stands behind '=', if 'let' takes it, and otherwise a tree."""
         joined = line.rest(2)
         try:
-            self.read_joined(Line(line.number, joined))
+            if "=" not in joined:
+                self.read_joined(Line(line.number, joined))
+                return joined
         except TextFault:
-            return "(*o)"
-        return joined
+            pass
+        return "(*o)"
 
     def constant(self, leaves):
         """The term of the first constant with these leaves, which is a new one if there is none."""

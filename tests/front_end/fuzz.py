@@ -61,7 +61,7 @@ def odd_texts():
             yield (head + sign * 20000).encode()
     for head, part, tail in (("satisfiable\nfree a\na", " join a", " is a"), ("satisfiable\nfree a\na join a is a", " join a", ""), ("satisfiable\nfree a\na is a", " join a", ""),
                              ("satisfiable\nfree a\nnot a", " join a", " is o"), ("satisfiable\nfree", " a", ""), ("satisfiable\nfree a", "\na is a", ""),
-                             ("satisfiable\nlet a = (*o)\nlet b = a", " join o", " join (o*)"), ("satisfiable\nlet a = *", " join *", ""),
+                             ("satisfiable\nlet a = (*o)\nlet b = a", " join o", " join (o*)"), ("satisfiable\nlet a = *", " join *", ""), ("satisfiable\nW", " = W", ""),
                              ("satisfiable\nlet a = o", " join", ""), ("satisfiable\nfree a\n(o", " (o", ""),
                              ("satisfiable\nfree a\na is ((((((*o)o)o)o)o)", "o)", "")):
         yield (head + part * 5000 + tail).encode()
