@@ -104,9 +104,9 @@ height-mask-iff h w x le = (λ low. masked-iff h w (unlike x) .1 (under (neighbo
         same-under (bit x i) (bit x (suc i)) (inner h w i) .0 (ap (_&& inner h w i) (sym (differ i)) ∙ masked-iff h w (unlike x) .0 e i (omega arith)) t
 
 -- one test more
-pub raised-more : (w h d : ℕ) {before : ℕ} → before ≡ raised w h d → cond (eqb (bitAnd d (innerMask h w)) 0) before (suc h) ≡ raised w (suc h) d
+pub raised-more : (w h d : ℕ) {before r : ℕ} → before ≡ raised w h d → r ≡ cond (eqb (bitAnd d (innerMask h w)) 0) before (suc h) → r ≡ raised w (suc h) d
 unfolding raised
-raised-more w h d e = ap (λ b. cond (eqb (bitAnd d (innerMask h w)) 0) b (suc h)) e
+raised-more w h d e t = t ∙ ap (λ b. cond (eqb (bitAnd d (innerMask h w)) 0) b (suc h)) e
 
 -- what is unlike raises the height to that of the number, as far as was tested
 raised-height : (w h x : ℕ) → h ≤ w → raised w h (unlike x) ≡ min h (height (numberTree w x))

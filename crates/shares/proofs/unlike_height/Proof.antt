@@ -1,5 +1,5 @@
 -- `shares::unlike_height` meets its contract: each test raises what was found before. The masks are computed. Assumes nothing.
-use mathlib.Core.Path.{refl, _∙_}
+use mathlib.Core.Path.{refl}
 use borrow.Author.Needs.{needs}
 use Rattle.shares.specs.Constant.{constantLevels, numberOf}
 use Rattle.shares.specs.Unlike.{innerMask, raised}
@@ -26,11 +26,11 @@ returns : tie.Need-returns
 unfolding raised innerMask numberOf
 returns c =
     let d = c .before .before .before .before .before .args .leaves in
-    let one = c .before .before .before .before .above .ensures ∙ raised-more constantLevels 0 d refl in
-    let two = c .before .before .before .above2 .ensures ∙ raised-more constantLevels 1 d one in
-    let three = c .before .before .above3 .ensures ∙ raised-more constantLevels 2 d two in
-    let four = c .before .above4 .ensures ∙ raised-more constantLevels 3 d three in
-    c .above5 .ensures ∙ raised-more constantLevels 4 d four
+    let one = raised-more constantLevels 0 d refl (c .before .before .before .before .above .ensures) in
+    let two = raised-more constantLevels 1 d one (c .before .before .before .above2 .ensures) in
+    let three = raised-more constantLevels 2 d two (c .before .before .above3 .ensures) in
+    let four = raised-more constantLevels 3 d three (c .before .above4 .ensures) in
+    raised-more constantLevels 4 d four (c .above5 .ensures)
 
 pub unlike-height-spec : {M : Type 1} → statement M
 unlike-height-spec =
