@@ -35,7 +35,7 @@ fn turned(x: u64, k: usize) -> u64
 }
 
 // Each bit of the result is set where some bit of x is whose number has the same low n digits.
-fn merge_word(x: u64, n: usize) -> u64
+pub fn merge_word(x: u64, n: usize) -> u64
     ensures { λ r. ⌜ Merged n x r ⌝ }
 {
     if 6 <= n {

@@ -22,7 +22,7 @@ fn term_word(terms: &[u64; 64], clauses: &[u8; CLAUSE_BYTES], at: usize) -> u64
 }
 
 // Bit i of the result is the test with this form at the bits i of a, b and c.
-fn test_word(form: u8, a: u64, b: u64, c: u64) -> u64
+pub fn test_word(form: u8, a: u64, b: u64, c: u64) -> u64
     ensures { λ r. ⌜ ((i : ℕ) → i < 64 → bit r i ≡ testValue form (bit a i) (bit b i) (bit c i)) ⌝ }
 {
     let overlap = a & b;

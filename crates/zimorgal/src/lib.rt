@@ -1,6 +1,7 @@
 // Every call that other programs link.
 use asking::Outcome;
 use constants::FromText;
+use judging::Judgement;
 use shares::Joined;
 use text::Written;
 ghost use mathlib.Core.Path.{_≡_};
@@ -44,6 +45,24 @@ pub extern "C" fn zimorgal_ask(question: &[u8], answer: &mut [u8], work: &mut [u
     ensures model { λ r. ⌜ ((q : model.Question) → askedWith (now (question .entry)) (now (answer .entry)) (now (work .entry)) ≡ answered q → Exact q (unpacked r) × Demand3 q (unpacked r) (now (answer .exit))) ⌝ }
 {
     pack(asking::ask(question, answer, work))
+}
+
+// Judging, its result as one number.
+#[no_mangle]
+pub extern "C" fn zimorgal_judge(question: &[u8], rows: &[u8]) -> u64 {
+    judgement_number(judging::judge(question, rows))
+}
+
+// The number of a judgement: what it is, the refusal's number, its place in two bytes, and the number of the broken clause.
+fn judgement_number(judgement: Judgement) -> u64 {
+    match judgement {
+        Judgement::Refused { number, place } => {
+            256 * basics::wide(number) + 65536 * (place as u64)
+        }
+        Judgement::Accepted => 1,
+        Judgement::Broken(k) => 2 + 4294967296 * (k as u64),
+        Judgement::Extending => 3,
+    }
 }
 
 // Where the row of a variable lies in an answer buffer: the offset in the low 32 bits, the length in the high 32. It is the very part

@@ -1,0 +1,34 @@
+-- Whether rows extend to the second system of a stored question, choice by choice at the leaves of the rows: definitions. Assumes nothing.
+use mathlib.Core.Bool.{Bool, _&&_}
+use mathlib.Core.List.{List}
+use Prim.Native.Nat.{ℕ, _^_}
+use lib.ListN.{getD}
+use Rattle.shares.specs.Below.{everyBelow, someBelow}
+use Rattle.shares.specs.Blocks.{blockOf}
+use Rattle.shares.specs.Constant.{constantLevels}
+use Rattle.leaves.specs.RowNumbers as numbers
+use Rattle.format.specs.Stored.{Stored}
+use Rattle.rows.specs.Rows.{rowLevels}
+use Rattle.steps.specs.Tests.{leafValues, secondMeets, secondDiffers}
+use Rattle.unfolded.specs.Unfolded.{rowWords, leafOf}
+
+-- the choice of n free variables at leaf i of the rows of a table, as a number: variable 0 has the highest digit
+unfoldable pub choiceAt : List ℕ → ℕ → ℕ → ℕ
+choiceAt table n i = numbers.value (numbers.table n (λ v. leafOf (rowWords constantLevels) table v i))
+
+module _ (S : Stored) (table : List ℕ) where
+  -- the values of the constants at leaf i of the rows
+  abbrev pub valuesOver : ℕ → ℕ
+  valuesOver i = leafValues S constantLevels (blockOf constantLevels (rowLevels constantLevels) i)
+
+  -- beside the choice there some own choice meets the second system's positive clauses
+  abbrev pub meetsOver : ℕ → Bool
+  meetsOver i = secondMeets S (valuesOver i) (choiceAt table (S .free) i)
+
+  -- and its disequation j
+  abbrev pub differsOver : ℕ → ℕ → Bool
+  differsOver j i = secondDiffers S (valuesOver i) j (choiceAt table (S .free) i)
+
+  -- every leaf of the rows can meet the positive clauses, and each disequation can be met beside them at some leaf
+  abbrev pub extendsIn : Bool
+  extendsIn = everyBelow (2 ^ rowLevels constantLevels) meetsOver && everyBelow (getD (S .counts) 3 0) (λ j. someBelow (2 ^ rowLevels constantLevels) (differsOver j))

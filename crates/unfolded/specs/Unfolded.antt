@@ -1,0 +1,40 @@
+-- Rows and constants in words of 64 leaves: a table with the same number of words for each part of a join. Assumes nothing.
+use mathlib.Core.Path.{_≡_}
+use mathlib.Core.Bool.{Bool, true, false}
+use mathlib.Core.List.{List}
+use Prim.Native.Nat.{ℕ, _+_, _-_, _*_, _/_, _%_, _^_, _<_}
+use lib.ListN.{getD}
+use Rattle.shares.specs.Below.{everyBelow}
+use Rattle.shares.specs.Blocks.{blockOf}
+use Rattle.shares.specs.Constant.{bit}
+use Rattle.shares.specs.Parts.{emptyPart, fullPart}
+use Rattle.format.specs.declared.LeafJoin.{LeafJoin}
+use Rattle.words.specs.Clause.{testValue}
+use Rattle.rows.specs.Rows.{rowLevels, rowCount, rowLeaf, rowPart}
+
+-- so many words of 64 leaves make up a row, where the constants of a question have so many levels: 16 at 5
+abbrev pub rowWords : ℕ → ℕ
+rowWords levels = 2 ^ (rowLevels levels - 6)
+
+-- leaf i of part t, in a table of so many words a part
+unfoldable pub leafOf : ℕ → List ℕ → ℕ → ℕ → Bool
+leafOf words table t i = bit (getD table (words * t + i / 64) 0) (i % 64)
+
+-- a table has the leaves of the rows, and of the first `count` constants, each of which stands over as many leaves of a row
+pub record Unfolded (levels : ℕ) (rows constants : List ℕ) (count : ℕ) (table : List ℕ) : Type 0 where
+  pub variable : (v i : ℕ) → v < rowCount → i < 2 ^ rowLevels levels → leafOf (rowWords levels) table v i ≡ rowLeaf (rowPart (rowLevels levels) rows v) i
+  pub empty : (i : ℕ) → i < 2 ^ rowLevels levels → leafOf (rowWords levels) table emptyPart i ≡ false
+  pub full : (i : ℕ) → i < 2 ^ rowLevels levels → leafOf (rowWords levels) table fullPart i ≡ true
+  pub constant : (c i : ℕ) → c < count → i < 2 ^ rowLevels levels → leafOf (rowWords levels) table (32 + c) i ≡ bit (getD constants c 0) (blockOf levels (rowLevels levels) i)
+
+-- the test of a join at leaf i
+abbrev pub joinAt : ℕ → List ℕ → LeafJoin → ℕ → Bool
+joinAt words table j i = testValue (j .form) (leafOf words table (j .first) i) (leafOf words table (j .second) i) (leafOf words table (j .sum) i)
+
+-- it passes at every leaf
+abbrev pub joinEverywhere : ℕ → List ℕ → LeafJoin → Bool
+joinEverywhere levels table j = everyBelow (2 ^ rowLevels levels) (joinAt (rowWords levels) table j)
+
+-- the parts of a join have a place in a table of 64 parts
+abbrev pub PartsIn : LeafJoin → Type 0
+PartsIn j = (j .first < 64) × (j .second < 64) × (j .sum < 64)
