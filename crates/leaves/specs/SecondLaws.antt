@@ -66,6 +66,15 @@ module _ {X Y : Type 0} (D : Picker Y) (h : ℕ) (Q : Second X Y) (w : ℕ) (s :
   pub extension-room : (A B : ℕ → Type 0) → Room B w (Q .count) → LeafExtension A h Q w s → LeafExtension B h Q w s
   extension-room A B r E = extension-glue B r (extension-cut A E)
 
+  -- s extends exactly if the problem beside them is solvable
+  pub extension-solvable : LeafExtension anyHeight h Q w s ↔ T (solvable D w (beside h Q w s))
+  extension-solvable = (
+    λ E. solvable-intro D w (beside h Q w s) (extension-cut anyHeight E),
+    λ t.
+        let S = solution-glued D w (beside h Q w s) anyHeight (room-any w (Q .count)) t in
+        record { height = S .height; allowed = tt; own = S .leaves; extends = solves-extends (S .height) (S .leaves) (S .solves) },
+  )
+
 -- ---- the positive clauses alone, and each disequation alone beside them
 
 module _ {X Y : Type 0} (D : Picker Y) (h : ℕ) (Q : Second X Y) (w : ℕ) (s : ℕ → X) (tall : h ≤ w) where

@@ -155,7 +155,7 @@ module _ (n h : ℕ) (cs : Constants) (hw : h ≤ cs .levels) (k : ℕ) (hk : h 
   reads-iff (together u v) = Iff·rfl
 
   -- an atom holds exactly if its reading does at every leaf
-  atom-iff : (a : Atom) → InAtom (Good n h cs) a → Holds cs ρ a ↔ ((i : ℕ) → i < 2 ^ k → T (atomAt h cs (blockOf h k i) (x i) a))
+  pub atom-iff : (a : Atom) → InAtom (Good n h cs) a → Holds cs ρ a ↔ ((i : ℕ) → i < 2 ^ k → T (atomAt h cs (blockOf h k i) (x i) a))
   atom-iff a g = Iff·trans (reads-iff a) (reading-iff (readAs a) (in-reading (Good n h cs) a g))
 
   all-iff : (l : List Atom) → InAtoms (Good n h cs) l → AllHold cs ρ l ↔ ((i : ℕ) → i < 2 ^ k → T (allAt h cs (blockOf h k i) (x i) l))

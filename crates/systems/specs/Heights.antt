@@ -4,7 +4,7 @@ use mathlib.Core.Bool.{Bool, false}
 use mathlib.Core.Logic.{_↔_, _⊎_, inl, inr, Iff·trans, Iff·symm}
 use mathlib.Core.List.{List, [], _∷_}
 use Prim.Native.Nat.{ℕ, zero, suc, _+_, _^_, _≤_, _<_, max}
-use native.Mathlib.Nat.{le-trans, le-max-left, le-max-right, max-le, le-add-right, not-suc-le-zero, le-of-suc-le-suc}
+use native.Mathlib.Nat.{le-refl, le-trans, le-max-left, le-max-right, max-le, le-add-right, not-suc-le-zero, le-of-suc-le-suc}
 use native.Mathlib.Omega.{arith}
 use lib.Dec.{T}
 use lib.ListN.{length, getD}
@@ -56,6 +56,18 @@ question-bounds q F = record {
   first = in-system _ _ _ (λ t d _. term-within (q .free) (q .constants) t d) (q .first) (F .first) (F .first);
   second = in-system _ _ _ (λ t d _. term-within (q .free + q .own) (q .constants) t d) (q .second) (F .second) (F .second);
 }
+
+-- and so do their levels
+pub levels-bounds : (q : Question) → WellFormed q → Bounds (q .constants .levels) q
+levels-bounds q F = record {
+  low = le-refl (q .constants .levels);
+  first = in-system _ _ _ (λ t _ _. within t) (q .first) (F .first) (F .first);
+  second = in-system _ _ _ (λ t _ _. within t) (q .second) (F .second) (F .second);
+}
+  where
+    within : (t : Term) → Within (q .constants .levels) (q .constants) t
+    within (variable v) = tt
+    within (constant i) = treeOf-height (q .constants .levels) _
 
 -- ---- what cannot meet the positive clauses, or have a disequation beside them, does not extend
 

@@ -1,0 +1,28 @@
+-- Exactness of what judging gives: the model's statement, over the trees of the rows and own trees of every height. Assumes nothing.
+use mathlib.Core.Logic.{_↔_}
+use Prim.Native.Nat.{ℕ, _<_}
+use lib.ListN.{length}
+use Rattle.systems.specs.Clauses.{Assignment, ClauseHolds}
+use Rattle.systems.specs.Questions.{Kind, satisfiability, entailment, Question}
+use Rattle.systems.specs.Solutions.{SolvesFirst, Extends}
+use Rattle.judging.specs.Judging.{clauseOf}
+use Rattle.judging.specs.declared.Judgement.{Judgement}
+use Rattle.judging.specs.declared.Judgement.the-variants.{Refused, Accepted, Broken, Extending}
+
+-- σ breaks clause k of the first system, and none below it
+pub record BrokenAt (q : Question) (σ : Assignment) (k : ℕ) : Type 0 where
+  pub there : k < length (q .first)
+  pub broken : ¬ ClauseHolds (q .constants) σ (clauseOf (q .first) k)
+  pub lowest : (j : ℕ) → j < k → ClauseHolds (q .constants) σ (clauseOf (q .first) j)
+
+-- σ extends, by own shares of any height, where that is asked
+abbrev pub ExtendsToo : Kind → Question → Assignment → Type 0
+ExtendsToo satisfiability q σ = ⊥
+ExtendsToo entailment q σ = Extends q σ
+
+-- what is given for the shares σ: each result exactly where it is right
+pub record Exactly (q : Question) (σ : Assignment) (Gives : Judgement → Type 0) : Type 0 where
+  pub accepted : Gives Accepted ↔ (SolvesFirst q σ × ¬ ExtendsToo (q .kind) q σ)
+  pub broken : (k : ℕ) → Gives (Broken k) ↔ BrokenAt q σ k
+  pub extending : Gives Extending ↔ (SolvesFirst q σ × ExtendsToo (q .kind) q σ)
+  pub not-refused : (n place : ℕ) → ¬ Gives (Refused n place)
