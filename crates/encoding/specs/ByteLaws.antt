@@ -1,0 +1,170 @@
+-- What is written of a command reads back: its byte, its constant's bytes, its terms. Assumes nothing.
+use mathlib.Core.Path.{_≡_, refl, sym, ap, ap₂, _∙_}
+use mathlib.Core.Bool.{Bool, true, false, cond}
+use mathlib.Core.List.{List, [], _∷_, _++_, append-assoc}
+use Prim.Native.Nat.{ℕ, zero, suc, _+_, _-_, _*_, _/_, _%_, _^_, _≤_, _<_}
+use native.Mathlib.Omega.{arith}
+use borrow.Author.Tests.{lt-ltb, le-ltb, ltb-false, eqb-true}
+use lib.Dec.{eqb, ltb}
+use lib.ListN.{length, getD, take, drop, length-append}
+use lib.Pow.{split, high, low, shr-lt}
+use lib.Seq.{getD-append-seam, getD-append-add, drop-append-seam, take-at}
+use Rattle.shares.specs.Constant.{constantLevels, number, bytesAt}
+use Rattle.format.specs.declared.Section.{Section}
+use Rattle.format.specs.declared.Section.the-variants.{FirstPositive, FirstDisequation, SecondPositive, SecondDisequation}
+use Rattle.format.specs.declared.Test.{Test}
+use Rattle.format.specs.declared.Test.the-variants.{Join, Equality, Full, Empty, Together}
+use Rattle.format.specs.declared.Shape.{Shape}
+use Rattle.format.specs.declared.Entry.{Entry}
+use Rattle.format.specs.declared.Entry.the-variants.{Known, Unknown}
+use Rattle.format.specs.declared.Command.{Command}
+use Rattle.format.specs.declared.Step.{Step}
+use Rattle.format.specs.declared.Step.the-variants.{Take, Refused}
+use Rattle.format.specs.Format.{entryOf, termCount, operands, termByte, commandOf, wholeAt, readAt}
+use Rattle.format.specs.FormatLaws.{branch, size}
+use Rattle.format.specs.KeepingLaws.{Bytes}
+use Rattle.encoding.specs.Encode.{clauseByte, commandByte, lowestBytes, constantBytes, shapeOf, operandBytes, encodeCommand}
+
+-- ---- a number's bytes
+
+pub bytes-length : (n x : ℕ) → length (lowestBytes n x) ≡ n
+unfolding lowestBytes
+bytes-length zero x = refl
+bytes-length (suc n) x = ap suc (bytes-length n (x / 2 ^ 8))
+
+-- they make the number again, where it fits them
+pub number-back : (n x : ℕ) → x < 2 ^ (8 * n) → number (lowestBytes n x) ≡ x
+unfolding lowestBytes number
+number-back zero x h = omega arith
+number-back (suc n) x h =
+    let e : 8 * suc n ≡ 8 * n + 8 = omega arith in
+    ap (λ m. m * 2 ^ 8 + x % 2 ^ 8) (number-back n (x / 2 ^ 8) (shr-lt (8 * n) 8 (rw e at h))) ∙ split x 8
+
+-- bytes are those of the number that they make
+pub bytes-back : (l : List ℕ) → Bytes l → lowestBytes (length l) (number l) ≡ l
+unfolding lowestBytes number
+bytes-back [] h = refl
+bytes-back (b ∷ l) h = ap₂ _∷_ (low (number l) 8 (h 0)) (ap (lowestBytes (length l)) (high (number l) 8 (h 0)) ∙ bytes-back l (λ i. h (suc i)))
+
+-- ---- command bytes
+
+-- what a known byte announces has that byte
+Announces : ℕ → Entry → Type 0
+Announces b (Known h) = commandByte h ≡ b
+Announces b Unknown = Unit {0}
+
+-- one line of the table
+row : (b n : ℕ) (h : Shape) (e : Entry) → commandByte h ≡ n → Announces b e → Announces b (cond (eqb b n) (Known h) e)
+unfolding Announces
+row b n h e c f = branch (Announces b) (eqb b n) (Known h) e (λ t. c ∙ sym (eqb-true b n t)) (λ _. f)
+
+announced : (b : ℕ) → Announces b (entryOf b)
+unfolding entryOf Announces
+announced b =
+    row b 0x00 Shape.End _ refl
+    (row b 0x01 Shape.Head _ refl
+    (row b 0x03 Shape.Constant _ refl
+    (row b 0x10 (Shape.Clause FirstPositive Join) _ refl
+    (row b 0x11 (Shape.Clause FirstDisequation Join) _ refl
+    (row b 0x12 (Shape.Clause FirstPositive Equality) _ refl
+    (row b 0x13 (Shape.Clause FirstDisequation Equality) _ refl
+    (row b 0x20 (Shape.Clause SecondPositive Join) _ refl
+    (row b 0x21 (Shape.Clause SecondDisequation Join) _ refl
+    (row b 0x22 (Shape.Clause SecondPositive Equality) _ refl
+    (row b 0x23 (Shape.Clause SecondDisequation Equality) _ refl
+    (row b 0x30 (Shape.Clause FirstPositive Full) _ refl
+    (row b 0x31 (Shape.Clause FirstDisequation Empty) _ refl
+    (row b 0x32 (Shape.Clause FirstPositive Together) _ refl
+    (row b 0x38 (Shape.Clause SecondPositive Full) _ refl
+    (row b 0x39 (Shape.Clause SecondDisequation Empty) _ refl
+    (row b 0x3A (Shape.Clause SecondPositive Together) Unknown refl tt))))))))))))))))
+
+pub command-byte : (b : ℕ) (h : Shape) → entryOf b ≡ Known h → commandByte h ≡ b
+unfolding Announces
+command-byte b h e = rw e at (announced b)
+
+-- ---- a command that reads back
+
+-- the terms that a test does not take are 0
+abbrev Absent : Test → ℕ → ℕ → Type 0
+Absent t b c = (cond (ltb 1 (termCount t)) b 0 ≡ b) × (cond (ltb 2 (termCount t)) c 0 ≡ c)
+
+-- a command that can be written after the head: its constant fits, its byte is known, its terms are those of its test
+abbrev pub Readable : Command → Type 0
+Readable Command.End = Unit {0}
+Readable Command.Head = ⊥
+Readable (Command.Constant x) = x < 2 ^ (8 * bytesAt constantLevels)
+Readable (Command.Clause σ t a b c) = (entryOf (clauseByte σ t) ≡ Known (Shape.Clause σ t)) × Absent t b c
+
+entry-back : (c : Command) → Readable c → entryOf (commandByte (shapeOf c)) ≡ Known (shapeOf c)
+unfolding entryOf
+entry-back Command.End r = refl
+entry-back Command.Head r = refl
+entry-back (Command.Constant x) r = refl
+entry-back (Command.Clause σ t a b c) r = r .0
+
+terms-length : (t : Test) (a b c : ℕ) → length (take (termCount t) (a ∷ b ∷ c ∷ [])) ≡ termCount t
+terms-length Join a b c = refl
+terms-length Equality a b c = refl
+terms-length Full a b c = refl
+terms-length Empty a b c = refl
+terms-length Together a b c = refl
+
+operands-length : (c : Command) → Readable c → length (operandBytes c) ≡ operands (shapeOf c)
+operands-length Command.End r = refl
+operands-length Command.Head r = absurd r
+operands-length (Command.Constant x) r = bytes-length (bytesAt constantLevels) x
+operands-length (Command.Clause σ t a b c) r = terms-length t a b c
+
+pub size-shape : (c : Command) → size c ≡ 1 + operands (shapeOf c)
+size-shape Command.End = refl
+size-shape Command.Head = refl
+size-shape (Command.Constant x) = refl
+size-shape (Command.Clause σ t a b c) = refl
+
+pub encoded-length : (c : Command) → Readable c → length (encodeCommand c) ≡ size c
+encoded-length c r = omega (arith, operands-length c r, size-shape c)
+
+module _ (p rest : List ℕ) where
+  -- byte number k of what follows p
+  past : (l : List ℕ) (k : ℕ) → getD (p ++ l) (length p + k) 0 ≡ getD l k 0
+  past l k = getD-append-add p l k 0
+
+  terms-back : (σ : Section) (t : Test) (a b c : ℕ) → Absent t b c
+      → commandOf (p ++ (take (termCount t) (a ∷ b ∷ c ∷ []) ++ rest)) (length p) (Shape.Clause σ t) ≡ Command.Clause σ t a b c
+  unfolding commandOf
+  terms-back σ Join a b c h = rw (past (a ∷ b ∷ c ∷ rest) 0, past (a ∷ b ∷ c ∷ rest) 1, past (a ∷ b ∷ c ∷ rest) 2) refl
+  terms-back σ Equality a b c h = rw (past (a ∷ b ∷ rest) 0, past (a ∷ b ∷ rest) 1, ← h .1) refl
+  terms-back σ Full a b c h = rw (past (a ∷ rest) 0, ← h .0, ← h .1) refl
+  terms-back σ Empty a b c h = rw (past (a ∷ rest) 0, ← h .0, ← h .1) refl
+  terms-back σ Together a b c h = rw (past (a ∷ b ∷ rest) 0, past (a ∷ b ∷ rest) 1, ← h .1) refl
+
+  constant-back : (x : ℕ) → x < 2 ^ (8 * bytesAt constantLevels)
+      → commandOf (p ++ (constantBytes constantLevels x ++ rest)) (length p) Shape.Constant ≡ Command.Constant x
+  unfolding commandOf
+  constant-back x h =
+      let n = bytesAt constantLevels in
+      ap (λ l. Command.Constant (number (take n l))) (drop-append-seam p (lowestBytes n x ++ rest))
+      ∙ ap (λ l. Command.Constant (number l)) (take-at (lowestBytes n x) rest n (bytes-length n x))
+      ∙ ap Command.Constant (number-back n x h)
+
+  operands-back : (c : Command) → Readable c → commandOf (p ++ (operandBytes c ++ rest)) (length p) (shapeOf c) ≡ c
+  unfolding commandOf
+  operands-back Command.End r = refl
+  operands-back Command.Head r = absurd r
+  operands-back (Command.Constant x) r = constant-back x r
+  operands-back (Command.Clause σ t a b c) r = terms-back σ t a b c (r .1)
+
+-- a command that is written where it is due is read there
+pub read-back : (p rest : List ℕ) (c : Command) → Readable c → readAt (p ++ (encodeCommand c ++ rest)) (length p) ≡ Take c (length p + size c)
+unfolding readAt wholeAt
+read-back p rest c r =
+    let b = commandByte (shapeOf c) in
+    let s : List ℕ = p ++ (encodeCommand c ++ rest) in
+    let n : length s ≡ length p + (1 + operands (shapeOf c) + length rest) = simp length-append (omega (arith, operands-length c r)) in
+    let known : entryOf (getD s (length p) 0) ≡ Known (shapeOf c) = ap entryOf (getD-append-seam p b (operandBytes c ++ rest) 0) ∙ entry-back c r in
+    let before : length (p ++ (b ∷ [])) ≡ length p + 1 = simp length-append in
+    let whole : commandOf s (length p + 1) (shapeOf c) ≡ c =
+    ap₂ (λ l i. commandOf l i (shapeOf c)) (sym (append-assoc p (b ∷ []) (operandBytes c ++ rest))) (sym before) ∙ operands-back (p ++ (b ∷ [])) rest c r in
+    let next : length p + 1 + operands (shapeOf c) ≡ length p + size c = omega (arith, size-shape c) in
+    rw (lt-ltb (length p) (length s) (omega arith), known, le-ltb (length s - (length p + 1)) (operands (shapeOf c)) (omega arith), whole, next) refl

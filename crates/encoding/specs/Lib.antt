@@ -1,0 +1,4 @@
+pub mod Encode
+pub mod Order
+pub mod OrderLaws
+pub mod ByteLaws
