@@ -35,7 +35,7 @@ abbrev pub handedTo : Result → List ℕ → Judged
 handedTo (refused n place) rows = turnedAway n place
 handedTo (accepted q) rows =
     cond (eqb (length rows) (answerBytes (q .constants .levels)))
-    (cond (isZero (drop (rowBytes (q .constants .levels) * q .free) rows)) (judged q) (turnedAway 19 0))
+    (cond (isZero (drop (q .free * rowBytes (q .constants .levels)) rows)) (judged q) (turnedAway 19 0))
     (turnedAway 18 0)
 
 -- a question in bytes, with these rows

@@ -1,3 +1,4 @@
 pub mod Judging
 pub mod Exactly
 pub mod ModelLaws
+pub mod ShownAccepted

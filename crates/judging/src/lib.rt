@@ -124,7 +124,7 @@ pub fn judge(question: &[u8], rows: &[u8]) -> Judgement {
             place: 0,
         };
     }
-    let start = ROW_BYTES * reading.question.free;
+    let start = reading.question.free * ROW_BYTES;
     if !blocks::is_filled(&rows[start..ANSWER_BYTES], 0) {
         return Judgement::Refused {
             number: 19,

@@ -1,17 +1,17 @@
 -- Laws of rows, for every height from 3 on: a row is its tree and back, by its leaves. Assumes nothing.
 use mathlib.Core.Path.{_≡_, refl, sym, ap, ap₂, _∙_, fun-ext}
 use mathlib.Core.Bool.{Bool, true, false, cond}
-use mathlib.Core.List.{List, [], _++_, append-assoc}
+use mathlib.Core.List.{List, [], _++_, append-assoc, append-nil}
 use mathlib.Core.Logic.{_⊎_, inl, inr}
 use Prim.Native.Nat.{ℕ, zero, suc, _+_, _-_, _*_, _/_, _%_, _^_, _≤_, _<_, zero-le}
-use native.Mathlib.Nat.{not-suc-le-zero, le-of-suc-le-suc, eq-or-lt-of-le, zero-mul, suc-mul, le-trans, add-mul, one-mul, mul-le-mul-right}
+use native.Mathlib.Nat.{not-suc-le-zero, le-of-suc-le-suc, eq-or-lt-of-le, zero-mul, suc-mul, le-trans, add-mul, one-mul, mul-le-mul-right, mod-lt, div-add-mod', le-div-iff-mul-le}
 use native.Mathlib.Decide.{decLt}
 use native.Mathlib.Omega.{arith}
 use borrow.Author.Tests.{lt-ltb, le-ltb, le-leb, lt-leb}
 use lib.Dec.{ltb}
-use lib.ListN.{length, getD, take, drop, replicate, length-append, length-drop, length-replicate, replicate-append-replicate, List·getD-eq-default}
-use lib.Pow.{pow-add}
-use lib.Seq.{ext-getD, take-at, drop-at}
+use lib.ListN.{length, getD, take, drop, replicate, length-append, length-drop, length-replicate, replicate-append-replicate, drop-of-length-le, List·getD-eq-default}
+use lib.Pow.{pow-add, pow-pos}
+use lib.Seq.{ext-getD, length-take-le, getD-take, getD-drop, take-at, drop-at}
 use Rattle.shares.specs.Tree.{Tree, leaf, Folded, height, leafAt}
 use Rattle.shares.specs.TreeLaws.{treeOf-ext, treeOf-leaf, treeOf-leafAt, leafAt-treeOf}
 use Rattle.shares.specs.Constant.{bit, numberOf, bytesAt}
@@ -260,6 +260,34 @@ module _ (k n : ℕ) (f : ℕ → Tree) where
         go : Dec (v < rowCount) → rowTree k (rowPart k (filledWith k n f answer) v) ≡ f v
         go (yes l) = ap (rowTree k) (filled-part v l) ∙ variable-tree h v folded low past
         go (no m) = ap (rowTree k) (part-none k (filledWith k n f answer) v (omega arith)) ∙ zero-row k [] (λ j. refl) ∙ sym (past (omega arith))
+
+    -- its first bytes, as many as the rows have, are what a buffer of that length is filled with
+    pub filled-first : take (rowCount * bytesAt k) (filledWith k n f answer) ≡ filledWith k n f (take (rowCount * bytesAt k) answer)
+    unfolding filledWith
+    filled-first =
+        let b = rowCount * bytesAt k in
+        let whole = rowsOf (variableRow k n f) rowCount in
+        take-at whole (drop b answer) b (rows-length (variableRow k n f) (bytesAt k) variable-length rowCount)
+        ∙ sym (ap (λ rest. whole ++ rest) (drop-of-length-le (take b answer) {i = b} (omega (arith, length-take-le b answer room))) ∙ append-nil whole)
+
+-- where the rows from the n-th on are zero, each of their bytes is
+pub others-zero : (k n : ℕ) (rows : List ℕ) → 3 ≤ k → rowCount * bytesAt k ≡ length rows
+    → ((v : ℕ) → n ≤ v → v < rowCount → rowPart k rows v ≡ zeros (bytesAt k)) → (i : ℕ) → n * bytesAt k ≤ i → getD rows i 0 ≡ 0
+others-zero k n rows h len empty i l = go (decLt (i / bytesAt k) rowCount)
+  where
+    some : 0 < bytesAt k
+    some = omega (arith, eight k h, pow-pos (k - 3))
+
+    split : i / bytesAt k * bytesAt k + i % bytesAt k ≡ i
+    split = div-add-mod' i (bytesAt k)
+
+    go : Dec (i / bytesAt k < rowCount) → getD rows i 0 ≡ 0
+    go (yes m) =
+        ap (λ j. getD rows j 0) (sym split) ∙ sym (getD-drop (i / bytesAt k * bytesAt k) rows (i % bytesAt k) 0)
+        ∙ sym (getD-take (bytesAt k) (drop (i / bytesAt k * bytesAt k) rows) (i % bytesAt k) 0 (mod-lt i some))
+        ∙ ap (λ r. getD r (i % bytesAt k) 0) (sym (part-some k rows (i / bytesAt k) m (omega (arith, len))) ∙ empty (i / bytesAt k) (le-div-iff-mul-le some .1 l) m)
+        ∙ zeros-at (bytesAt k) (i % bytesAt k)
+    go (no g) = let m : rowCount ≤ i / bytesAt k = omega arith in List·getD-eq-default rows 0 (omega (arith, len, le-div-iff-mul-le some .0 m))
 
 -- ---- a buffer that is emptied and then filled with one row after the other
 
