@@ -111,7 +111,7 @@ module _ {kind : ℕ} (x : Stored) (q : Question) (St : Stands kind x q) (h : �
           ≡ clauseFails (x .clauses) (640 + 4 * j) (q .free) (q .own) (leafValues S h b) (value u * 2 ^ (q .free) + value v)
       second-dis j l = one-same b (q .own) few SecondDisequation _ _ both-values j _ l
 
-    second-meets : leaf.meets (least (q .own)) (secondAt h q) b v ≡ secondMeets S (leafValues S h b) (value v)
+    pub second-meets : leaf.meets (least (q .own)) (secondAt h q) b v ≡ secondMeets S (leafValues S h b) (value v)
     unfolding leaf.meets someOwn
     second-meets =
         ap (someChoice (least (q .own))) (fun-ext second-pos) ∙ some-number (q .own) _
@@ -120,7 +120,7 @@ module _ {kind : ℕ} (x : Stored) (q : Question) (St : Stands kind x q) (h : �
         secondAll : ℕ → Bool
         secondAll y = someOwn (q .free) (q .own) (allPass (x .clauses) 384 (countOf (x .counts) SecondPositive) (q .free) (q .own) (leafValues S h b)) y
 
-    second-with : (j : ℕ) → j < countOf (x .counts) SecondDisequation
+    pub second-with : (j : ℕ) → j < countOf (x .counts) SecondDisequation
         → leaf.meetsWith (least (q .own)) (secondAt h q) j b v ≡ secondDiffers S (leafValues S h b) j (value v)
     unfolding leaf.meetsWith someOwn allPassBut
     second-with j l =

@@ -1,68 +1,31 @@
 -- Every solution that asking shows is accepted. Assumes nothing.
 use mathlib.Core.Path.{_≡_, refl, sym, ap, _∙_, subst}
-use mathlib.Core.Bool.{Bool, true, false, _&&_}
-use mathlib.Core.List.{List, [], _∷_}
-use Prim.Native.Nat.{ℕ, zero, suc, _+_, _*_, _≤_, _<_}
+use mathlib.Core.Bool.{true}
+use mathlib.Core.List.{List}
+use Prim.Native.Nat.{ℕ, _*_}
 use native.Mathlib.Omega.{arith}
-use borrow.Author.Tests.{eq-eqb, eqb-true}
-use lib.Dec.{T, eqb}
-use lib.ListN.{length, getD, take, drop}
+use lib.Dec.{T}
+use lib.ListN.{length, take, drop}
 use lib.Seq.{length-take-le, getD-drop}
-use Rattle.shares.specs.Test.{is-true, of-true, and-left, and-right}
+use Rattle.shares.specs.Test.{is-true}
 use Rattle.systems.specs.Clauses.{Assignment}
-use Rattle.systems.specs.Questions.{Kind, satisfiability, entailment, Question, WellFormed, questionHeight}
+use Rattle.systems.specs.Questions.{Question, WellFormed, questionHeight}
 use Rattle.systems.specs.Answers.{Answer, satisfied, unsatisfied, vacuous, entailed, unmet, missed, kindOf, shows, Fails}
 use Rattle.systems.specs.Decide.{decide}
 use Rattle.systems.specs.Exact.{decide-kind}
 use Rattle.systems.specs.Heights.{exact}
-use Rattle.format.specs.Format.{Result, refused, accepted, read}
 use Rattle.format.specs.FormatLaws.{accepted-formed}
-use Rattle.rows.specs.Rows.{rowLevels, rowBytes, answerBytes, filledWith}
+use Rattle.rows.specs.Rows.{rowLevels, rowBytes, answerBytes}
 use Rattle.rows.specs.RowLaws.{filled-first, filled-length, others-zero}
-use Rattle.asking.specs.Asking.{answered, askedWith, answerAfter, shownTrees, outcomeOf}
+use Rattle.asking.specs.Asking.{answered, askedWith, answerAfter, shownTrees}
 use Rattle.asking.specs.AskingLaws.{Granted, granted, asked-answered}
 use Rattle.asking.specs.Demand3.{rowShares, RowsShow}
 use Rattle.asking.specs.AskedRight.{demand-3}
-use Rattle.judging.specs.Judging.{Judged, turnedAway, judged, isZero, judgedWith, judgementOf}
+use Rattle.judging.specs.Judging.{isZero, judgedWith, judgementOf}
+use Rattle.judging.specs.CaseLaws.{zero-part, judged-on}
 use Rattle.judging.specs.Exactly.{ExtendsToo}
 use Rattle.judging.specs.ModelLaws.{judged-exactly}
-use Rattle.judging.specs.declared.Judgement.the-variants.{Refused, Accepted}
-
--- ---- parts whose bytes are 0
-
-pub zero-part : (part : List ℕ) → ((i : ℕ) → i < length part → getD part i 0 ≡ 0) → isZero part ≡ true
-unfolding isZero
-zero-part [] f = refl
-zero-part (b ∷ part) f = rw (eq-eqb b 0 (f zero (omega arith)), zero-part part (λ i l. f (suc i) (omega arith)))
-
-pub zero-bytes : (part : List ℕ) → isZero part ≡ true → (i : ℕ) → i < length part → getD part i 0 ≡ 0
-unfolding isZero
-zero-bytes [] e i l = absurd (omega arith)
-zero-bytes (b ∷ part) e zero l = eqb-true b 0 (is-true _ (and-left (eqb b 0) (isZero part) (of-true e)))
-zero-bytes (b ∷ part) e (suc i) l = zero-bytes part (is-true _ (and-right (eqb b 0) (isZero part) (of-true e))) i (omega arith)
-
--- ---- the cases of judging
-
-module _ (s rows : List ℕ) where
-  pub judged-refused : (n place : ℕ) → read s ≡ refused n place → judgedWith s rows ≡ turnedAway n place
-  unfolding judgedWith
-  judged-refused n place e = rw e
-
-  module _ (q : Question) (e : read s ≡ accepted q) where
-    pub judged-18 : eqb (length rows) (answerBytes (q .constants .levels)) ≡ false → judgedWith s rows ≡ turnedAway 18 0
-    unfolding judgedWith
-    judged-18 f = rw (e, f)
-
-    module _ (l : length rows ≡ answerBytes (q .constants .levels)) where
-      pub judged-19 : isZero (drop (q .free * rowBytes (q .constants .levels)) rows) ≡ false → judgedWith s rows ≡ turnedAway 19 0
-      unfolding judgedWith
-      judged-19 f = rw (e, eq-eqb (length rows) (answerBytes (q .constants .levels)) l, f)
-
-      pub judged-on : isZero (drop (q .free * rowBytes (q .constants .levels)) rows) ≡ true → judgedWith s rows ≡ judged q
-      unfolding judgedWith
-      judged-on f = rw (e, eq-eqb (length rows) (answerBytes (q .constants .levels)) l, f)
-
--- ---- the theorem
+use Rattle.judging.specs.declared.Judgement.the-variants.{Accepted}
 
 -- a solution that is shown with a no does not extend
 not-extending : (q : Question) (σ : Assignment) (a : Answer) → T (shows a) → Fails q σ a → ¬ ExtendsToo (kindOf a) q σ

@@ -3,6 +3,7 @@ use basics::CLAUSE_BYTES;
 use commands::table;
 use faults::sections;
 use format::Command;
+use format::LeafJoin;
 use format::Question;
 use format::Section;
 use format::Step;
@@ -10,6 +11,20 @@ use rows::ANSWER_BYTES;
 use rows::ROW_BYTES;
 use rows::blocks;
 use unfolded::TABLE_WORDS;
+ghost use mathlib.Core.Path.{_≡_};
+ghost use mathlib.Core.List.{List};
+ghost use Prim.Native.Nat.{ℕ};
+ghost use lib.ListN.{length};
+ghost use Rattle.shares.specs.Constant.{constantLevels};
+ghost use Rattle.systems.specs.Questions as model;
+ghost use Rattle.format.specs.Format.{accepted, read};
+ghost use Rattle.format.specs.Stored.{storedOf, Stands};
+ghost use Rattle.rows.specs.Rows.{answerBytes};
+ghost use Rattle.asking.specs.Demand3.{rowShares};
+ghost use Rattle.unfolded.specs.Unfolded.{joinEverywhere, PartsIn};
+ghost use Rattle.judging.specs.Judging.{judged, judgedWith, lowestBroken, judgementOf};
+ghost use Rattle.judging.specs.Exactly.{Exactly};
+ghost use Rattle.judging.specs.Walk.{breaksIn, CommandFits, commandBreaks, saysFirst, Laid};
 
 // What judging gives. Refused: the question with the reader's number and place, or the rows with 18 or 19. Accepted. Rejected because clause number k of the
 // first system is broken, the lowest such; or because the rows extend.
@@ -18,16 +33,6 @@ pub enum Judgement {
     Accepted,
     Broken(usize),
     Extending,
-}
-
-// Whether clauses of a section are disequations.
-fn is_denied(section: Section) -> bool {
-    match section {
-        Section::FirstPositive => false,
-        Section::FirstDisequation => true,
-        Section::SecondPositive => false,
-        Section::SecondDisequation => true,
-    }
 }
 
 // Whether a command is a clause of the first system.
@@ -46,8 +51,26 @@ fn is_first(command: Command) -> bool {
     }
 }
 
-// Whether the rows of a table break a clause; no other command is broken.
-fn is_broken(leaves: &[u64; TABLE_WORDS], command: Command) -> bool {
+// Whether the rows of a table break a clause of the first system that reads so: a positive one that fails at some leaf, or a disequation whose atom holds at
+// every leaf.
+fn breaks(leaves: &[u64; TABLE_WORDS], section: Section, join: LeafJoin) -> bool
+    requires { ⌜ PartsIn join ⌝ }
+    ensures { λ r. ⌜ r ≡ breaksIn section (joinEverywhere constantLevels (now (leaves .entry)) join) ⌝ }
+{
+    let holds = unfolded::everywhere(leaves, join);
+    match section {
+        Section::FirstPositive => !holds,
+        Section::FirstDisequation => holds,
+        Section::SecondPositive => false,
+        Section::SecondDisequation => false,
+    }
+}
+
+// Whether the rows of a table break the clause of the first system that a command says.
+fn is_broken(leaves: &[u64; TABLE_WORDS], command: Command) -> bool
+    requires { ⌜ CommandFits command ⌝ }
+    ensures { λ r. ⌜ r ≡ commandBreaks constantLevels (now (leaves .entry)) command ⌝ }
+{
     match command {
         Command::End => false,
         Command::Head => false,
@@ -58,7 +81,7 @@ fn is_broken(leaves: &[u64; TABLE_WORDS], command: Command) -> bool {
             a,
             b,
             c,
-        } => unfolded::everywhere(leaves, table::join_for(test, a, b, c)) == is_denied(section),
+        } => breaks(leaves, section, table::join_for(test, a, b, c)),
     }
 }
 

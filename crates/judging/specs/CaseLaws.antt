@@ -1,0 +1,48 @@
+-- Which case of judging is met. Assumes nothing.
+use mathlib.Core.Path.{_≡_, refl}
+use mathlib.Core.Bool.{true, false}
+use mathlib.Core.List.{List, [], _∷_}
+use Prim.Native.Nat.{ℕ, zero, suc, _*_, _<_}
+use native.Mathlib.Omega.{arith}
+use borrow.Author.Tests.{eq-eqb, eqb-true}
+use lib.Dec.{eqb}
+use lib.ListN.{length, getD, drop}
+use Rattle.shares.specs.Test.{is-true, of-true, and-left, and-right}
+use Rattle.systems.specs.Questions.{Question}
+use Rattle.format.specs.Format.{refused, accepted, read}
+use Rattle.rows.specs.Rows.{rowBytes, answerBytes}
+use Rattle.judging.specs.Judging.{turnedAway, judged, isZero, judgedWith}
+
+-- ---- parts whose bytes are 0
+
+pub zero-part : (part : List ℕ) → ((i : ℕ) → i < length part → getD part i 0 ≡ 0) → isZero part ≡ true
+unfolding isZero
+zero-part [] f = refl
+zero-part (b ∷ part) f = rw (eq-eqb b 0 (f zero (omega arith)), zero-part part (λ i l. f (suc i) (omega arith)))
+
+pub zero-bytes : (part : List ℕ) → isZero part ≡ true → (i : ℕ) → i < length part → getD part i 0 ≡ 0
+unfolding isZero
+zero-bytes [] e i l = absurd (omega arith)
+zero-bytes (b ∷ part) e zero l = eqb-true b 0 (is-true _ (and-left (eqb b 0) (isZero part) (of-true e)))
+zero-bytes (b ∷ part) e (suc i) l = zero-bytes part (is-true _ (and-right (eqb b 0) (isZero part) (of-true e))) i (omega arith)
+
+-- ---- the cases of judging
+
+module _ (s rows : List ℕ) where
+  pub judged-refused : (n place : ℕ) → read s ≡ refused n place → judgedWith s rows ≡ turnedAway n place
+  unfolding judgedWith
+  judged-refused n place e = rw e
+
+  module _ (q : Question) (e : read s ≡ accepted q) where
+    pub judged-18 : eqb (length rows) (answerBytes (q .constants .levels)) ≡ false → judgedWith s rows ≡ turnedAway 18 0
+    unfolding judgedWith
+    judged-18 f = rw (e, f)
+
+    module _ (l : length rows ≡ answerBytes (q .constants .levels)) where
+      pub judged-19 : isZero (drop (q .free * rowBytes (q .constants .levels)) rows) ≡ false → judgedWith s rows ≡ turnedAway 19 0
+      unfolding judgedWith
+      judged-19 f = rw (e, eq-eqb (length rows) (answerBytes (q .constants .levels)) l, f)
+
+      pub judged-on : isZero (drop (q .free * rowBytes (q .constants .levels)) rows) ≡ true → judgedWith s rows ≡ judged q
+      unfolding judgedWith
+      judged-on f = rw (e, eq-eqb (length rows) (answerBytes (q .constants .levels)) l, f)

@@ -1,0 +1,69 @@
+-- The joins of a table are the readings of atoms at the leaves of the rows. Assumes nothing.
+use mathlib.Core.Path.{_≡_, refl, sym, ap, _∙_, subst}
+use mathlib.Core.Bool.{Bool, true, false}
+use mathlib.Core.List.{List}
+use Prim.Native.Nat.{ℕ, _+_, _-_, _*_, _^_, _≤_, _<_}
+use native.Mathlib.Nat.{mul-one}
+use native.Mathlib.Omega.{arith}
+use lib.ListN.{length, getD, take, length-take}
+use lib.Seq.{getD-take}
+use Rattle.shares.specs.BelowLaws.{every-ext}
+use Rattle.shares.specs.Blocks.{blockOf}
+use Rattle.shares.specs.Constant.{constantLevels, bit}
+use Rattle.shares.specs.Tree.{joins}
+use Rattle.systems.specs.Clauses.{variable, constant, Constants, Atom}
+use Rattle.systems.specs.Questions.{Question, Defined, InAtom}
+use Rattle.systems.specs.AtLeaves.{Part, of, always, LeafReading, joinsTo, apart, readAs, termAt, partAt, readingAt}
+use Rattle.systems.specs.AtomLaws.{InPart, InReading, in-reading}
+use Rattle.format.specs.Stored.{partByte, fourOf}
+use Rattle.words.specs.Clause.{testValue}
+use Rattle.rows.specs.Rows.{rowLevels, rowCount}
+use Rattle.unfolded.specs.Unfolded.{rowWords, leafOf, Unfolded, joinAt, joinEverywhere, PartsIn}
+use Rattle.judging.specs.Judging.{rowAt, everywhere}
+
+module _ (levels : ℕ) (rows constants : List ℕ) (count : ℕ) (table : List ℕ) (U : Unfolded levels rows constants count table) where
+  -- the constants as the model has them
+  abbrev cs : Constants
+  cs = record { levels = levels; numbers = take count constants }
+
+  module _ (n : ℕ) (few : n ≤ rowCount) where
+    module _ (i : ℕ) (l : i < 2 ^ rowLevels levels) where
+      -- a part at a leaf
+      part-leaf : (p : Part) → InPart (Defined n cs) p
+          → leafOf (rowWords levels) table (partByte p) i ≡ partAt levels cs (blockOf levels (rowLevels levels) i) (rowAt levels rows i) p
+      unfolding partAt termAt
+      part-leaf (of (variable v)) d = U .variable v i (omega arith) l
+      part-leaf (of (constant c)) d =
+          let m : c < count = omega (arith, length-take count constants) in
+          let same : levels - levels ≡ 0 = omega arith in
+          U .constant c i m l ∙ rw (getD-take count constants c 0 m, same, mul-one (blockOf levels (rowLevels levels) i)) refl
+      part-leaf (always false) d = U .empty i l
+      part-leaf (always true) d = U .full i l
+
+      -- a join there
+      join-leaf : (t : LeafReading) → InReading (Defined n cs) t
+          → joinAt (rowWords levels) table (fourOf t) i ≡ readingAt levels cs (blockOf levels (rowLevels levels) i) (rowAt levels rows i) t
+      unfolding testValue readingAt
+      join-leaf (joinsTo u v w) d = rw (part-leaf u (d .0), part-leaf v (d .1), part-leaf w (d .2)) refl
+      join-leaf (apart u v) d = rw (part-leaf u (d .0), part-leaf v (d .1)) refl
+
+    -- at every leaf
+    pub join-everywhere : (a : Atom) → InAtom (Defined n cs) a → joinEverywhere levels table (fourOf (readAs a)) ≡ everywhere cs rows a
+    unfolding everywhere
+    join-everywhere a d = every-ext (2 ^ rowLevels levels) _ _ (λ i l. join-leaf i l (readAs a) (in-reading (Defined n cs) a d))
+
+-- ---- the parts of an atom have a place in the table
+
+module _ (n : ℕ) (cs : Constants) (few : n ≤ rowCount) (some : length (cs .numbers) ≤ 32) where
+  part-in : (p : Part) → InPart (Defined n cs) p → partByte p < 64
+  part-in (of (variable v)) d = omega arith
+  part-in (of (constant c)) d = omega arith
+  part-in (always false) d = omega arith
+  part-in (always true) d = omega arith
+
+  reading-in : (t : LeafReading) → InReading (Defined n cs) t → PartsIn (fourOf t)
+  reading-in (joinsTo u v w) d = (part-in u (d .0), part-in v (d .1), part-in w (d .2))
+  reading-in (apart u v) d = (part-in u (d .0), part-in v (d .1), omega arith)
+
+  pub parts-in : (a : Atom) → InAtom (Defined n cs) a → PartsIn (fourOf (readAs a))
+  parts-in a d = reading-in (readAs a) (in-reading (Defined n cs) a d)

@@ -1,0 +1,57 @@
+-- Going over a question's commands with the rows in a table: definitions for the code. Assumes nothing.
+use mathlib.Core.Path.{_≡_}
+use mathlib.Core.Bool.{Bool, false, not}
+use mathlib.Core.List.{List, _++_}
+use Prim.Native.Nat.{ℕ, _+_, _≤_, _<_}
+use lib.ListN.{length, take}
+use Rattle.shares.specs.Constant.{constantLevels}
+use Rattle.systems.specs.Clauses.{System}
+use Rattle.systems.specs.Questions.{Question, WellFormed}
+use Rattle.format.specs.declared.Section.{Section}
+use Rattle.format.specs.declared.Section.the-variants.{FirstPositive, FirstDisequation, SecondPositive, SecondDisequation}
+use Rattle.format.specs.declared.Command.{Command}
+use Rattle.format.specs.Format.{isSecond}
+use Rattle.format.specs.Stored.{joinFor}
+use Rattle.encoding.specs.Order.{commandsFrom, firstClauses}
+use Rattle.unfolded.specs.Unfolded.{Unfolded, joinEverywhere, PartsIn}
+
+-- a clause of a section is broken, where its atom holds at every leaf or not: only those of the first system count
+abbrev pub breaksIn : Section → Bool → Bool
+breaksIn FirstPositive holds = not holds
+breaksIn FirstDisequation holds = holds
+breaksIn SecondPositive holds = false
+breaksIn SecondDisequation holds = false
+
+-- a command's clause is broken by the rows of a table
+abbrev pub commandBreaks : ℕ → List ℕ → Command → Bool
+commandBreaks levels table Command.End = false
+commandBreaks levels table Command.Head = false
+commandBreaks levels table (Command.Constant x) = false
+commandBreaks levels table (Command.Clause σ t a b c) = breaksIn σ (joinEverywhere levels table (joinFor t a b c))
+
+-- its parts have a place in the table
+abbrev pub CommandFits : Command → Type 0
+CommandFits Command.End = Unit {0}
+CommandFits Command.Head = Unit {0}
+CommandFits (Command.Constant x) = Unit {0}
+CommandFits (Command.Clause σ t a b c) = PartsIn (joinFor t a b c)
+
+-- a command is a clause of the first system
+abbrev pub saysFirst : Command → Bool
+saysFirst Command.End = false
+saysFirst Command.Head = false
+saysFirst (Command.Constant x) = false
+saysFirst (Command.Clause σ t a b c) = not (isSecond σ)
+
+-- a table has the rows, and the constants of the question q, which are the first `count` of these
+pub record Laid (q : Question) (rows constants : List ℕ) (count : ℕ) (table : List ℕ) : Type 0 where
+  pub constants-are : q .constants ≡ record { levels = constantLevels; numbers = take count constants }
+  pub unfolded : Unfolded constantLevels rows constants count table
+
+-- at an offset of the question q, n clauses of its first system have been met: the commands from there on say the others
+pub record Walk (s : List ℕ) (q : Question) (at n : ℕ) : Type 0 where
+  pub bound : ℕ
+  pub enough : length s < at + bound
+  pub met : System
+  pub count : length met ≡ n
+  pub rest : q .first ≡ met ++ firstClauses (commandsFrom bound s at)
