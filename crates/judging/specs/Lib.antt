@@ -6,3 +6,4 @@ pub mod ModelLaws
 pub mod ShownAccepted
 pub mod TableLaws
 pub mod WalkLaws
+pub mod ExtendLaws

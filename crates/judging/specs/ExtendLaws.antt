@@ -1,0 +1,82 @@
+-- What a table and a stored question say of extending is what the rows and the question say. Assumes nothing.
+use mathlib.Core.Path.{_≡_, refl, sym, ap, ap₂, _∙_, fun-ext}
+use mathlib.Core.Bool.{Bool, false, _&&_}
+use mathlib.Core.List.{List}
+use Prim.Native.Nat.{ℕ, _^_, _≤_, _<_}
+use native.Mathlib.Omega.{arith}
+use lib.ListN.{getD}
+use Rattle.shares.specs.Below.{everyBelow, someBelow}
+use Rattle.shares.specs.BelowLaws.{every-ext, some-ext}
+use Rattle.shares.specs.Blocks.{blockOf}
+use Rattle.shares.specs.Constant.{constantLevels}
+use Rattle.leaves.specs.Choices.{Row, at, least}
+use Rattle.leaves.specs.RowNumbers as numbers
+use Rattle.leaves.specs.ChoiceLaws.{at-table, row-path}
+use Rattle.leaves.specs.Problem.{plainAt, specialAt, solvable}
+use Rattle.leaves.specs.LeafExtensions.{beside}
+use Rattle.leaves.specs.Second as leaf
+use Rattle.systems.specs.Questions.{Question, secondCount}
+use Rattle.systems.specs.AtLeaves.{secondAt}
+use Rattle.format.specs.declared.Section.the-variants.{SecondDisequation}
+use Rattle.format.specs.Stored.{Stored, Stands}
+use Rattle.format.specs.KeepingLaws.{section-count}
+use Rattle.format.specs.Callers.{levels-are}
+use Rattle.steps.specs.Tests.{leafValues, secondMeets, secondDiffers}
+use Rattle.decide.specs.StandsLaws.{withVariables, second-meets, second-with}
+use Rattle.rows.specs.Rows.{rowLevels, rowCount}
+use Rattle.unfolded.specs.Unfolded.{rowWords, leafOf, Unfolded}
+use Rattle.extending.specs.Extending.{choiceAt, meetsOver, differsOver, extendsIn}
+use Rattle.judging.specs.Judging.{rowAt, choices, extendsAt}
+
+module _ {kind : ℕ} (x : Stored) (q : Question) (St : Stands kind x q) (rows constants table : List ℕ) (count : ℕ)
+    (U : Unfolded constantLevels rows constants count table) where
+  abbrev height : ℕ
+  height = rowLevels constantLevels
+
+  -- the free choice at a leaf, as a number
+  choice-number : (i : ℕ) → i < 2 ^ height → choiceAt table (q .free) i ≡ numbers.value (numbers.table (q .free) (rowAt constantLevels rows i))
+  unfolding choiceAt
+  choice-number i l =
+      ap numbers.value (row-path false (q .free) _ _ (λ v m.
+      at-table false (q .free) (λ v. leafOf (rowWords constantLevels) table v i) v m ∙ U .variable v i (omega (arith, St .free, St .variables)) l
+      ∙ sym (at-table false (q .free) (rowAt constantLevels rows i) v m)))
+
+  -- with the question's numbers of variables
+  abbrev S : Stored
+  S = withVariables x (q .free) (q .own)
+
+  same-stored : x ≡ S
+  same-stored = ap₂ (withVariables x) (St .free) (St .own)
+
+  meets-same : (i : ℕ) → i < 2 ^ height
+      → meetsOver S table i ≡ leaf.meets (least (q .own)) (secondAt constantLevels q) (blockOf constantLevels height i) (numbers.table (q .free) (rowAt constantLevels rows i))
+  meets-same i l =
+      ap (secondMeets S (leafValues S constantLevels (blockOf constantLevels height i))) (choice-number i l)
+      ∙ sym (second-meets x q St constantLevels (blockOf constantLevels height i) (numbers.table (q .free) (rowAt constantLevels rows i)))
+
+  differs-same : (j : ℕ) → j < getD (x .counts) 3 0 → (i : ℕ) → i < 2 ^ height
+      → differsOver S table j i
+      ≡ leaf.meetsWith (least (q .own)) (secondAt constantLevels q) j (blockOf constantLevels height i) (numbers.table (q .free) (rowAt constantLevels rows i))
+  differs-same j m i l =
+      ap (secondDiffers S (leafValues S constantLevels (blockOf constantLevels height i)) j) (choice-number i l)
+      ∙ sym (second-with x q St constantLevels (blockOf constantLevels height i) (numbers.table (q .free) (rowAt constantLevels rows i)) j m)
+
+  at-levels : extendsIn S table
+      ≡ (everyBelow (2 ^ height) (λ i. leaf.meets (least (q .own)) (secondAt constantLevels q) (blockOf constantLevels height i) (numbers.table (q .free) (rowAt constantLevels rows i)))
+      && everyBelow (secondCount q) (λ j. someBelow (2 ^ height) (λ i.
+      leaf.meetsWith (least (q .own)) (secondAt constantLevels q) j (blockOf constantLevels height i) (numbers.table (q .free) (rowAt constantLevels rows i)))))
+  at-levels =
+      ap₂ _&&_ (every-ext (2 ^ height) _ _ meets-same)
+      (every-ext (getD (x .counts) 3 0) _ _ (λ j m. some-ext (2 ^ height) _ _ (differs-same j m))
+      ∙ ap (λ n. everyBelow n (λ j. someBelow (2 ^ height) (λ i.
+      leaf.meetsWith (least (q .own)) (secondAt constantLevels q) j (blockOf constantLevels height i) (numbers.table (q .free) (rowAt constantLevels rows i)))))
+      (sym (section-count x q St SecondDisequation)))
+
+  -- where constants have so many levels
+  abbrev extendsWith : ℕ → Bool
+  extendsWith levels =
+      solvable (least (q .own)) (rowLevels levels) (beside levels (secondAt levels q) (rowLevels levels) (λ i. numbers.table (q .free) (rowAt levels rows i)))
+
+  pub extends-same : extendsIn x table ≡ extendsAt q rows
+  unfolding solvable plainAt specialAt leaf.meets leaf.meetsWith
+  extends-same = ap (λ y. extendsIn y table) same-stored ∙ at-levels ∙ ap extendsWith (sym (levels-are x q St))
