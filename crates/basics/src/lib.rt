@@ -52,7 +52,7 @@ pub fn index(byte: u8) -> usize
 // The number that four bytes make, the lowest first.
 pub fn four_bytes(bytes: &[u8], i: usize) -> u64
     requires { ⌜ i + 4 ≤ length (now bytes) ⌝ }
-    ensures { λ r. ⌜ r ≡ number (take 4 (drop i (now (bytes .entry)))) ⌝ }
+    ensures { λ r. ⌜ (r ≡ number (take 4 (drop i (now (bytes .entry))))) × (r < 2 ^ 32) ⌝ }
 {
     let a = wide(bytes[i]);
     let b = wide(bytes[i + 1]);

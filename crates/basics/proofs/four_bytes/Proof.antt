@@ -73,7 +73,11 @@ add-result-3 c = search needs
 returns : tie.Need-returns
 returns c =
     let s = c .before .before .before .before .before .before .before .before .before in
-    omega (arith, four-bytes (s .args .bytes .now) (s .args .i) (s .pre), c .wide4 .ensures .0, c .before .before .wide3 .ensures .0, c .before .before .before .before .wide2 .ensures .0, c .before .before .before .before .before .before .wide .ensures .0)
+    let a = c .before .before .before .before .before .before .wide .ensures in
+    let b = c .before .before .before .before .wide2 .ensures in
+    let d = c .before .before .wide3 .ensures in
+    let e = c .wide4 .ensures in
+    (omega (arith, four-bytes (s .args .bytes .now) (s .args .i) (s .pre), a .0, b .0, d .0, e .0), omega (arith, a .1, b .1, d .1, e .1))
 
 pub four-bytes-spec : {M : Type 1} → statement M
 four-bytes-spec =

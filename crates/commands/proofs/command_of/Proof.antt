@@ -34,7 +34,7 @@ returns-2 c = simp (c .enum-told2 .given .1)
 
 returns-3 : tie.Need-returns-3
 unfolding commandOf
-returns-3 c = simp (c .before .enum-told3 .given .1, ← c .four-bytes .ensures)
+returns-3 c = simp (c .before .enum-told3 .given .1, ← c .four-bytes .ensures .0)
 
 returns-4 : tie.Need-returns-4
 unfolding commandOf
