@@ -27,7 +27,7 @@ join-word-requires c κs = search needs
 returns : tie.Need-returns Inv-loop μ-loop
 returns c =
     let x = c .before .join-word in
-    sym (every-fails _ (c .before .before .before .loop .w) (x .result) (x .ensures) (x .ok) 16 (c .before .before .loop-test .taken) (c .if1 .taken))
+    sym (every-fails _ (c .before .before .before .loop .w) (x .result) (x .ensures) (x .ok) 16 (omega arith) (c .if1 .taken))
 
 add-w : tie.Need-add-w Inv-loop μ-loop
 add-w c = omega arith
