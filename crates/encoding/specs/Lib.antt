@@ -2,3 +2,4 @@ pub mod Encode
 pub mod Order
 pub mod OrderLaws
 pub mod ByteLaws
+pub mod EncodeLaws
