@@ -22,10 +22,10 @@ use Rattle.format.specs.declared.Head.{Head}
 use Rattle.format.specs.declared.Head.the-variants.{Opens, Wrong}
 use Rattle.format.specs.declared.Step.{Step}
 use Rattle.format.specs.declared.Step.the-variants.{Take, Refused}
-use Rattle.format.specs.Format.{Result, refused, accepted, mostVariables, mostConstants, mostPositive, mostDisequations, entryOf, mostOf, inSection, termOf, names, variablesFor, allNamed, atomOf, isForeign, fault, judged, withClause, taken, ended, go, onward, turn, following, run, headFits, kindFrom, opened, headOf, afterHead, read}
+use Rattle.format.specs.Format.{Result, refused, accepted, mostVariables, mostConstants, mostPositive, mostDisequations, entryOf, isSecond, mostOf, inSection, termOf, names, variablesFor, allNamed, atomOf, isForeign, fault, judged, withClause, taken, ended, go, onward, turn, following, run, headFits, kindFrom, opened, headOf, afterHead, read}
 use Rattle.format.specs.Stored.{kindNumber}
 use Rattle.format.specs.Keeping.{isEnd}
-use Rattle.format.specs.SectionLaws.{positives-append, disequations-append}
+use Rattle.format.specs.SectionLaws.{positives-append, disequations-append, variables-le}
 use Rattle.format.specs.FormatLaws.{Limited, size, ClauseFits}
 use Rattle.encoding.specs.Encode.{shapeOf, encodeCommand, encodeCommands, termByteOf, clauseCommand, firstCommand, secondCommand, commandsFor, headBytes, encode, HasCommand, AllHaveCommands, Writable}
 use Rattle.encoding.specs.ByteLaws.{Readable, encoded-length, read-back}
@@ -169,9 +169,10 @@ leads-constants : (q : Question) (l ns : List ℕ) → ((i : ℕ) → getD ns i 
     → Leads (part q l [] []) (map Command.Constant ns) (part q (l ++ ns) [] [])
 unfolding taken fault
 leads-constants q l [] h few = ap (λ m. part q m [] []) (sym (append-nil l))
-leads-constants q l (x ∷ ns) h few =
-    (record { readable = h 0; more = refl; clear = rw (lt-leb mostConstants (length l) (omega arith)) refl },
-    rw (← append-snoc l x ns) (leads-constants q (l ++ (x ∷ [])) ns (λ i. h (suc i)) (simp length-append (omega arith))))
+leads-constants q l (x ∷ ns) h few = (
+  record { readable = h 0; more = refl; clear = rw (lt-leb mostConstants (length l) (omega arith)) refl },
+  rw (← append-snoc l x ns) (leads-constants q (l ++ (x ∷ [])) ns (λ i. h (suc i)) (simp length-append (omega arith))),
+)
 
 -- a system, clause by clause: from a question with its first clauses to the one with all of them
 module _ (P : Term → Type 0) (whole : System) (grown : System → Question) (command : Clause → Command)
@@ -186,3 +187,105 @@ module _ (P : Term → Type 0) (whole : System) (grown : System → Question) (c
       head-in : (c : Clause) (g : System) → InSystem P (c ∷ g) → InSystem P (c ∷ []) × InSystem P g
       head-in (positive b) g h = ((h .0, tt), h .1)
       head-in (negated b) g h = ((h .0, tt), h .1)
+
+-- there was room before a clause that stands in a system within its limit
+room-positive : (whole f rest : System) (a : Atom) (m : ℕ) → whole ≡ f ++ (positive a ∷ rest) → length (positives whole) ≤ m → length (positives f) < m
+unfolding positives
+room-positive whole f rest a m e l =
+    let n = ap (λ s. length (positives s)) e ∙ ap length (positives-append f (positive a ∷ rest)) ∙ length-append (positives f) (a ∷ positives rest) in
+    omega arith
+
+room-disequation : (whole f rest : System) (a : Atom) (m : ℕ) → whole ≡ f ++ (negated a ∷ rest) → length (disequations whole) ≤ m → length (disequations f) < m
+unfolding disequations
+room-disequation whole f rest a m e l =
+    let n = ap (λ s. length (disequations s)) e ∙ ap length (disequations-append f (negated a ∷ rest)) ∙ length-append (disequations f) (a ∷ disequations rest) in
+    omega arith
+
+-- the first system is there for each kind
+first-home : (k : Kind) (σ : Section) → isSecond σ ≡ false → isForeign k σ ≡ false
+first-home satisfiability σ e = e
+first-home entailment σ e = refl
+
+-- the second is there where it has a clause
+second-home : (k : Kind) (m : ℕ) (whole f rest : System) (c : Clause) (σ : Section) → Alone k m whole → whole ≡ f ++ (c ∷ rest) → isForeign k σ ≡ false
+second-home satisfiability m whole f rest c σ a e = absurd (omega (arith, ap length (sym (a .1) ∙ e) ∙ length-append f (c ∷ rest)))
+second-home entailment m whole f rest c σ a e = refl
+
+module _ (q : Question) (w : Writable q) where
+  abbrev numbers : List ℕ
+  numbers = q .constants .numbers
+
+  -- a clause more
+  atom-step : (f g : System) (σ : Section) (a : Atom) → Readable (clauseCommand σ a) → isForeign (q .kind) σ ≡ false
+      → length (inSection (part q numbers f g) σ) < mostOf σ → InAtom (Defined (variablesFor (q .free) (q .own) σ) (q .constants)) a
+      → Good (part q numbers f g) (clauseCommand σ a) × (taken (part q numbers f g) (clauseCommand σ a) ≡ withClause (part q numbers f g) σ a)
+  atom-step f g σ a r home room h =
+      let few : variablesFor (q .free) (q .own) σ ≤ mostVariables = omega (arith, variables-le (q .free) (q .own) σ, w .limited .variables) in (
+        record { readable = r; more = atom-more σ a; clear = atom-clear (part q numbers f g) σ home room few a h },
+        atom-taken (part q numbers f g) σ home room few a h,
+      )
+
+  first-step : (f rest : System) (c : Clause) → q .first ≡ f ++ (c ∷ rest) → HasCommand c → InSystem (Defined (q .free) (q .constants)) (c ∷ [])
+      → Good (part q numbers f []) (firstCommand c) × (taken (part q numbers f []) (firstCommand c) ≡ part q numbers (f ++ (c ∷ [])) [])
+  first-step f rest (positive a) e r h =
+      atom-step f [] FirstPositive a (readable (positive a) r .0) (first-home (q .kind) FirstPositive refl)
+      (room-positive (q .first) f rest a mostPositive e (w .limited .sections FirstPositive)) (h .0)
+  first-step f rest (negated a) e r h =
+      atom-step f [] FirstDisequation a (readable (negated a) r .0) (first-home (q .kind) FirstDisequation refl)
+      (room-disequation (q .first) f rest a mostDisequations e (w .limited .sections FirstDisequation)) (h .0)
+
+  second-step : (g rest : System) (c : Clause) → q .second ≡ g ++ (c ∷ rest) → HasCommand c → InSystem (Defined (q .free + q .own) (q .constants)) (c ∷ [])
+      → Good (part q numbers (q .first) g) (secondCommand c) × (taken (part q numbers (q .first) g) (secondCommand c) ≡ part q numbers (q .first) (g ++ (c ∷ [])))
+  second-step g rest (positive a) e r h =
+      atom-step (q .first) g SecondPositive a (readable (positive a) r .1)
+      (second-home (q .kind) (q .own) (q .second) g rest (positive a) SecondPositive (w .formed .alone) e)
+      (room-positive (q .second) g rest a mostPositive e (w .limited .sections SecondPositive)) (h .0)
+  second-step g rest (negated a) e r h =
+      atom-step (q .first) g SecondDisequation a (readable (negated a) r .1)
+      (second-home (q .kind) (q .own) (q .second) g rest (negated a) SecondDisequation (w .formed .alone) e)
+      (room-disequation (q .second) g rest a mostDisequations e (w .limited .sections SecondDisequation)) (h .0)
+
+  small : (i : ℕ) → getD numbers i 0 < 2 ^ (8 * bytesAt constantLevels)
+  small i = rw (w .limited .levels) at (w .small i)
+
+  leads-to : Leads (part q [] [] []) (commandsFor q) q
+  leads-to =
+      leads-append (map Command.Constant numbers) _ (part q [] [] []) (part q numbers [] []) q
+      (leads-constants q [] numbers small (omega (arith, w .limited .constants)))
+      (leads-append (map firstCommand (q .first)) _ (part q numbers [] []) (part q numbers (q .first) []) q
+      (leads-system _ (q .first) (λ f. part q numbers f []) firstCommand first-step [] (q .first) refl (w .first) (w .formed .first))
+      (leads-system _ (q .second) (λ g. part q numbers (q .first) g) secondCommand second-step [] (q .second) refl (w .second) (w .formed .second)))
+
+-- ---- the head
+
+head-back : (kind n m : ℕ) (rest : List ℕ) → headFits kind n m ≡ true → headOf (0x01 ∷ kind ∷ n ∷ m ∷ rest) ≡ Opens kind n m
+unfolding headOf
+head-back kind n m rest h =
+    let s : List ℕ = 0x01 ∷ kind ∷ n ∷ m ∷ rest in
+    rw (lt-ltb 0 (length s) (omega arith), le-ltb (length s) 4 (omega arith), h) refl
+
+fits-back : (k : Kind) (n m : ℕ) (s : System) → n + m ≤ mostVariables → Alone k m s → headFits (kindNumber k) n m ≡ true
+unfolding headFits
+fits-back satisfiability n m s l a = rw (le-ltb mostVariables (n + m) l) (eq-eqb m 0 (a .0))
+fits-back entailment n m s l a = rw (le-ltb mostVariables (n + m) l) refl
+
+kind-back : (k : Kind) → kindFrom (kindNumber k) ≡ k
+kind-back satisfiability = refl
+kind-back entailment = refl
+
+opened-part : (q : Question) → q .constants .levels ≡ constantLevels → opened (kindNumber (q .kind)) (q .free) (q .own) ≡ part q [] [] []
+unfolding opened
+opened-part q e = rw (kind-back (q .kind), e) refl
+
+-- ---- a question that can be written reads back
+
+pub read-encode : (q : Question) → Writable q → read (encode q) ≡ accepted q
+unfolding read encode
+read-encode q w =
+    let s : List ℕ = headBytes q ++ (encodeCommands (commandsFor q) ++ encodeCommand Command.End) in
+    let fits = fits-back (q .kind) (q .free) (q .own) (q .second) (w .limited .variables) (w .formed .alone) in
+    let room : length (commandsFor q) < length s =
+    omega (arith, few-commands (commandsFor q), length-append (encodeCommands (commandsFor q)) (encodeCommand Command.End)) in
+    ap (afterHead s) (head-back (kindNumber (q .kind)) (q .free) (q .own) _ fits)
+    ∙ ap (run (length s) s 4) (opened-part q (w .limited .levels))
+    ∙ run-back (commandsFor q) (headBytes q) (length s) (part q [] [] []) q (leads-to q w) room
