@@ -3,3 +3,4 @@ pub mod Order
 pub mod OrderLaws
 pub mod ByteLaws
 pub mod EncodeLaws
+pub mod AcceptedLaws

@@ -1,0 +1,131 @@
+-- Every accepted question can be written, and one of satisfiability is written byte for byte as it came. Assumes nothing.
+use mathlib.Core.Path.{_≡_, refl, sym, ap, ap₂, subst, _∙_}
+use mathlib.Core.Bool.{Bool, true, false, cond}
+use mathlib.Core.List.{List, [], _∷_, _++_, map, map-append, append-nil, append-assoc}
+use Prim.Native.Nat.{ℕ, zero, suc, _+_, _*_, _^_, _≤_, _<_}
+use native.Mathlib.Omega.{arith}
+use borrow.Author.Tests.{eqb-true}
+use lib.Dec.{eqb}
+use lib.ListN.{length, getD, take, drop}
+use lib.Seq.{take-add, take-all}
+use Rattle.shares.specs.Constant.{constantLevels, bytesAt}
+use Rattle.systems.specs.Clauses.{Clause, positive, negated, System}
+use Rattle.systems.specs.Questions.{Kind, satisfiability, entailment, Question}
+use Rattle.format.specs.declared.Section.{Section}
+use Rattle.format.specs.declared.Section.the-variants.{FirstPositive, FirstDisequation, SecondPositive, SecondDisequation}
+use Rattle.format.specs.declared.Test.{Test}
+use Rattle.format.specs.declared.Test.the-variants.{Join, Equality, Full, Empty, Together}
+use Rattle.format.specs.declared.Shape.{Shape}
+use Rattle.format.specs.declared.Entry.the-variants.{Known, Unknown}
+use Rattle.format.specs.declared.Command.{Command}
+use Rattle.format.specs.declared.Head.{Head}
+use Rattle.format.specs.declared.Head.the-variants.{Opens, Wrong}
+use Rattle.format.specs.declared.Step.{Step}
+use Rattle.format.specs.declared.Step.the-variants.{Take, Refused}
+use Rattle.format.specs.Format.{Result, refused, accepted, entryOf, readAt, atomOf, fault, judged, withClause, taken, ended, onward, turn, run, opened, headOf, afterHead, read}
+use Rattle.format.specs.SectionLaws.{clause-keeps}
+use Rattle.format.specs.FormatLaws.{branch, Stay, run-law, accepted-formed, accepted-limited}
+use Rattle.format.specs.KeepingLaws.{Bytes}
+use Rattle.encoding.specs.Order.{firstSaid, secondSaid}
+use Rattle.encoding.specs.OrderLaws.{said}
+use Rattle.encoding.specs.Encode.{clauseByte, encode, HasCommand, AllHaveCommands, Writable}
+use Rattle.encoding.specs.ByteLaws.{Again, AgainStep, read-again}
+use Rattle.encoding.specs.EncodeLaws.{read-encode}
+
+-- ---- a clause that is read has a command
+
+known-has : (σ : Section) (t : Test) (a b c : ℕ) → entryOf (clauseByte σ t) ≡ Known (Shape.Clause σ t)
+    → AllHaveCommands (firstSaid σ (atomOf t a b c)) × AllHaveCommands (secondSaid σ (atomOf t a b c))
+unfolding entryOf
+known-has FirstPositive Join a b c e = ((tt, tt), tt)
+known-has FirstPositive Equality a b c e = ((tt, tt), tt)
+known-has FirstPositive Full a b c e = ((tt, tt), tt)
+known-has FirstPositive Empty a b c e = let z : _≡_ {A = ℕ} 0 1 = cc in absurd (omega arith)
+known-has FirstPositive Together a b c e = ((tt, tt), tt)
+known-has FirstDisequation Join a b c e = ((tt, tt), tt)
+known-has FirstDisequation Equality a b c e = ((tt, tt), tt)
+known-has FirstDisequation Full a b c e = let z : _≡_ {A = ℕ} 0 1 = cc in absurd (omega arith)
+known-has FirstDisequation Empty a b c e = ((tt, tt), tt)
+known-has FirstDisequation Together a b c e = let z : _≡_ {A = ℕ} 0 1 = cc in absurd (omega arith)
+known-has SecondPositive Join a b c e = (tt, (tt, tt))
+known-has SecondPositive Equality a b c e = (tt, (tt, tt))
+known-has SecondPositive Full a b c e = (tt, (tt, tt))
+known-has SecondPositive Empty a b c e = let z : _≡_ {A = ℕ} 0 1 = cc in absurd (omega arith)
+known-has SecondPositive Together a b c e = (tt, (tt, tt))
+known-has SecondDisequation Join a b c e = (tt, (tt, tt))
+known-has SecondDisequation Equality a b c e = (tt, (tt, tt))
+known-has SecondDisequation Full a b c e = let z : _≡_ {A = ℕ} 0 1 = cc in absurd (omega arith)
+known-has SecondDisequation Empty a b c e = (tt, (tt, tt))
+known-has SecondDisequation Together a b c e = let z : _≡_ {A = ℕ} 0 1 = cc in absurd (omega arith)
+
+all-append : (s t : System) → AllHaveCommands s → AllHaveCommands t → AllHaveCommands (s ++ t)
+all-append [] t h k = k
+all-append (c ∷ s) t h k = (h .0, all-append s t (h .1) k)
+
+-- ---- every accepted question can be written
+
+-- a bound on the numbers of a list holds with one more
+below-append : (m x : ℕ) (l : List ℕ) → ((i : ℕ) → getD l i 0 < m) → x < m → (i : ℕ) → getD (l ++ (x ∷ [])) i 0 < m
+below-append m x [] h u zero = u
+below-append m x [] h u (suc i) = h i
+below-append m x (y ∷ l) h u zero = h zero
+below-append m x (y ∷ l) h u (suc i) = below-append m x l (λ j. h (suc j)) u i
+
+-- what is read so far can be said: its constants fit their bytes, and its clauses have commands
+record Sayable (q : Question) : Type 0 where
+  small : (i : ℕ) → getD (q .constants .numbers) i 0 < 2 ^ (8 * bytesAt constantLevels)
+  first : AllHaveCommands (q .first)
+  second : AllHaveCommands (q .second)
+
+abbrev SayableResult : Result → Type 0
+SayableResult (refused n place) = Unit {0}
+SayableResult (accepted q) = Sayable q
+
+sayable-clause : (q : Question) (σ : Section) (t : Test) (a b c : ℕ) → entryOf (clauseByte σ t) ≡ Known (Shape.Clause σ t) → Sayable q
+    → Sayable (withClause q σ (atomOf t a b c))
+sayable-clause q σ t a b c e d =
+    let k = known-has σ t a b c e in
+    let g = said q σ (atomOf t a b c) in
+    record {
+      small = rw (clause-keeps q σ (atomOf t a b c) .constants) (d .small);
+      first = rw (g .0) (all-append (q .first) _ (d .first) (k .0));
+      second = rw (g .1) (all-append (q .second) _ (d .second) (k .1));
+    }
+
+module _ (s : List ℕ) (bytes : Bytes s) where
+  abbrev Onward : ℕ → Question → Step → Type 0
+  Onward at q r = Stay (λ q′ _. Sayable q′) SayableResult (onward s at q r)
+
+  sayable-on : (at : ℕ) (q : Question) (c : Command) (next : ℕ) → Sayable q → Again s at c → Onward at q (Take c next)
+  unfolding taken ended
+  sayable-on at q Command.End next d g = branch SayableResult (eqb next (length s)) (accepted q) (refused 10 next) (λ _. d) (λ _. tt)
+  sayable-on at q Command.Head next d g = d
+  sayable-on at q (Command.Constant x) next d g = record { small = below-append _ x (q .constants .numbers) (d .small) (g .0); first = d .first; second = d .second }
+  sayable-on at q (Command.Clause σ t a b c) next d g = sayable-clause q σ t a b c (g .0 .0) d
+
+  sayable-turn : (q : Question) (at : ℕ) → Sayable q → Stay (λ q′ _. Sayable q′) SayableResult (turn s at q)
+  unfolding turn
+  sayable-turn q at d = judge (readAt s at) (read-again s bytes at)
+    where
+      judge : (r : Step) → AgainStep s at r → Onward at q (judged q r)
+      judge (Refused n) g = tt
+      judge (Take c next) g = branch (Onward at q) (eqb (fault q c) 0) (Take c next) (Refused (fault q c)) (λ _. sayable-on at q c next d g) (λ _. tt)
+
+  read-sayable : SayableResult (read s)
+  unfolding read opened
+  read-sayable = pick (headOf s)
+    where
+      pick : (h : Head) → SayableResult (afterHead s h)
+      pick (Opens kind n m) =
+          run-law (λ q _. Sayable q) SayableResult s sayable-turn (λ _ _ _. tt) (length s) 4 (opened kind n m) (record { small = λ i. omega arith; first = tt; second = tt })
+      pick (Wrong n) = tt
+
+pub accepted-writable : (s : List ℕ) (q : Question) → Bytes s → read s ≡ accepted q → Writable q
+accepted-writable s q bytes e =
+    let d = subst SayableResult e (read-sayable s bytes) in
+    let l = accepted-limited s q e in
+    record { formed = accepted-formed s q e; limited = l; small = λ i. rw (l .levels) (d .small i); first = d .first; second = d .second }
+
+-- what is written of an accepted question is read as that question
+pub encode-again : (s : List ℕ) (q : Question) → Bytes s → read s ≡ accepted q → read (encode q) ≡ accepted q
+encode-again s q bytes e = read-encode q (accepted-writable s q bytes e)
