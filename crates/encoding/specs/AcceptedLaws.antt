@@ -22,14 +22,14 @@ use Rattle.format.specs.declared.Head.{Head}
 use Rattle.format.specs.declared.Head.the-variants.{Opens, Wrong}
 use Rattle.format.specs.declared.Step.{Step}
 use Rattle.format.specs.declared.Step.the-variants.{Take, Refused}
-use Rattle.format.specs.Format.{Result, refused, accepted, entryOf, readAt, atomOf, fault, judged, withClause, taken, ended, onward, turn, run, opened, headOf, afterHead, read}
+use Rattle.format.specs.Format.{Result, refused, accepted, entryOf, readAt, atomOf, fault, judged, withFirst, withClause, withConstant, taken, ended, onward, turn, run, opened, headOf, afterHead, read}
 use Rattle.format.specs.SectionLaws.{clause-keeps}
-use Rattle.format.specs.FormatLaws.{branch, Stay, run-law, accepted-formed, accepted-limited}
-use Rattle.format.specs.KeepingLaws.{Bytes}
+use Rattle.format.specs.FormatLaws.{branch, size, Stay, run-law, accepted-formed, accepted-limited}
+use Rattle.format.specs.KeepingLaws.{Bytes, byte-back}
 use Rattle.encoding.specs.Order.{firstSaid, secondSaid}
 use Rattle.encoding.specs.OrderLaws.{said}
-use Rattle.encoding.specs.Encode.{clauseByte, encode, HasCommand, AllHaveCommands, Writable}
-use Rattle.encoding.specs.ByteLaws.{Again, AgainStep, read-again}
+use Rattle.encoding.specs.Encode.{clauseByte, encodeCommand, encodeCommands, clauseCommand, firstCommand, commandsFor, headBytes, encode, HasCommand, AllHaveCommands, Writable}
+use Rattle.encoding.specs.ByteLaws.{Readable, Again, AgainStep, read-again}
 use Rattle.encoding.specs.EncodeLaws.{read-encode}
 
 -- ---- a clause that is read has a command
@@ -129,3 +129,55 @@ accepted-writable s q bytes e =
 -- what is written of an accepted question is read as that question
 pub encode-again : (s : List ℕ) (q : Question) → Bytes s → read s ≡ accepted q → read (encode q) ≡ accepted q
 encode-again s q bytes e = read-encode q (accepted-writable s q bytes e)
+
+-- ---- a question of satisfiability is written as it came
+
+encode-append : (l m : List Command) → encodeCommands (l ++ m) ≡ encodeCommands l ++ encodeCommands m
+unfolding encodeCommands
+encode-append [] m = refl
+encode-append (c ∷ l) m = ap (λ r. encodeCommand c ++ r) (encode-append l m) ∙ sym (append-assoc (encodeCommand c) (encodeCommands l) (encodeCommands m))
+
+-- a clause's command is that of what it says
+clause-again : (σ : Section) (t : Test) (a b c : ℕ) → Readable (Command.Clause σ t a b c) → clauseCommand σ (atomOf t a b c) ≡ Command.Clause σ t a b c
+clause-again σ Join a b c h = rw (byte-back a, byte-back b, byte-back c) refl
+clause-again σ Equality a b c h = rw (byte-back a, byte-back b, ← h .1 .1) refl
+clause-again σ Full a b c h = rw (byte-back a, ← h .1 .0, ← h .1 .1) refl
+clause-again σ Empty a b c h = rw (byte-back a, ← h .1 .0, ← h .1 .1) refl
+clause-again σ Together a b c h = rw (byte-back a, byte-back b, ← h .1 .1) refl
+
+no-clause : (f : System) → length f ≡ 0 → f ≡ []
+no-clause [] e = refl
+no-clause (c ∷ f) e = absurd (omega arith)
+
+-- one command more
+more-constant : (q : Question) (x : ℕ) → q .first ≡ [] → q .second ≡ [] → commandsFor (withConstant q x) ≡ commandsFor q ++ (Command.Constant x ∷ [])
+more-constant q x e f = rw (e, f) (simp (map-append, append-nil))
+
+more-first : (q : Question) (c : Clause) → q .second ≡ [] → commandsFor (withFirst q c) ≡ commandsFor q ++ (firstCommand c ∷ [])
+more-first q c e = rw e (simp (map-append, append-nil, append-assoc))
+
+-- the bytes up to an offset are those of a question of satisfiability, without its end
+abbrev Same : List ℕ → Question → ℕ → Type 0
+Same s q at = q .kind ≡ satisfiability → (q .second ≡ []) × (take at s ≡ headBytes q ++ encodeCommands (commandsFor q))
+
+abbrev SameResult : List ℕ → Result → Type 0
+SameResult s (refused n place) = Unit {0}
+SameResult s (accepted q) = q .kind ≡ satisfiability → encode q ≡ s
+
+module _ (s : List ℕ) (at : ℕ) (q : Question) (e : take at s ≡ headBytes q ++ encodeCommands (commandsFor q)) where
+  same-more : (c : Command) (cs : List Command) → cs ≡ commandsFor q ++ (c ∷ []) → take (size c) (drop at s) ≡ encodeCommand c
+      → take (at + size c) s ≡ headBytes q ++ encodeCommands cs
+  unfolding encodeCommands
+  same-more c cs f g =
+      take-add at (size c) s
+      ∙ ap₂ _++_ e g
+      ∙ append-assoc (headBytes q) (encodeCommands (commandsFor q)) (encodeCommand c)
+      ∙ ap (λ l. headBytes q ++ l) (sym (ap encodeCommands f ∙ encode-append (commandsFor q) (c ∷ []) ∙ ap (λ l. encodeCommands (commandsFor q) ++ l) (append-nil (encodeCommand c))))
+
+  same-end : (next : ℕ) → next ≡ at + size Command.End → next ≡ length s → take (size Command.End) (drop at s) ≡ encodeCommand Command.End → encode q ≡ s
+  unfolding encode
+  same-end next n l g =
+      sym (append-assoc (headBytes q) (encodeCommands (commandsFor q)) (encodeCommand Command.End))
+      ∙ ap₂ _++_ (sym e) (sym g)
+      ∙ sym (take-add at (size Command.End) s)
+      ∙ take-all (at + size Command.End) s (omega arith)
