@@ -1,14 +1,15 @@
 -- Every accepted question can be written, and one of satisfiability is written byte for byte as it came. Assumes nothing.
 use mathlib.Core.Path.{_≡_, refl, sym, ap, ap₂, subst, _∙_}
-use mathlib.Core.Bool.{Bool, true, false, cond}
+use mathlib.Core.Bool.{Bool, true, false, cond, _&&_}
 use mathlib.Core.List.{List, [], _∷_, _++_, map, map-append, append-nil, append-assoc}
 use Prim.Native.Nat.{ℕ, zero, suc, _+_, _*_, _^_, _≤_, _<_}
 use native.Mathlib.Omega.{arith}
-use borrow.Author.Tests.{eqb-true}
-use lib.Dec.{eqb}
+use borrow.Author.Tests.{ltb-false, eqb-true}
+use lib.Dec.{eqb, ltb, eqb→eq}
 use lib.ListN.{length, getD, take, drop}
 use lib.Seq.{take-add, take-all}
 use Rattle.shares.specs.Constant.{constantLevels, bytesAt}
+use Rattle.shares.specs.Test.{of-true, and-right}
 use Rattle.systems.specs.Clauses.{Clause, positive, negated, System}
 use Rattle.systems.specs.Questions.{Kind, satisfiability, entailment, Question}
 use Rattle.format.specs.declared.Section.{Section}
@@ -22,9 +23,10 @@ use Rattle.format.specs.declared.Head.{Head}
 use Rattle.format.specs.declared.Head.the-variants.{Opens, Wrong}
 use Rattle.format.specs.declared.Step.{Step}
 use Rattle.format.specs.declared.Step.the-variants.{Take, Refused}
-use Rattle.format.specs.Format.{Result, refused, accepted, entryOf, readAt, atomOf, fault, judged, withFirst, withClause, withConstant, taken, ended, onward, turn, run, opened, headOf, afterHead, read}
+use Rattle.format.specs.Format.{Result, refused, accepted, entryOf, readAt, atomOf, isForeign, fault, judged, withFirst, withClause, withConstant, taken, ended, onward, turn, run, headFits, kindFrom, opened, headOf, afterHead, read}
+use Rattle.format.specs.Stored.{kindNumber}
 use Rattle.format.specs.SectionLaws.{clause-keeps}
-use Rattle.format.specs.FormatLaws.{branch, size, Stay, run-law, accepted-formed, accepted-limited}
+use Rattle.format.specs.FormatLaws.{branch, size, Whole, read-whole, clause-fits, constant-fits, Stay, run-law, accepted-formed, accepted-limited}
 use Rattle.format.specs.KeepingLaws.{Bytes, byte-back}
 use Rattle.encoding.specs.Order.{firstSaid, secondSaid}
 use Rattle.encoding.specs.OrderLaws.{said}
@@ -181,3 +183,83 @@ module _ (s : List ℕ) (at : ℕ) (q : Question) (e : take at s ≡ headBytes q
       ∙ ap₂ _++_ (sym e) (sym g)
       ∙ sym (take-add at (size Command.End) s)
       ∙ take-all (at + size Command.End) s (omega arith)
+
+-- a clause of a question of satisfiability is of the first system
+same-clause : (s : List ℕ) (at : ℕ) (q : Question) (σ : Section) (t : Test) (a b c : ℕ) → isForeign (q .kind) σ ≡ false → Same s q at
+    → Again s at (Command.Clause σ t a b c) → Same s (withClause q σ (atomOf t a b c)) (at + size (Command.Clause σ t a b c))
+same-clause s at q FirstPositive t a b c f d g k =
+    let e = ap (λ r. commandsFor q ++ (r ∷ [])) (clause-again FirstPositive t a b c (g .0)) in
+    (d k .0, same-more s at q (d k .1) _ _ (more-first q (positive (atomOf t a b c)) (d k .0) ∙ e) (g .1))
+same-clause s at q FirstDisequation t a b c f d g k =
+    let e = ap (λ r. commandsFor q ++ (r ∷ [])) (clause-again FirstDisequation t a b c (g .0)) in
+    (d k .0, same-more s at q (d k .1) _ _ (more-first q (negated (atomOf t a b c)) (d k .0) ∙ e) (g .1))
+same-clause s at q SecondPositive t a b c f d g k = let z = rw k at f in let y : _≡_ {A = ℕ} 0 1 = cc in absurd (omega arith)
+same-clause s at q SecondDisequation t a b c f d g k = let z = rw k at f in let y : _≡_ {A = ℕ} 0 1 = cc in absurd (omega arith)
+
+module _ (s : List ℕ) (bytes : Bytes s) where
+  abbrev SameOn : ℕ → Question → Step → Type 0
+  SameOn at q r = Stay (Same s) (SameResult s) (onward s at q r)
+
+  same-on : (at : ℕ) (q : Question) (c : Command) (next : ℕ) → Same s q at → fault q c ≡ 0 → Whole s at (Take c next) → Again s at c → SameOn at q (Take c next)
+  unfolding taken ended fault
+  same-on at q Command.End next d e w g =
+      branch (SameResult s) (eqb next (length s)) (accepted q) (refused 10 next)
+      (λ h k. same-end s at q (d k .1) next (w .0) (eqb-true next (length s) h) (g .1)) (λ _. tt)
+  same-on at q Command.Head next d e w g = absurd (omega arith)
+  same-on at q (Command.Constant x) next d e w g = λ k.
+      let f = constant-fits q x e .before in
+      let a = no-clause (q .first) (omega arith) in
+      (d k .0, rw (w .0) (same-more s at q (d k .1) _ _ (more-constant q x a (d k .0)) (g .1)))
+  same-on at q (Command.Clause σ t a b c) next d e w g = rw (w .0) (same-clause s at q σ t a b c (clause-fits q σ t a b c e .home) d g)
+
+  same-turn : (q : Question) (at : ℕ) → Same s q at → Stay (Same s) (SameResult s) (turn s at q)
+  unfolding turn
+  same-turn q at d = judge (readAt s at) (read-whole s at) (read-again s bytes at)
+    where
+      judge : (r : Step) → Whole s at r → AgainStep s at r → SameOn at q (judged q r)
+      judge (Refused n) w g = tt
+      judge (Take c next) w g =
+          branch (SameOn at q) (eqb (fault q c) 0) (Take c next) (Refused (fault q c)) (λ e. same-on at q c next d (eqb-true (fault q c) 0 e) w g) (λ _. tt)
+
+-- ---- the head stands as it is written
+
+abbrev HeadStands : List ℕ → Head → Type 0
+HeadStands s (Opens kind n m) = take 4 s ≡ 0x01 ∷ kind ∷ n ∷ m ∷ []
+HeadStands s (Wrong n) = Unit {0}
+
+first-four : (s : List ℕ) → 4 ≤ length s → getD s 0 0 ≡ 1 → take 4 s ≡ 0x01 ∷ getD s 1 0 ∷ getD s 2 0 ∷ getD s 3 0 ∷ []
+first-four [] l e = absurd (omega arith)
+first-four (a ∷ []) l e = absurd (omega arith)
+first-four (a ∷ b ∷ []) l e = absurd (omega arith)
+first-four (a ∷ b ∷ c ∷ []) l e = absurd (omega arith)
+first-four (a ∷ b ∷ c ∷ d ∷ s) l e = rw e refl
+
+head-stands : (s : List ℕ) → HeadStands s (headOf s)
+unfolding headOf
+head-stands s =
+    branch (HeadStands s) (ltb 0 (length s) && eqb (getD s 0 0) 1) _ (Wrong 1)
+    (λ e. branch (HeadStands s) (ltb (length s) 4) (Wrong 2) _ (λ _. tt)
+    (λ w. branch (HeadStands s) (headFits (getD s 1 0) (getD s 2 0) (getD s 3 0)) (Opens _ _ _) (Wrong 5)
+    (λ _. first-four s (ltb-false (length s) 4 w) (eqb→eq (getD s 0 0) 1 (and-right (ltb 0 (length s)) _ (of-true e)))) (λ _. tt)))
+    (λ _. tt)
+
+-- kind 0 asks satisfiability
+kind-alone : (kind : ℕ) → kindFrom kind ≡ satisfiability → kind ≡ kindNumber (kindFrom kind)
+kind-alone kind e = pick (eqb kind 0) refl e
+  where
+    pick : (b : Bool) → eqb kind 0 ≡ b → cond b satisfiability entailment ≡ satisfiability → kind ≡ kindNumber (cond b satisfiability entailment)
+    pick true f g = eqb-true kind 0 f
+    pick false f g = let z : _≡_ {A = ℕ} 0 1 = cc in absurd (omega arith)
+
+read-same : (s : List ℕ) → Bytes s → SameResult s (read s)
+unfolding read opened encodeCommands
+read-same s bytes = pick (headOf s) (head-stands s)
+  where
+    pick : (h : Head) → HeadStands s h → SameResult s (afterHead s h)
+    pick (Opens kind n m) h =
+        run-law (Same s) (SameResult s) s (same-turn s bytes) (λ _ _ _. tt) (length s) 4 (opened kind n m)
+        (λ e. (refl, h ∙ ap (λ k. 0x01 ∷ k ∷ n ∷ m ∷ []) (kind-alone kind e)))
+    pick (Wrong n) h = tt
+
+pub encode-same : (s : List ℕ) (q : Question) → Bytes s → read s ≡ accepted q → q .kind ≡ satisfiability → encode q ≡ s
+encode-same s q bytes e k = subst (SameResult s) e (read-same s bytes) k
