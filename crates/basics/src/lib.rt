@@ -1,8 +1,8 @@
 // Numbers and bytes: small functions and numbers that several crates use.
 ghost use mathlib.Core.Path.{_≡_};
-ghost use Prim.Native.Nat.{_^_, _<_};
-ghost use lib.ListN.{length, replicate};
-ghost use Rattle.shares.specs.Constant.{bit};
+ghost use Prim.Native.Nat.{_+_, _^_, _≤_, _<_};
+ghost use lib.ListN.{length, take, drop, replicate};
+ghost use Rattle.shares.specs.Constant.{bit, number};
 
 // The clauses of a question are stored in so many bytes, four a clause, section after section: the first system's positive clauses from byte 0, then its
 // disequations, and then the second system's in the same way.
@@ -47,6 +47,18 @@ pub fn index(byte: u8) -> usize
     ensures { λ r. ⌜ (r ≡ byte) × (r < 256) ⌝ }
 {
     byte as usize
+}
+
+// The number that four bytes make, the lowest first.
+pub fn four_bytes(bytes: &[u8], i: usize) -> u64
+    requires { ⌜ i + 4 ≤ length (now bytes) ⌝ }
+    ensures { λ r. ⌜ (r ≡ number (take 4 (drop i (now (bytes .entry))))) × (r < 2 ^ 32) ⌝ }
+{
+    let a = wide(bytes[i]);
+    let b = wide(bytes[i + 1]);
+    let c = wide(bytes[i + 2]);
+    let d = wide(bytes[i + 3]);
+    ((d * 256 + c) * 256 + b) * 256 + a
 }
 
 // Sets every byte of a part.

@@ -2,23 +2,11 @@
 use mathlib.Core.Path.{_≡_}
 use mathlib.Core.Bool.{Bool, cond}
 use mathlib.Core.List.{List}
-use Prim.Native.Nat.{ℕ, suc, _+_, _*_, _≤_}
-use native.Mathlib.Numerals.{add-one, add-two, add-three}
-use native.Mathlib.Omega.{arith}
+use Prim.Native.Nat.{ℕ, _≤_}
 use borrow.Author.Tests.{lt-ltb, le-ltb, eq-eqb}
-use lib.ListN.{length, getD, take, drop}
-use lib.Seq.{drop-cons}
-use Rattle.shares.specs.Constant.{number}
+use lib.ListN.{length, getD}
 use Rattle.format.specs.declared.Head.the-variants.{Opens, Wrong}
 use Rattle.format.specs.Format.{headFits, headOf}
-
--- four bytes of a list, as the number that they make
-pub four-bytes : (s : List ℕ) (i : ℕ) → i + 4 ≤ length s
-    → number (take 4 (drop i s)) ≡ ((getD s (i + 3) 0 * 256 + getD s (i + 2) 0) * 256 + getD s (i + 1) 0) * 256 + getD s i 0
-unfolding number
-four-bytes s i h =
-    rw (drop-cons s i 0 (omega arith), drop-cons s (suc i) 0 (omega arith), drop-cons s (suc (suc i)) 0 (omega arith), drop-cons s (suc (suc (suc i))) 0 (omega arith))
-    (rw (add-one i, add-two i, add-three i) (omega arith))
 
 -- a head that is there and whole fits or is refused by 5
 pub whole-head : (s : List ℕ) (n m : ℕ) (b : Bool) → 1 ≤ length s → getD s 0 0 ≡ 1 → 4 ≤ length s → n ≡ getD s 2 0 → m ≡ getD s 3 0

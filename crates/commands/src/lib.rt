@@ -10,21 +10,8 @@ use format::Step;
 use format::Test;
 ghost use mathlib.Core.Path.{_≡_};
 ghost use Prim.Native.Nat.{_+_, _≤_};
-ghost use lib.ListN.{length, take, drop};
-ghost use Rattle.shares.specs.Constant.{number};
+ghost use lib.ListN.{length};
 ghost use Rattle.format.specs.Format.{termCount, operands, termByte, clauseAt, commandOf, readAt};
-
-// The number that four bytes make, the lowest first.
-fn constant_at(bytes: &[u8], i: usize) -> u64
-    requires { ⌜ i + 4 ≤ length (now bytes) ⌝ }
-    ensures { λ r. ⌜ r ≡ number (take 4 (drop i (now (bytes .entry)))) ⌝ }
-{
-    let a = basics::wide(bytes[i]);
-    let b = basics::wide(bytes[i + 1]);
-    let c = basics::wide(bytes[i + 2]);
-    let d = basics::wide(bytes[i + 3]);
-    ((d * 256 + c) * 256 + b) * 256 + a
-}
 
 // The byte of term number k of a clause with so many terms, 0 where it has none.
 fn term_byte(bytes: &[u8], i: usize, count: usize, k: usize) -> u8
@@ -62,7 +49,7 @@ fn command_of(bytes: &[u8], i: usize, shape: Shape) -> Command
     match shape {
         Shape::End => Command::End,
         Shape::Head => Command::Head,
-        Shape::Constant => Command::Constant(constant_at(bytes, i)),
+        Shape::Constant => Command::Constant(basics::four_bytes(bytes, i)),
         Shape::Clause(section, test) => clause_at(bytes, i, section, test),
     }
 }

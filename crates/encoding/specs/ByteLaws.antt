@@ -1,14 +1,14 @@
 -- What is written of a command reads back: its byte, its constant's bytes, its terms. Assumes nothing.
-use mathlib.Core.Path.{_≡_, refl, sym, ap, ap₂, _∙_}
+use mathlib.Core.Path.{_≡_, refl, sym, ap, ap₂, subst, _∙_}
 use mathlib.Core.Bool.{Bool, true, false, cond}
 use mathlib.Core.List.{List, [], _∷_, _++_, append-assoc}
 use Prim.Native.Nat.{ℕ, zero, suc, _+_, _-_, _*_, _/_, _%_, _^_, _≤_, _<_}
 use native.Mathlib.Omega.{arith}
-use borrow.Author.Tests.{lt-ltb, le-ltb, ltb-false, eqb-true}
+use borrow.Author.Tests.{lt-ltb, le-ltb, ltb-true, ltb-false, eqb-true}
 use lib.Dec.{eqb, ltb}
-use lib.ListN.{length, getD, take, drop, length-append}
+use lib.ListN.{length, getD, take, drop, length-append, length-drop}
 use lib.Pow.{split, high, low, shr-lt}
-use lib.Seq.{getD-append-seam, getD-append-add, drop-append-seam, take-at}
+use lib.Seq.{length-take-le, drop-cons, getD-append-seam, getD-append-add, drop-append-seam, take-at, getD-take, getD-drop, ext-getD}
 use Rattle.shares.specs.Constant.{constantLevels, number, bytesAt}
 use Rattle.format.specs.declared.Section.{Section}
 use Rattle.format.specs.declared.Section.the-variants.{FirstPositive, FirstDisequation, SecondPositive, SecondDisequation}
@@ -21,8 +21,8 @@ use Rattle.format.specs.declared.Command.{Command}
 use Rattle.format.specs.declared.Step.{Step}
 use Rattle.format.specs.declared.Step.the-variants.{Take, Refused}
 use Rattle.format.specs.Format.{entryOf, termCount, operands, termByte, commandOf, wholeAt, readAt}
-use Rattle.format.specs.FormatLaws.{branch, size}
-use Rattle.format.specs.KeepingLaws.{Bytes}
+use Rattle.format.specs.FormatLaws.{term-small, branch, size}
+use Rattle.format.specs.KeepingLaws.{Bytes, take-bytes, command-proper}
 use Rattle.encoding.specs.Encode.{clauseByte, commandByte, lowestBytes, constantBytes, shapeOf, operandBytes, encodeCommand}
 
 -- ---- a number's bytes
@@ -168,3 +168,84 @@ read-back p rest c r =
     ap₂ (λ l i. commandOf l i (shapeOf c)) (sym (append-assoc p (b ∷ []) (operandBytes c ++ rest))) (sym before) ∙ operands-back (p ++ (b ∷ [])) rest c r in
     let next : length p + 1 + operands (shapeOf c) ≡ length p + size c = omega (arith, size-shape c) in
     rw (lt-ltb (length p) (length s) (omega arith), known, le-ltb (length s - (length p + 1)) (operands (shapeOf c)) (omega arith), whole, next) refl
+
+-- ---- a command that is read stands there as it is written
+
+-- the first terms of a list, as many as a test takes, and 0 for the others
+abbrev selected : ℕ → List ℕ → ℕ → ℕ
+selected n l k = cond (ltb k n) (getD l k 0) 0
+
+select-at : (n : ℕ) (l : List ℕ) → n ≤ 3 → (i : ℕ) → i < n → getD (selected n l 0 ∷ selected n l 1 ∷ selected n l 2 ∷ []) i 0 ≡ getD l i 0
+select-at n l m zero h = rw (lt-ltb 0 n (omega arith)) refl
+select-at n l m (suc zero) h = rw (lt-ltb 1 n (omega arith)) refl
+select-at n l m (suc (suc zero)) h = rw (lt-ltb 2 n (omega arith)) refl
+select-at n l m (suc (suc (suc i))) h = absurd (omega arith)
+
+select-first : (n : ℕ) (l : List ℕ) → n ≤ 3 → n ≤ length l → take n (selected n l 0 ∷ selected n l 1 ∷ selected n l 2 ∷ []) ≡ take n l
+select-first n l m h =
+    let t : List ℕ = selected n l 0 ∷ selected n l 1 ∷ selected n l 2 ∷ [] in
+    let e : length (take n t) ≡ n = length-take-le n t m in
+    ext-getD 0 (take n t) (take n l) (e ∙ sym (length-take-le n l h)) (λ i u.
+    getD-take n t i 0 (rw e at u) ∙ select-at n l m i (rw e at u) ∙ sym (getD-take n l i 0 (rw e at u)))
+
+-- what stands where c was read is what is written of it; a head that is read here is at fault
+abbrev pub Again : List ℕ → ℕ → Command → Type 0
+Again s at Command.End = Readable Command.End × (take (size Command.End) (drop at s) ≡ encodeCommand Command.End)
+Again s at Command.Head = Unit {0}
+Again s at (Command.Constant x) = Readable (Command.Constant x) × (take (size (Command.Constant x)) (drop at s) ≡ encodeCommand (Command.Constant x))
+Again s at (Command.Clause σ t a b c) = Readable (Command.Clause σ t a b c) × (take (size (Command.Clause σ t a b c)) (drop at s) ≡ encodeCommand (Command.Clause σ t a b c))
+
+abbrev pub AgainStep : List ℕ → ℕ → Step → Type 0
+AgainStep s at (Take c next) = Again s at c
+AgainStep s at (Refused n) = Unit {0}
+
+twice : (b : Bool) (x : ℕ) → cond b (cond b x 0) 0 ≡ cond b x 0
+twice true x = refl
+twice false x = refl
+
+module _ (s : List ℕ) (bytes : Bytes s) (at : ℕ) (l : at < length s) where
+  rest-length : length (drop (at + 1) s) ≡ length s - (at + 1)
+  rest-length = length-drop (at + 1) s
+
+  -- the command byte, and then its operands
+  byte-first : (h : Shape) → entryOf (getD s at 0) ≡ Known h → take (1 + operands h) (drop at s) ≡ commandByte h ∷ take (operands h) (drop (at + 1) s)
+  byte-first h e =
+      let n : 1 + operands h ≡ suc (operands h) = omega arith in
+      let i : suc at ≡ at + 1 = omega arith in
+      rw (n, drop-cons s at 0 l, i, ← command-byte (getD s at 0) h e) refl
+
+  constant-stands : bytesAt constantLevels ≤ length s - (at + 1)
+      → constantBytes constantLevels (number (take (bytesAt constantLevels) (drop (at + 1) s))) ≡ take (bytesAt constantLevels) (drop (at + 1) s)
+  constant-stands f =
+      let n = bytesAt constantLevels in
+      let r : List ℕ = take n (drop (at + 1) s) in
+      let b : Bytes r = take-bytes n (drop (at + 1) s) (λ j. rw getD-drop (bytes (at + 1 + j))) in
+      subst (λ m. lowestBytes m (number r) ≡ r) (length-take-le n (drop (at + 1) s) (omega (arith, rest-length))) (bytes-back r b)
+
+  terms-stand : (t : Test) → termCount t ≤ length s - (at + 1)
+      → take (termCount t) (termByte s (at + 1) (termCount t) 0 ∷ termByte s (at + 1) (termCount t) 1 ∷ termByte s (at + 1) (termCount t) 2 ∷ [])
+      ≡ take (termCount t) (drop (at + 1) s)
+  terms-stand t f = simp getD-drop at (select-first (termCount t) (drop (at + 1) s) (term-small t) (omega (arith, rest-length)))
+
+  again : (h : Shape) → entryOf (getD s at 0) ≡ Known h → operands h ≤ length s - (at + 1) → Again s at (commandOf s (at + 1) h)
+  unfolding commandOf
+  again Shape.End e f = (tt, byte-first Shape.End e)
+  again Shape.Head e f = tt
+  again Shape.Constant e f =
+      (command-proper s bytes (at + 1) Shape.Constant, byte-first Shape.Constant e ∙ ap (λ r. commandByte Shape.Constant ∷ r) (sym (constant-stands f)))
+  again (Shape.Clause σ t) e f =
+      let n = termCount t in (
+        (ap entryOf (command-byte (getD s at 0) (Shape.Clause σ t) e) ∙ e, (twice (ltb 1 n) _, twice (ltb 2 n) _)),
+        byte-first (Shape.Clause σ t) e ∙ ap (λ r. commandByte (Shape.Clause σ t) ∷ r) (sym (terms-stand t f)),
+      )
+
+pub read-again : (s : List ℕ) → Bytes s → (at : ℕ) → AgainStep s at (readAt s at)
+unfolding readAt wholeAt
+read-again s bytes at =
+    branch (AgainStep s at) (ltb at (length s)) _ (Refused 2) (λ l. entry (ltb-true at (length s) l) (entryOf (getD s at 0)) refl) (λ _. tt)
+  where
+    entry : at < length s → (e : Entry) → entryOf (getD s at 0) ≡ e → AgainStep s at (wholeAt s at e)
+    entry l Unknown e = tt
+    entry l (Known h) e =
+        branch (AgainStep s at) (ltb (length s - (at + 1)) (operands h)) (Refused 2) (Take (commandOf s (at + 1) h) (at + 1 + operands h)) (λ _. tt)
+        (λ f. again s bytes at l h e (ltb-false (length s - (at + 1)) (operands h) f))

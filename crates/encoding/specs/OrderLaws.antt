@@ -37,7 +37,7 @@ commands-enough s (suc f) (suc g) at w a b = pick (readAt s at) (read-whole s at
 
 -- ---- what a command adds to each system
 
-said : (q : Question) (σ : Section) (a : Atom) → (withClause q σ a .first ≡ q .first ++ firstSaid σ a) × (withClause q σ a .second ≡ q .second ++ secondSaid σ a)
+pub said : (q : Question) (σ : Section) (a : Atom) → (withClause q σ a .first ≡ q .first ++ firstSaid σ a) × (withClause q σ a .second ≡ q .second ++ secondSaid σ a)
 said q FirstPositive a = (refl, sym (append-nil (q .second)))
 said q FirstDisequation a = (refl, sym (append-nil (q .second)))
 said q SecondPositive a = (sym (append-nil (q .first)), refl)

@@ -51,7 +51,7 @@ number-fits (b ∷ bs) h = omega (arith, number-fits bs (λ i. h (suc i)), h 0, 
     power : 2 ^ (8 * suc (length bs)) ≡ 2 ^ (8 * length bs) * 256
     power = ap (λ n. 2 ^ n) (omega arith) ∙ pow-add 2 (8 * length bs) 8
 
-take-bytes : (n : ℕ) (l : List ℕ) → Bytes l → Bytes (take n l)
+pub take-bytes : (n : ℕ) (l : List ℕ) → Bytes l → Bytes (take n l)
 take-bytes zero l h j = omega arith
 take-bytes (suc n) [] h j = omega arith
 take-bytes (suc n) (a ∷ l) h zero = h zero
@@ -68,7 +68,7 @@ abbrev pub ProperStep : Step → Type 0
 ProperStep (Take c next) = Proper c
 ProperStep (Refused n) = Unit {0}
 
-command-proper : (s : List ℕ) → Bytes s → (i : ℕ) (h : Shape) → Proper (commandOf s i h)
+pub command-proper : (s : List ℕ) → Bytes s → (i : ℕ) (h : Shape) → Proper (commandOf s i h)
 unfolding commandOf
 command-proper s h i Shape.End = tt
 command-proper s h i Shape.Head = tt

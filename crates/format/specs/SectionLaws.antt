@@ -15,13 +15,13 @@ use Rattle.format.specs.Keeping.{nextSlot}
 
 -- ---- lists
 
-positives-append : (s t : System) → positives (s ++ t) ≡ positives s ++ positives t
+pub positives-append : (s t : System) → positives (s ++ t) ≡ positives s ++ positives t
 unfolding positives
 positives-append [] t = refl
 positives-append (positive a ∷ s) t = ap (λ l. a ∷ l) (positives-append s t)
 positives-append (negated a ∷ s) t = positives-append s t
 
-disequations-append : (s t : System) → disequations (s ++ t) ≡ disequations s ++ disequations t
+pub disequations-append : (s t : System) → disequations (s ++ t) ≡ disequations s ++ disequations t
 unfolding disequations
 disequations-append [] t = refl
 disequations-append (positive a ∷ s) t = disequations-append s t

@@ -182,7 +182,7 @@ module _ (k : ℕ) (answer : List ℕ) (v : ℕ) where
   unfolding rowPart
   part-none l = rw (range-none k (length answer) v l)
 
-  part-some : v < rowCount → rowCount * bytesAt k ≤ length answer → rowPart k answer v ≡ take (bytesAt k) (drop (v * bytesAt k) answer)
+  pub part-some : v < rowCount → rowCount * bytesAt k ≤ length answer → rowPart k answer v ≡ take (bytesAt k) (drop (v * bytesAt k) answer)
   unfolding rowPart
   part-some l room = rw (range-some k (length answer) v l room)
 

@@ -1,1 +1,3 @@
 pub mod Unfolded
+pub mod Filling
+pub mod UnfoldedLaws

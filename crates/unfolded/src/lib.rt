@@ -3,11 +3,14 @@
 use basics::FULL_PART;
 use format::LeafJoin;
 ghost use mathlib.Core.Path.{_≡_};
-ghost use Prim.Native.Nat.{ℕ, _≤_, _<_};
+ghost use mathlib.Core.Bool.{true};
+ghost use Prim.Native.Nat.{ℕ, _+_, _*_, _^_, _≤_, _<_};
 ghost use lib.ListN.{length, getD};
-ghost use Rattle.shares.specs.Constant.{constantLevels};
-ghost use Rattle.rows.specs.Rows.{answerBytes};
-ghost use Rattle.unfolded.specs.Unfolded.{Unfolded, PartsIn, joinEverywhere};
+ghost use Rattle.shares.specs.Constant.{constantLevels, bit};
+ghost use Rattle.shares.specs.Parts.{fullPart};
+ghost use Rattle.rows.specs.Rows.{rowCount, rowLeaf, answerBytes};
+ghost use Rattle.unfolded.specs.Unfolded.{rowWords, Unfolded, joinAt, PartsIn, joinEverywhere};
+ghost use Rattle.unfolded.specs.Filling.{WordOf, Filled, constantLeaf, constantLeaves};
 
 // A row has this many words.
 pub const ROW_WORDS: usize = 16;
@@ -15,30 +18,33 @@ pub const ROW_WORDS: usize = 16;
 // A table of 64 parts has this many.
 pub const TABLE_WORDS: usize = 1024;
 
-// The word that eight bytes make, the lowest first.
-fn word_at(bytes: &[u8], i: usize) -> u64 {
-    let a = basics::wide(bytes[i]);
-    let b = basics::wide(bytes[i + 1]);
-    let c = basics::wide(bytes[i + 2]);
-    let d = basics::wide(bytes[i + 3]);
-    let e = basics::wide(bytes[i + 4]);
-    let f = basics::wide(bytes[i + 5]);
-    let g = basics::wide(bytes[i + 6]);
-    let h = basics::wide(bytes[i + 7]);
-    ((((((h * 256 + g) * 256 + f) * 256 + e) * 256 + d) * 256 + c) * 256 + b) * 256 + a
+// Word w of the rows: eight bytes, the lowest first.
+fn word_at(rows: &[u8], w: usize) -> u64
+    requires { ⌜ 8 * w + 8 ≤ length (now rows) ⌝ }
+    ensures { λ r. ⌜ WordOf (rowLeaf (now (rows .entry))) w r ⌝ }
+{
+    let low = basics::four_bytes(rows, 8 * w);
+    let high = basics::four_bytes(rows, 8 * w + 4);
+    high * 0x1_0000_0000 + low
 }
 
 // Puts the rows into the table, each as it lies.
-fn put_rows(rows: &[u8], table: &mut [u64]) {
+fn put_rows(rows: &[u8], table: &mut [u64])
+    requires { ⌜ (length (now rows) ≡ answerBytes constantLevels) × (length (now table) ≡ 1024) ⌝ }
+    ensures { λ _. ⌜ Filled constantLevels 0 rowCount (rowLeaf (now (rows .entry))) (now (table .entry)) (now (table .exit)) ⌝ }
+{
     let mut j: usize = 0;
     while j < 192 {
-        table[j] = word_at(rows, 8 * j);
+        table[j] = word_at(rows, j);
         j += 1;
     }
 }
 
 // Puts the part that is always full into the table.
-fn put_full(table: &mut [u64]) {
+fn put_full(table: &mut [u64])
+    requires { ⌜ length (now table) ≡ 1024 ⌝ }
+    ensures { λ _. ⌜ Filled constantLevels fullPart 1 (λ i. true) (now (table .entry)) (now (table .exit)) ⌝ }
+{
     let start = ROW_WORDS * basics::index(FULL_PART);
     let mut j: usize = 0;
     while j < ROW_WORDS {
@@ -47,15 +53,28 @@ fn put_full(table: &mut [u64]) {
     }
 }
 
+// Half a word, all ones where `full` is set, else 0.
+fn half_word(full: bool) -> u64
+    ensures { λ r. ⌜ (r < 2 ^ 32) × ((i : ℕ) → i < 32 → bit r i ≡ full) ⌝ }
+{
+    if full { 0xFFFF_FFFF } else { 0 }
+}
+
 // Word w of a constant: two of its leaves, each 32 times.
-fn constant_word(x: u64, w: usize) -> u64 {
-    let low = (x >> (2 * w)) & 1;
-    let high = (x >> (2 * w + 1)) & 1;
-    low * 0xFFFF_FFFF + high * 0xFFFF_FFFF_0000_0000
+fn constant_word(x: u64, w: usize) -> u64
+    requires { ⌜ w < rowWords constantLevels ⌝ }
+    ensures { λ r. ⌜ WordOf (constantLeaf constantLevels x) w r ⌝ }
+{
+    let low = half_word(basics::digit(x, 2 * w));
+    let high = half_word(basics::digit(x, 2 * w + 1));
+    high * 0x1_0000_0000 + low
 }
 
 // Puts the words of the first `count` constants into the table.
-fn put_constants(constants: &[u64; 32], count: usize, table: &mut [u64]) {
+fn put_constants(constants: &[u64; 32], count: usize, table: &mut [u64])
+    requires { ⌜ (count ≤ 32) × (length (now table) ≡ 1024) ⌝ }
+    ensures { λ _. ⌜ Filled constantLevels 32 count (constantLeaves constantLevels (now (constants .entry))) (now (table .entry)) (now (table .exit)) ⌝ }
+{
     let mut j: usize = 0;
     while j < ROW_WORDS * count {
         table[512 + j] = constant_word(constants[j / 16], j % 16);
@@ -74,13 +93,19 @@ pub fn unfold(rows: &[u8], constants: &[u64; 32], count: usize, table: &mut [u64
 }
 
 // Word w of a part.
-fn part_word(table: &[u64; TABLE_WORDS], part: u8, w: usize) -> u64 {
+fn part_word(table: &[u64; TABLE_WORDS], part: u8, w: usize) -> u64
+    requires { ⌜ (part < 64) × (w < rowWords constantLevels) ⌝ }
+    ensures { λ r. ⌜ r ≡ getD (now (table .entry)) (rowWords constantLevels * part + w) 0 ⌝ }
+{
     let t = basics::index(part);
     table[ROW_WORDS * t + w]
 }
 
 // Bit i of the result is the test of a join at leaf 64 * w + i.
-fn join_word(table: &[u64; TABLE_WORDS], join: LeafJoin, w: usize) -> u64 {
+fn join_word(table: &[u64; TABLE_WORDS], join: LeafJoin, w: usize) -> u64
+    requires { ⌜ PartsIn join × (w < rowWords constantLevels) ⌝ }
+    ensures { λ r. ⌜ WordOf (joinAt (rowWords constantLevels) (now (table .entry)) join) w r ⌝ }
+{
     let a = part_word(table, join.first, w);
     let b = part_word(table, join.second, w);
     let c = part_word(table, join.sum, w);

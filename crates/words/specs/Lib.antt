@@ -3,6 +3,7 @@ pub mod Choices
 pub mod Table
 pub mod ClauseLaws
 pub mod TermLaws
+pub mod Stored
 pub mod Stores
 pub mod LowestLaws
 pub mod Kept

@@ -7,6 +7,7 @@ use Prim.Native.Nat.{ℕ, _+_, _*_, _≤_, _<_}
 use lib.ListN.{getD}
 use Rattle.shares.specs.Constant.{bit}
 use Rattle.words.specs.Clause.{position, termValue}
+use Rattle.words.specs.Stored.{Stored}
 
 -- bit i of the word x is the value of part t in choice 64 * w + i
 abbrev pub TermWord : ℕ → ℕ → ℕ → ℕ → ℕ → ℕ → Type 0
@@ -30,6 +31,5 @@ abbrev pub Within : ℕ → ℕ → Type 0
 Within count values = (i : ℕ) → count ≤ i → bit values i ≡ false
 
 -- the words of the first `count` constants are those of their values, and every other word is as it was
-pub record ConstantWords (count values : ℕ) (old new : List ℕ) : Type 0 where
-  pub set : (i : ℕ) → i < count → (k : ℕ) → k < 64 → bit (getD new (32 + i) 0) k ≡ bit values i
-  pub kept : (t : ℕ) → (32 ≤ t → 32 + count ≤ t) → getD new t 0 ≡ getD old t 0
+abbrev pub ConstantWords : ℕ → ℕ → List ℕ → List ℕ → Type 0
+ConstantWords count values = Stored 32 count (λ i x. (k : ℕ) → k < 64 → bit x k ≡ bit values i)

@@ -1,5 +1,5 @@
 -- Laws of the table of terms: how it is started and moved, and what clauses say of it. Assumes nothing.
-use mathlib.Core.Path.{_≡_, refl, sym, ap, ap₂, _∙_, subst}
+use mathlib.Core.Path.{_≡_, sym, ap, ap₂, _∙_}
 use mathlib.Core.Bool.{true, false, not, _&&_}
 use mathlib.Core.List.{List}
 use Prim.Native.Nat.{ℕ, _+_, _-_, _*_, _^_, _≤_, _<_}
@@ -41,20 +41,6 @@ terms-started n m x zero last few size none v ones =
     go t other l i k (no a) (yes b) = blank t i l (omega arith) ∙ sym (value-none n m 0 (64 * 0 + i) t (omega arith) b ∙ ne-eqb t fullPart other)
     go t other l i k (no a) (no b) =
         blank t i l (omega arith) ∙ sym (value-constant n m 0 (64 * 0 + i) t (omega arith) (omega arith) ∙ bit-zero (t - 32))
-
--- the words of constants, one by one
-pub constants-none : (values : ℕ) (old : List ℕ) → ConstantWords 0 values old old
-constants-none values old = record { set = λ i l. absurd (omega arith); kept = λ t h. refl }
-
-pub constants-more : (values : ℕ) (old terms : List ℕ) (i x : ℕ) → 32 + i < length terms → ((k : ℕ) → k < 64 → bit x k ≡ bit values i)
-    → ConstantWords i values old terms → ConstantWords (i + 1) values old (set terms (32 + i) x)
-constants-more values old terms i x room bits c = record {
-  set = λ j l. store-law (λ t y. (j : ℕ) → t ≡ 32 + j → j < i + 1 → (k : ℕ) → k < 64 → bit y k ≡ bit values j) terms (32 + i) x room
-      (λ t n j e m. subst (λ t. (k : ℕ) → k < 64 → bit (getD terms t 0) k ≡ bit values j) (sym e) (c .set j (omega arith)))
-      (λ j e m k h. bits k h ∙ ap (bit values) (omega arith)) (32 + j) j refl l;
-  kept = λ t h. store-law (λ t y. (32 ≤ t → 32 + (i + 1) ≤ t) → y ≡ getD old t 0) terms (32 + i) x room
-      (λ t n h. c .kept t (λ q. omega (arith, h q))) (λ h. absurd (omega (arith, h (omega arith)))) t h;
-}
 
 -- other values of the constants
 pub terms-changed : (n m count values old w : ℕ) (terms new : List ℕ) → n + m ≤ 12 → count ≤ 32 → Within count old → Within count values

@@ -15,8 +15,8 @@ enum-told-2 c = search needs
 enum-told-3 : tie.Need-enum-told-3
 enum-told-3 c = search needs
 
-constant-at-requires : tie.Need-constant-at-requires
-constant-at-requires c κs = omega (arith, ap operands (c .enum-told3 .given .1))
+four-bytes-requires : tie.Need-four-bytes-requires
+four-bytes-requires c κs = omega (arith, ap operands (c .enum-told3 .given .1))
 
 enum-known-shape : tie.Need-enum-known-shape
 enum-known-shape c = search needs
@@ -34,7 +34,7 @@ returns-2 c = simp (c .enum-told2 .given .1)
 
 returns-3 : tie.Need-returns-3
 unfolding commandOf
-returns-3 c = simp (c .before .enum-told3 .given .1, ← c .constant-at .ensures)
+returns-3 c = simp (c .before .enum-told3 .given .1, ← c .four-bytes .ensures .0)
 
 returns-4 : tie.Need-returns-4
 unfolding commandOf
@@ -47,7 +47,7 @@ command-of-spec =
     enum-told
     enum-told-2
     enum-told-3
-    constant-at-requires
+    four-bytes-requires
     enum-known-shape
     clause-at-requires
     returns

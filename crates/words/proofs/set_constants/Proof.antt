@@ -5,7 +5,8 @@ use native.Mathlib.Omega.{arith}
 use lib.ListN.{length, length-set}
 use borrow.Author.Needs.{needs}
 use Rattle.words.specs.Table.{ConstantWords}
-use Rattle.words.specs.TableLaws.{constants-none, constants-more, terms-changed}
+use Rattle.words.specs.TableLaws.{terms-changed}
+use Rattle.words.specs.Stores.{stored-none, stored-more}
 use Rattle.words.proofs.set_constants.Statement.{statement}
 use Rattle.words.proofs.set_constants.Tie as tie
 
@@ -16,7 +17,7 @@ abbrev μ-loop : tie.MeasureT-loop
 μ-loop values count terms₀ i₀ terms i = count - i
 
 loop-holds : tie.Need-loop-holds Inv-loop μ-loop
-loop-holds c = (omega arith, c .before .pre .1, constants-none (c .before .args .values) _)
+loop-holds c = (omega arith, c .before .pre .1, stored-none _ _ _)
 
 digit-requires : tie.Need-digit-requires Inv-loop μ-loop
 digit-requires c κs = omega arith
@@ -45,7 +46,7 @@ loop-again c =
     let a = c .before .before .before .before .before .args in (
       omega arith,
       simp length-set (l .inv .1),
-      constants-more (a .values) (a .terms .now) (l .terms) (l .i) (c .spread .result) (omega arith) (λ k h. c .spread .ensures k h ∙ c .before .digit .ensures) (l .inv .2),
+      stored-more _ _ _ (l .i) (c .spread .result) (l .terms) (omega arith) (λ k h. c .spread .ensures k h ∙ c .before .digit .ensures) (l .inv .2),
     )
 
 same-length : tie.Need-same-length Inv-loop μ-loop

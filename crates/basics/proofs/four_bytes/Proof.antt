@@ -1,9 +1,23 @@
--- `commands::constant_at` meets its contract: four bytes, the lowest first. Assumes nothing.
+-- `basics::four_bytes` meets its contract: four bytes, the lowest first. Assumes nothing.
+use mathlib.Core.Path.{_≡_}
+use mathlib.Core.List.{List}
+use Prim.Native.Nat.{ℕ, suc, _+_, _*_, _≤_}
+use native.Mathlib.Numerals.{add-one, add-two, add-three}
 use native.Mathlib.Omega.{arith}
+use lib.ListN.{length, getD, take, drop}
+use lib.Seq.{drop-cons}
 use borrow.Author.Needs.{needs}
-use Rattle.commands.proofs.CommandFacts.{four-bytes}
-use Rattle.commands.proofs.constant_at.Statement.{statement}
-use Rattle.commands.proofs.constant_at.Tie as tie
+use Rattle.shares.specs.Constant.{number}
+use Rattle.basics.proofs.four_bytes.Statement.{statement}
+use Rattle.basics.proofs.four_bytes.Tie as tie
+
+-- four bytes of a list, as the number that they make
+four-bytes : (s : List ℕ) (i : ℕ) → i + 4 ≤ length s
+    → number (take 4 (drop i s)) ≡ ((getD s (i + 3) 0 * 256 + getD s (i + 2) 0) * 256 + getD s (i + 1) 0) * 256 + getD s i 0
+unfolding number
+four-bytes s i h =
+    rw (drop-cons s i 0 (omega arith), drop-cons s (suc i) 0 (omega arith), drop-cons s (suc (suc i)) 0 (omega arith), drop-cons s (suc (suc (suc i))) 0 (omega arith))
+    (rw (add-one i, add-two i, add-three i) (omega arith))
 
 shared-slice-read-wide : tie.Need-shared-slice-read-wide
 shared-slice-read-wide c = search needs
@@ -58,10 +72,15 @@ add-result-3 c = search needs
 
 returns : tie.Need-returns
 returns c =
-    omega (arith, four-bytes (c .before .before .before .before .before .before .before .before .before .args .bytes .now) (c .before .before .before .before .before .before .before .before .before .args .i) (c .before .before .before .before .before .before .before .before .before .pre), c .wide4 .ensures .0, c .before .before .wide3 .ensures .0, c .before .before .before .before .wide2 .ensures .0, c .before .before .before .before .before .before .wide .ensures .0)
+    let s = c .before .before .before .before .before .before .before .before .before in
+    let a = c .before .before .before .before .before .before .wide .ensures in
+    let b = c .before .before .before .before .wide2 .ensures in
+    let d = c .before .before .wide3 .ensures in
+    let e = c .wide4 .ensures in
+    (omega (arith, four-bytes (s .args .bytes .now) (s .args .i) (s .pre), a .0, b .0, d .0, e .0), omega (arith, a .1, b .1, d .1, e .1))
 
-pub constant-at-spec : {M : Type 1} → statement M
-constant-at-spec =
+pub four-bytes-spec : {M : Type 1} → statement M
+four-bytes-spec =
     tie.close
     (tie.spec
     shared-slice-read-wide

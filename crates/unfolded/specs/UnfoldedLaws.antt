@@ -1,0 +1,180 @@
+-- Laws of tables of words, for every number of levels from 1 on: how a table is filled, and the test of a join a word at a time. Assumes nothing.
+use mathlib.Core.Path.{_≡_, sym, ap, ap₂, _∙_}
+use mathlib.Core.Bool.{Bool, true, false}
+use mathlib.Core.List.{List}
+use Prim.Native.Nat.{ℕ, _+_, _-_, _*_, _/_, _%_, _^_, _≤_, _<_}
+use native.Mathlib.Nat.{mul-add, mul-assoc, mul-comm, mul-suc, mul-le-mul-left}
+use native.Mathlib.Decide.{decLt}
+use native.Mathlib.Omega.{arith}
+use lib.Arith.{digits-div, digits-mod, mod-mul}
+use lib.Dec.{T, not-T, lit<}
+use lib.ListN.{length, getD, take, drop, length-take, List·getD-eq-default}
+use lib.Pow.{pow-add, pow-pos, shr-shr, ones-lt}
+use lib.Seq.{getD-take, getD-drop}
+use Rattle.shares.specs.Below.{everyBelow}
+use Rattle.shares.specs.BelowLaws.{every-at, every-intro}
+use Rattle.shares.specs.Constant.{bit, bytesAt, number}
+use Rattle.shares.specs.BitLaws.{bit-zero, bits-same}
+use Rattle.shares.specs.BitParts.{bit-low, bit-high, bit-ones, bit-bytes}
+use Rattle.shares.specs.Parts.{emptyPart, fullPart}
+use Rattle.shares.specs.Test.{is-true, is-false, of-true}
+use Rattle.format.specs.declared.LeafJoin.{LeafJoin}
+use Rattle.words.specs.Clause.{testValue}
+use Rattle.rows.specs.Rows.{rowLevels, rowCount, rowLeaf, rowPart, answerBytes}
+use Rattle.rows.specs.RowLaws.{eight, part-some}
+use Rattle.unfolded.specs.Unfolded.{rowWords, leafOf, Unfolded, joinAt}
+use Rattle.unfolded.specs.Filling.{WordOf, Filled, constantLeaf, constantLeaves}
+
+-- ---- a row of an answer
+
+-- its leaves are those of the whole answer from its first on
+part-leaf : (k : ℕ) → 3 ≤ k → (rows : List ℕ) (v i : ℕ) → v < rowCount → rowCount * bytesAt k ≤ length rows → i < 2 ^ k
+    → rowLeaf (rowPart k rows v) i ≡ rowLeaf rows (2 ^ k * v + i)
+unfolding rowLeaf
+part-leaf k h rows v i l room u =
+    let inside : i / 8 < bytesAt k = omega (arith, eight k h) in
+    let start : 2 ^ k * v ≡ 8 * (v * bytesAt k) =
+    ap (λ (n : ℕ). n * v) (omega (arith, eight k h)) ∙ mul-assoc 8 (bytesAt k) v ∙ ap (λ (n : ℕ). 8 * n) (mul-comm (bytesAt k) v) in
+    ap (λ row. bit (getD row (i / 8) 0) (i % 8)) (part-some k rows v l room)
+    ∙ ap (λ x. bit x (i % 8)) (getD-take (bytesAt k) (drop (v * bytesAt k) rows) (i / 8) 0 inside ∙ getD-drop (v * bytesAt k) rows (i / 8) 0)
+    ∙ ap₂ (λ q r. bit (getD rows q 0) r) (omega arith) (omega arith)
+
+-- ---- words
+
+-- two halves of a word
+pub word-halves : (f : ℕ → Bool) (w low high : ℕ) → low < 2 ^ 32 → ((i : ℕ) → i < 32 → bit low i ≡ f (64 * w + i))
+    → ((i : ℕ) → i < 32 → bit high i ≡ f (64 * w + 32 + i)) → WordOf f w (high * 2 ^ 32 + low)
+word-halves f w low high small below above i l = go (decLt i 32)
+  where
+    go : Dec (i < 32) → bit (high * 2 ^ 32 + low) i ≡ f (64 * w + i)
+    go (yes m) = bit-low 32 high low small i m ∙ below i m
+    go (no m) =
+        let e : 32 + (i - 32) ≡ i = omega arith in
+        ap (bit (high * 2 ^ 32 + low)) (sym e) ∙ bit-high 32 high low small (i - 32) ∙ above (i - 32) (omega arith) ∙ ap f (omega arith)
+
+-- the bits of the number that n bytes make are leaves, eight a byte
+pub bytes-leaf : (rows : List ℕ) → ((j : ℕ) → getD rows j 0 < 2 ^ 8) → (n at i : ℕ) → i < 8 * n
+    → bit (number (take n (drop at rows))) i ≡ rowLeaf rows (8 * at + i)
+unfolding rowLeaf
+bytes-leaf rows byte n at i l =
+    bit-bytes (take n (drop at rows)) (λ j. small j (decLt j n)) i
+    ∙ ap (λ b. bit b (i % 8)) (same (i / 8) (omega arith)) ∙ ap₂ (λ q r. bit (getD rows q 0) r) (omega arith) (omega arith)
+  where
+    same : (j : ℕ) → j < n → getD (take n (drop at rows)) j 0 ≡ getD rows (at + j) 0
+    same j m = getD-take n (drop at rows) j 0 m ∙ getD-drop at rows j 0
+
+    small : (j : ℕ) → Dec (j < n) → getD (take n (drop at rows)) j 0 < 2 ^ 8
+    small j (yes m) = rw (same j m) (byte (at + j))
+    small j (no m) =
+        let past : length (take n (drop at rows)) ≤ j = omega (arith, length-take n (drop at rows)) in
+        rw (List·getD-eq-default (take n (drop at rows)) 0 past) (lit< tt)
+
+-- ---- words of a part
+
+module _ (levels : ℕ) (h : 1 ≤ levels) where
+  -- a row has 64 leaves for each of its words
+  row-words : 2 ^ rowLevels levels ≡ rowWords levels * 64
+  row-words = let e : rowLevels levels ≡ (rowLevels levels - 6) + 6 = omega arith in ap (λ (n : ℕ). 2 ^ n) e ∙ pow-add 2 (rowLevels levels - 6) 6
+
+  -- word j of the leaves of constants
+  pub constants-word : (constants : List ℕ) (j x : ℕ)
+      → WordOf (constantLeaf levels (getD constants (j / rowWords levels) 0)) (j % rowWords levels) x → WordOf (constantLeaves levels constants) j x
+  constants-word constants j x bits i l =
+      let n = 64 * j + i in
+      let above : n / 64 ≡ j = omega arith in
+      let below : n % 64 ≡ i = omega arith in
+      let part : n / 2 ^ rowLevels levels ≡ j / rowWords levels =
+      ap (λ (k : ℕ). n / 2 ^ k) (omega arith) ∙ sym (shr-shr n 6 (rowLevels levels - 6)) ∙ ap (λ (k : ℕ). k / rowWords levels) above in
+      let leaf : n % 2 ^ rowLevels levels ≡ 64 * (j % rowWords levels) + i =
+      ap (λ (k : ℕ). n % k) row-words ∙ mod-mul n (pow-pos (rowLevels levels - 6)) (lit< tt)
+      ∙ ap₂ (λ (q r : ℕ). q % rowWords levels * 64 + r) above below ∙ omega arith in
+      bits i l ∙ ap₂ (λ c b. constantLeaf levels (getD constants c 0) b) (sym part) (sym leaf)
+
+  module _ (part count : ℕ) (f : ℕ → Bool) {old new : List ℕ} (c : Filled levels part count f old new) where
+    -- the leaves of a part that is filled
+    filled-leaf : (n i : ℕ) → n < count → i < 2 ^ rowLevels levels → leafOf (rowWords levels) new (part + n) i ≡ f (2 ^ rowLevels levels * n + i)
+    unfolding leafOf
+    filled-leaf n i l u =
+        let words = rowWords levels in
+        let inside : words * n + i / 64 < words * count = omega (arith, row-words, mul-le-mul-left words l, mul-suc words n) in
+        let place : words * (part + n) + i / 64 ≡ words * part + (words * n + i / 64) = omega (arith, mul-add words part n) in
+        let leaf : 64 * (words * n + i / 64) + i % 64 ≡ 2 ^ rowLevels levels * n + i =
+        omega (arith, ap (λ (k : ℕ). k * n) (row-words ∙ mul-comm words 64), mul-assoc 64 words n) in
+        ap (λ k. bit (getD new k 0) (i % 64)) place ∙ c .set (words * n + i / 64) inside (i % 64) (omega arith) ∙ ap f leaf
+
+    -- the leaves of every other part are as they were
+    kept-leaf : (t i : ℕ) → (part ≤ t → part + count ≤ t) → i < 2 ^ rowLevels levels
+        → leafOf (rowWords levels) new t i ≡ leafOf (rowWords levels) old t i
+    unfolding leafOf
+    kept-leaf t i o u = ap (λ x. bit x (i % 64)) (c .kept (rowWords levels * t + i / 64) (λ q. go q (decLt t part)))
+      where
+        go : rowWords levels * part ≤ rowWords levels * t + i / 64 → Dec (t < part)
+            → rowWords levels * part + rowWords levels * count ≤ rowWords levels * t + i / 64
+        go q (yes l) = absurd (omega (arith, row-words, mul-le-mul-left (rowWords levels) l, mul-suc (rowWords levels) t))
+        go q (no l) = omega (arith, mul-le-mul-left (rowWords levels) (o (omega arith)), mul-add (rowWords levels) part count)
+
+  -- an empty table, once the rows, the part that is always full and the constants are put into it
+  pub unfolded-all : (rows constants : List ℕ) (count : ℕ) {blank with-rows with-full table : List ℕ} → length rows ≡ answerBytes levels
+      → ((k : ℕ) → getD blank k 0 ≡ 0)
+      → Filled levels 0 rowCount (rowLeaf rows) blank with-rows → Filled levels fullPart 1 (λ i. true) with-rows with-full
+      → Filled levels 32 count (constantLeaves levels constants) with-full table → Unfolded levels rows constants count table
+  unfolding leafOf
+  unfolded-all rows constants count {blank} {with-rows} {with-full} {table} size none r f c = record {
+    variable = λ v i l u. later v i (omega arith) u ∙ ap (λ t. leafOf (rowWords levels) with-rows t i) (omega arith)
+        ∙ filled-leaf 0 rowCount (rowLeaf rows) r v i l u
+        ∙ sym (part-leaf (rowLevels levels) (omega arith) rows v i l (omega arith) u);
+    empty = λ i u. later emptyPart i (omega arith) u ∙ kept-leaf 0 rowCount (rowLeaf rows) r emptyPart i (λ q. omega arith) u
+        ∙ blank-leaf emptyPart i;
+    full = λ i u. kept-leaf 32 count (constantLeaves levels constants) c fullPart i (λ q. absurd (omega arith)) u
+        ∙ filled-leaf fullPart 1 (λ i. true) f 0 i (omega arith) u;
+    constant = λ n i l u. filled-leaf 32 count (constantLeaves levels constants) c n i l u ∙ constant-leaf n i u;
+  }
+    where
+      -- a part before the one that is always full
+      later : (t i : ℕ) → t < fullPart → i < 2 ^ rowLevels levels → leafOf (rowWords levels) table t i ≡ leafOf (rowWords levels) with-rows t i
+      later t i l u =
+          kept-leaf 32 count (constantLeaves levels constants) c t i (λ q. absurd (omega arith)) u
+          ∙ kept-leaf fullPart 1 (λ i. true) f t i (λ q. absurd (omega arith)) u
+
+      blank-leaf : (t i : ℕ) → leafOf (rowWords levels) blank t i ≡ false
+      blank-leaf t i = ap (λ x. bit x (i % 64)) (none (rowWords levels * t + i / 64)) ∙ bit-zero (i % 64)
+
+      constant-leaf : (n i : ℕ) → i < 2 ^ rowLevels levels
+          → constantLeaves levels constants (2 ^ rowLevels levels * n + i) ≡ constantLeaf levels (getD constants n 0) i
+      constant-leaf n i u =
+          rw (mul-comm (2 ^ rowLevels levels) n)
+          (ap₂ (λ c b. constantLeaf levels (getD constants c 0) b) (digits-div n u) (digits-mod n u))
+
+-- ---- the test of a join, a word at a time
+
+-- leaf i of word w
+pub leaf-word : (words : ℕ) (table : List ℕ) (t w i : ℕ) → i < 64 → leafOf words table t (64 * w + i) ≡ bit (getD table (words * t + w) 0) i
+unfolding leafOf
+leaf-word words table t w i l = ap₂ (λ q r. bit (getD table (words * t + q) 0) r) (omega arith) (omega arith)
+
+-- the tests of the words of its parts are those of their leaves
+pub join-leaves : (words : ℕ) (table : List ℕ) (j : LeafJoin) (w x a b c : ℕ)
+    → a ≡ getD table (words * j .first + w) 0 → b ≡ getD table (words * j .second + w) 0 → c ≡ getD table (words * j .sum + w) 0
+    → ((i : ℕ) → i < 64 → bit x i ≡ testValue (j .form) (bit a i) (bit b i) (bit c i)) → WordOf (joinAt words table j) w x
+join-leaves words table j w x a b c p q r bits i l =
+    rw (leaf-word words table (j .first) w i l, leaf-word words table (j .second) w i l, leaf-word words table (j .sum) w i l, ← p, ← q, ← r) (bits i l)
+
+module _ (f : ℕ → Bool) (w x : ℕ) (bits : WordOf f w x) where
+  -- where the leaves of the first w words pass and word w is full, those of one word more pass
+  pub every-word : everyBelow (64 * w) f ≡ true → x ≡ 2 ^ 64 - 1 → everyBelow (64 * (w + 1)) f ≡ true
+  every-word before e = is-true (everyBelow (64 * (w + 1)) f) (every-intro (64 * (w + 1)) f (λ i l. go i l (decLt i (64 * w))))
+    where
+      go : (i : ℕ) → i < 64 * (w + 1) → Dec (i < 64 * w) → T (f i)
+      go i l (yes m) = every-at (64 * w) f (of-true before) i m
+      go i l (no m) =
+          let here : 64 * w + (i - 64 * w) ≡ i = omega arith in
+          of-true (ap f (sym here) ∙ sym (bits (i - 64 * w) (omega arith)) ∙ ap (λ y. bit y (i - 64 * w)) e ∙ bit-ones 64 (i - 64 * w) (omega arith))
+
+  -- where it is not full, not all leaves pass
+  pub every-fails : x < 2 ^ 64 → (n : ℕ) → w < n → (x ≡ 2 ^ 64 - 1 → ⊥) → everyBelow (64 * n) f ≡ false
+  every-fails fits n l other = is-false (everyBelow (64 * n) f) (not-T (everyBelow (64 * n) f) (λ t. other (full t)))
+    where
+      full : T (everyBelow (64 * n) f) → x ≡ 2 ^ 64 - 1
+      full t =
+          bits-same 64 x (2 ^ 64 - 1) fits (ones-lt 64)
+          (λ i m. bits i m ∙ is-true (f (64 * w + i)) (every-at (64 * n) f t (64 * w + i) (omega arith)) ∙ sym (bit-ones 64 i m))
