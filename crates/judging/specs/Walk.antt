@@ -6,14 +6,15 @@ use Prim.Native.Nat.{ℕ, _+_, _≤_, _<_}
 use lib.ListN.{length, take}
 use Rattle.shares.specs.Constant.{constantLevels}
 use Rattle.systems.specs.Clauses.{System}
-use Rattle.systems.specs.Questions.{Question, WellFormed}
+use Rattle.systems.specs.Questions.{Question}
 use Rattle.format.specs.declared.Section.{Section}
 use Rattle.format.specs.declared.Section.the-variants.{FirstPositive, FirstDisequation, SecondPositive, SecondDisequation}
 use Rattle.format.specs.declared.Command.{Command}
-use Rattle.format.specs.Format.{isSecond}
+use Rattle.format.specs.Format.{accepted, isSecond, read}
 use Rattle.format.specs.Stored.{joinFor}
 use Rattle.encoding.specs.Order.{commandsFrom, firstClauses}
 use Rattle.unfolded.specs.Unfolded.{Unfolded, joinEverywhere, PartsIn}
+use Rattle.judging.specs.Judging.{lowestBroken}
 
 -- a clause of a section is broken, where its atom holds at every leaf or not: only those of the first system count
 abbrev pub breaksIn : Section → Bool → Bool
@@ -47,6 +48,10 @@ saysFirst (Command.Clause σ t a b c) = not (isSecond σ)
 pub record Laid (q : Question) (rows constants : List ℕ) (count : ℕ) (table : List ℕ) : Type 0 where
   pub constants-are : q .constants ≡ record { levels = constantLevels; numbers = take count constants }
   pub unfolded : Unfolded constantLevels rows constants count table
+
+-- n is the lowest clause of the first system of a question in bytes that the rows of a table break, or their count
+abbrev pub Lowest : List ℕ → List ℕ → ℕ → Type 0
+Lowest s table n = (q : Question) (rows constants : List ℕ) (count : ℕ) → read s ≡ accepted q → Laid q rows constants count table → n ≡ lowestBroken q rows
 
 -- at an offset of the question q, n clauses of its first system have been met: the commands from there on say the others
 pub record Walk (s : List ℕ) (q : Question) (at n : ℕ) : Type 0 where

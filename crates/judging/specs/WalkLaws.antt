@@ -4,7 +4,7 @@ use mathlib.Core.Bool.{Bool, true, false, not, Bool·not-not}
 use mathlib.Core.List.{List, [], _∷_, _++_, append-nil, append-assoc}
 use mathlib.Core.Logic.{_⊎_, inl, inr}
 use Prim.Native.Nat.{ℕ, zero, suc, _+_, _≤_, _<_}
-use native.Mathlib.Nat.{eq-or-lt-of-le, le-of-suc-le-suc}
+use native.Mathlib.Nat.{eq-or-lt-of-le, le-of-suc-le-suc, not-suc-le-zero}
 use native.Mathlib.Omega.{arith}
 use lib.Dec.{T, not-T}
 use lib.ListN.{length, getD, take, length-append}
@@ -19,7 +19,8 @@ use Rattle.format.specs.declared.Section.the-variants.{FirstPositive, FirstDise
 use Rattle.format.specs.declared.Command.{Command}
 use Rattle.format.specs.declared.Step.{Step}
 use Rattle.format.specs.declared.Step.the-variants.{Take, Refused}
-use Rattle.format.specs.Format.{accepted, read, readAt, atomOf}
+use Rattle.format.specs.Format.{mostPositive, mostDisequations, accepted, read, readAt, atomOf}
+use Rattle.format.specs.SectionLaws.{both-counts}
 use Rattle.format.specs.FormatLaws.{size-some, Whole, read-whole, Limited, accepted-formed, accepted-limited}
 use Rattle.format.specs.Stored.{joinFor}
 use Rattle.format.specs.Keeping.{isEnd}
@@ -28,7 +29,7 @@ use Rattle.encoding.specs.OrderLaws.{in-order}
 use Rattle.rows.specs.Rows.{rowCount}
 use Rattle.unfolded.specs.Unfolded.{joinEverywhere, PartsIn}
 use Rattle.judging.specs.Judging.{everywhere, clauseMet, clauseOf, lowestBroken}
-use Rattle.judging.specs.Walk.{breaksIn, CommandFits, commandBreaks, saysFirst, Laid, Walk}
+use Rattle.judging.specs.Walk.{breaksIn, CommandFits, commandBreaks, saysFirst, Laid, Lowest, Walk}
 use Rattle.judging.specs.ModelLaws.{InClause, in-clause}
 use Rattle.judging.specs.TableLaws.{join-everywhere, parts-in}
 
@@ -63,6 +64,10 @@ module _ (s : List ℕ) (at : ℕ) where
         pick Command.Head d = refl
         pick (Command.Constant x) d = refl
         pick (Command.Clause σ t x y z) d = refl
+
+-- a command passes over a byte or more, within the string
+pub moves : (s : List ℕ) (at : ℕ) {c : Command} {next : ℕ} → readAt s at ≡ Take c next → (at < next) × (next ≤ length s)
+moves s at {c} e = let h = subst (Whole s at) e (read-whole s at) in (omega (arith, h .0, size-some c), h .1)
 
 -- ---- what a command says to the first system
 
@@ -106,10 +111,6 @@ module _ (s : List ℕ) (q : Question) where
       pub walk-end : isEnd c ≡ true → length (q .first) ≡ n
       walk-end d = all-met (commands-end s at c next e d (w .bound))
 
-      -- a command more passes over a byte or more, within the string
-      pub walk-moves : (at < next) × (next ≤ length s)
-      walk-moves = let h = subst (Whole s at) e (read-whole s at) in (omega (arith, h .0, size-some c), h .1)
-
       module _ (d : isEnd c ≡ false) where
         -- what it says comes next
         onward : (k : ℕ) × (length s < next + k) × (q .first ≡ w .met ++ (firstClause c ++ firstClauses (commandsFrom k s next)))
@@ -118,8 +119,8 @@ module _ (s : List ℕ) (q : Question) where
           where
             go : (k : ℕ) → length s < at + k → q .first ≡ w .met ++ firstClauses (commandsFrom k s at)
                 → (k : ℕ) × (length s < next + k) × (q .first ≡ w .met ++ (firstClause c ++ firstClauses (commandsFrom k s next)))
-            go zero l r = absurd (omega (arith, walk-moves .0, walk-moves .1))
-            go (suc k) l r = (k, omega (arith, walk-moves .0), r ∙ ap (λ l. w .met ++ firstClauses l) (commands-more s at c next e d k))
+            go zero l r = absurd (omega (arith, moves s at e .0, moves s at e .1))
+            go (suc k) l r = (k, omega (arith, moves s at e .0), r ∙ ap (λ l. w .met ++ firstClauses l) (commands-more s at c next e d k))
 
         -- no clause of the first system
         pub walk-other : saysFirst c ≡ false → Walk s q next n
@@ -236,3 +237,51 @@ held-more q rows n held e k l = go (eq-or-lt-of-le (le-of-suc-le-suc (omega arit
     go : (k ≡ n) ⊎ (k < n) → not (clauseMet (q .constants) rows (clauseOf (q .first) k)) ≡ false
     go (inl f) = rw f e
     go (inr m) = held k m
+
+-- ---- a turn of going over the commands
+
+module _ (s table : List ℕ) where
+  -- so far: the clauses of the first system that were met hold
+  abbrev pub Gone : ℕ → ℕ → Type 0
+  Gone at n = (q : Question) → read s ≡ accepted q → Walk s q at n × ((rows constants : List ℕ) (count : ℕ) → Laid q rows constants count table → HeldBelow q rows n)
+
+  pub gone-start : Gone 4 0
+  gone-start q e = (walk-start s q e, λ _ _ _ _ k l. absurd (not-suc-le-zero l))
+
+  module _ {at n : ℕ} (g : Gone at n) where
+    pub lowest-refused : (m : ℕ) → readAt s at ≡ Refused m → Lowest s table n
+    lowest-refused m r q rows constants count e laid = sym (lowest-none q rows n (g q e .1 rows constants count laid) (walk-none s q (g q e .0) m r))
+
+    module _ {c : Command} {next : ℕ} (r : readAt s at ≡ Take c next) where
+      pub lowest-end : isEnd c ≡ true → Lowest s table n
+      lowest-end d q rows constants count e laid = sym (lowest-none q rows n (g q e .1 rows constants count laid) (walk-end s q (g q e .0) c next r d))
+
+      module _ (d : isEnd c ≡ false) where
+        pub gone-other : saysFirst c ≡ false → Gone next n
+        gone-other f q e = (walk-other s q (g q e .0) c next r d f, g q e .1)
+
+        module _ (f : saysFirst c ≡ true) where
+          pub gone-fits : (q : Question) → read s ≡ accepted q → CommandFits c × (n < length (q .first))
+          gone-fits q e = let w = walk-clause s q (g q e .0) c next r d f in (clause-fits s q e n c (w .0) (w .1), w .0)
+
+          breaks : (q : Question) (rows constants : List ℕ) (count : ℕ) → read s ≡ accepted q → Laid q rows constants count table
+              → commandBreaks constantLevels table c ≡ not (clauseMet (q .constants) rows (clauseOf (q .first) n))
+          breaks q rows constants count e laid =
+              let w = walk-clause s q (g q e .0) c next r d f in
+              clause-breaks s q e n c (w .0) (w .1) rows constants count table laid
+
+          pub lowest-broken : commandBreaks constantLevels table c ≡ true → Lowest s table n
+          lowest-broken b q rows constants count e laid =
+              sym (lowest-there q rows n (g q e .1 rows constants count laid) (gone-fits q e .1) (sym (breaks q rows constants count e laid) ∙ b))
+
+          pub gone-first : commandBreaks constantLevels table c ≡ false → Gone next (n + 1)
+          gone-first b q e = (
+            walk-first s q (g q e .0) c next r d f,
+            λ rows constants count laid. held-more q rows n (g q e .1 rows constants count laid) (sym (breaks q rows constants count e laid) ∙ b),
+          )
+
+-- the first system of an accepted question has so few clauses
+pub first-few : (s : List ℕ) (q : Question) → read s ≡ accepted q → length (q .first) ≤ mostPositive + mostDisequations
+first-few s q e =
+    let L = accepted-limited s q e in
+    omega (arith, both-counts (q .first), L .sections FirstPositive, L .sections FirstDisequation)

@@ -12,8 +12,6 @@ use rows::ROW_BYTES;
 use rows::blocks;
 use unfolded::TABLE_WORDS;
 ghost use mathlib.Core.Path.{_≡_};
-ghost use mathlib.Core.List.{List};
-ghost use Prim.Native.Nat.{ℕ};
 ghost use lib.ListN.{length};
 ghost use Rattle.shares.specs.Constant.{constantLevels};
 ghost use Rattle.systems.specs.Questions as model;
@@ -22,9 +20,9 @@ ghost use Rattle.format.specs.Stored.{storedOf, Stands};
 ghost use Rattle.rows.specs.Rows.{answerBytes};
 ghost use Rattle.asking.specs.Demand3.{rowShares};
 ghost use Rattle.unfolded.specs.Unfolded.{joinEverywhere, PartsIn};
-ghost use Rattle.judging.specs.Judging.{judged, judgedWith, lowestBroken, judgementOf};
+ghost use Rattle.judging.specs.Judging.{judged, judgedWith, judgementOf};
 ghost use Rattle.judging.specs.Exactly.{Exactly};
-ghost use Rattle.judging.specs.Walk.{breaksIn, CommandFits, commandBreaks, saysFirst, Laid};
+ghost use Rattle.judging.specs.Walk.{breaksIn, CommandFits, commandBreaks, saysFirst, Lowest};
 
 // What judging gives. Refused: the question with the reader's number and place, or the rows with 18 or 19. Accepted. Rejected because clause number k of the
 // first system is broken, the lowest such; or because the rows extend.
@@ -36,7 +34,9 @@ pub enum Judgement {
 }
 
 // Whether a command is a clause of the first system.
-fn is_first(command: Command) -> bool {
+fn is_first(command: Command) -> bool
+    ensures { λ r. ⌜ r ≡ saysFirst command ⌝ }
+{
     match command {
         Command::End => false,
         Command::Head => false,
@@ -87,7 +87,10 @@ fn is_broken(leaves: &[u64; TABLE_WORDS], command: Command) -> bool
 
 // The lowest clause of the first system that the rows of a table break, in the order of the question, or their count. The question is gone over once more, for
 // what was stored of it is apart by sections.
-fn lowest_broken(bytes: &[u8], leaves: &[u64; TABLE_WORDS]) -> usize {
+fn lowest_broken(bytes: &[u8], leaves: &[u64; TABLE_WORDS]) -> usize
+    requires { ⌜ ((q : model.Question) × (read (now bytes) ≡ accepted q)) ⌝ }
+    ensures { λ r. ⌜ Lowest (now (bytes .entry)) (now (leaves .entry)) r ⌝ }
+{
     let mut count: usize = 0;
     let mut at: usize = 4;
     loop {
@@ -114,7 +117,11 @@ fn judge_rows(
     question: Question,
     clauses: &[u8; CLAUSE_BYTES],
     rows: &[u8],
-) -> Judgement {
+) -> Judgement
+    requires { ⌜ length (now rows) ≡ answerBytes constantLevels ⌝ }
+    requires { ⌜ ((q : model.Question) × (read (now bytes) ≡ accepted q) × Stands (question .kind) (storedOf question (now clauses)) q) ⌝ }
+    ensures { λ r. ⌜ ((q : model.Question) → read (now (bytes .entry)) ≡ accepted q → Stands (question .kind) (storedOf question (now (clauses .entry))) q → r ≡ judgementOf (judged q) (now (rows .entry))) ⌝ }
+{
     let mut leaves = [0u64; TABLE_WORDS];
     unfolded::unfold(rows, &question.constants, question.defined, &mut leaves);
     let k = lowest_broken(bytes, &leaves);
@@ -132,7 +139,10 @@ fn judge_rows(
 }
 
 // Reads a question and judges rows for it. Every byte string may be handed over, as either.
-pub fn judge(question: &[u8], rows: &[u8]) -> Judgement {
+pub fn judge(question: &[u8], rows: &[u8]) -> Judgement
+    ensures result { λ r. ⌜ r ≡ judgementOf (judgedWith (now (question .entry)) (now (rows .entry))) (now (rows .entry)) ⌝ }
+    ensures model { λ r. ⌜ ((q : model.Question) → judgedWith (now (question .entry)) (now (rows .entry)) ≡ judged q → Exactly q (rowShares (q .constants .levels) (now (rows .entry))) (λ j. r ≡ j)) ⌝ }
+{
     let mut clauses = [0u8; CLAUSE_BYTES];
     let reading = questions::read(question, &mut clauses);
     if reading.refusal != 0 {
