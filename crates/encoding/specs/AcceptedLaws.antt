@@ -1,7 +1,7 @@
 -- Every accepted question can be written, and one of satisfiability is written byte for byte as it came. Assumes nothing.
 use mathlib.Core.Path.{_≡_, refl, sym, ap, ap₂, subst, _∙_}
 use mathlib.Core.Bool.{Bool, true, false, cond, _&&_}
-use mathlib.Core.List.{List, [], _∷_, _++_, map, map-append, append-nil, append-assoc}
+use mathlib.Core.List.{List, [], _∷_, _++_, map-append, append-nil, append-assoc}
 use Prim.Native.Nat.{ℕ, zero, suc, _+_, _*_, _^_, _≤_, _<_}
 use native.Mathlib.Omega.{arith}
 use borrow.Author.Tests.{ltb-false, eqb-true}
@@ -11,26 +11,26 @@ use lib.Seq.{take-add, take-all}
 use Rattle.shares.specs.Constant.{constantLevels, bytesAt}
 use Rattle.shares.specs.Test.{of-true, and-right}
 use Rattle.systems.specs.Clauses.{Clause, positive, negated, System}
-use Rattle.systems.specs.Questions.{Kind, satisfiability, entailment, Question}
+use Rattle.systems.specs.Questions.{satisfiability, entailment, Question}
 use Rattle.format.specs.declared.Section.{Section}
 use Rattle.format.specs.declared.Section.the-variants.{FirstPositive, FirstDisequation, SecondPositive, SecondDisequation}
 use Rattle.format.specs.declared.Test.{Test}
 use Rattle.format.specs.declared.Test.the-variants.{Join, Equality, Full, Empty, Together}
 use Rattle.format.specs.declared.Shape.{Shape}
-use Rattle.format.specs.declared.Entry.the-variants.{Known, Unknown}
+use Rattle.format.specs.declared.Entry.the-variants.{Known}
 use Rattle.format.specs.declared.Command.{Command}
 use Rattle.format.specs.declared.Head.{Head}
 use Rattle.format.specs.declared.Head.the-variants.{Opens, Wrong}
 use Rattle.format.specs.declared.Step.{Step}
 use Rattle.format.specs.declared.Step.the-variants.{Take, Refused}
-use Rattle.format.specs.Format.{Result, refused, accepted, entryOf, readAt, atomOf, isForeign, fault, judged, withFirst, withClause, withConstant, taken, ended, onward, turn, run, headFits, kindFrom, opened, headOf, afterHead, read}
+use Rattle.format.specs.Format.{Result, refused, accepted, entryOf, readAt, atomOf, isForeign, fault, judged, withFirst, withClause, withConstant, taken, ended, onward, turn, headFits, kindFrom, opened, headOf, afterHead, read}
 use Rattle.format.specs.Stored.{kindNumber}
 use Rattle.format.specs.SectionLaws.{clause-keeps}
 use Rattle.format.specs.FormatLaws.{branch, size, Whole, read-whole, clause-fits, constant-fits, Stay, run-law, accepted-formed, accepted-limited}
 use Rattle.format.specs.KeepingLaws.{Bytes, byte-back}
 use Rattle.encoding.specs.Order.{firstSaid, secondSaid}
 use Rattle.encoding.specs.OrderLaws.{said}
-use Rattle.encoding.specs.Encode.{clauseByte, encodeCommand, encodeCommands, clauseCommand, firstCommand, commandsFor, headBytes, encode, HasCommand, AllHaveCommands, Writable}
+use Rattle.encoding.specs.Encode.{clauseByte, encodeCommand, encodeCommands, clauseCommand, firstCommand, commandsFor, headBytes, encode, AllHaveCommands, Writable}
 use Rattle.encoding.specs.ByteLaws.{Readable, Again, AgainStep, read-again}
 use Rattle.encoding.specs.EncodeLaws.{read-encode}
 
@@ -79,6 +79,7 @@ record Sayable (q : Question) : Type 0 where
   first : AllHaveCommands (q .first)
   second : AllHaveCommands (q .second)
 
+-- and so can an accepted question
 abbrev SayableResult : Result → Type 0
 SayableResult (refused n place) = Unit {0}
 SayableResult (accepted q) = Sayable q
@@ -95,6 +96,7 @@ sayable-clause q σ t a b c e d =
     }
 
 module _ (s : List ℕ) (bytes : Bytes s) where
+  -- after a command, or a refusal of it
   abbrev Onward : ℕ → Question → Step → Type 0
   Onward at q r = Stay (λ q′ _. Sayable q′) SayableResult (onward s at q r)
 
@@ -162,6 +164,7 @@ more-first q c e = rw e (simp (map-append, append-nil, append-assoc))
 abbrev Same : List ℕ → Question → ℕ → Type 0
 Same s q at = q .kind ≡ satisfiability → (q .second ≡ []) × (take at s ≡ headBytes q ++ encodeCommands (commandsFor q))
 
+-- an accepted one is written as all of them
 abbrev SameResult : List ℕ → Result → Type 0
 SameResult s (refused n place) = Unit {0}
 SameResult s (accepted q) = q .kind ≡ satisfiability → encode q ≡ s
@@ -197,6 +200,7 @@ same-clause s at q SecondPositive t a b c f d g k = let z = rw k at f in let y :
 same-clause s at q SecondDisequation t a b c f d g k = let z = rw k at f in let y : _≡_ {A = ℕ} 0 1 = cc in absurd (omega arith)
 
 module _ (s : List ℕ) (bytes : Bytes s) where
+  -- after a command, or a refusal of it
   abbrev SameOn : ℕ → Question → Step → Type 0
   SameOn at q r = Stay (Same s) (SameResult s) (onward s at q r)
 
@@ -223,6 +227,7 @@ module _ (s : List ℕ) (bytes : Bytes s) where
 
 -- ---- the head stands as it is written
 
+-- the first four bytes are those of a head that is taken
 abbrev HeadStands : List ℕ → Head → Type 0
 HeadStands s (Opens kind n m) = take 4 s ≡ 0x01 ∷ kind ∷ n ∷ m ∷ []
 HeadStands s (Wrong n) = Unit {0}
@@ -261,5 +266,6 @@ read-same s bytes = pick (headOf s) (head-stands s)
         (λ e. (refl, h ∙ ap (λ k. 0x01 ∷ k ∷ n ∷ m ∷ []) (kind-alone kind e)))
     pick (Wrong n) h = tt
 
+-- it comes out byte for byte
 pub encode-same : (s : List ℕ) (q : Question) → Bytes s → read s ≡ accepted q → q .kind ≡ satisfiability → encode q ≡ s
 encode-same s q bytes e k = subst (SameResult s) e (read-same s bytes) k

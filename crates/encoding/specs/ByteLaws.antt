@@ -27,18 +27,18 @@ use Rattle.encoding.specs.Encode.{clauseByte, commandByte, lowestBytes, 
 
 -- ---- a number's bytes
 
-pub bytes-length : (n x : ℕ) → length (lowestBytes n x) ≡ n
-unfolding lowestBytes
-bytes-length zero x = refl
-bytes-length (suc n) x = ap suc (bytes-length n (x / 2 ^ 8))
-
--- they make the number again, where it fits them
+-- its bytes make it again, where it fits them
 pub number-back : (n x : ℕ) → x < 2 ^ (8 * n) → number (lowestBytes n x) ≡ x
 unfolding lowestBytes number
 number-back zero x h = omega arith
 number-back (suc n) x h =
     let e : 8 * suc n ≡ 8 * n + 8 = omega arith in
     ap (λ m. m * 2 ^ 8 + x % 2 ^ 8) (number-back n (x / 2 ^ 8) (shr-lt (8 * n) 8 (rw e at h))) ∙ split x 8
+
+pub bytes-length : (n x : ℕ) → length (lowestBytes n x) ≡ n
+unfolding lowestBytes
+bytes-length zero x = refl
+bytes-length (suc n) x = ap suc (bytes-length n (x / 2 ^ 8))
 
 -- bytes are those of the number that they make
 pub bytes-back : (l : List ℕ) → Bytes l → lowestBytes (length l) (number l) ≡ l
@@ -79,6 +79,7 @@ announced b =
     (row b 0x39 (Shape.Clause SecondDisequation Empty) _ refl
     (row b 0x3A (Shape.Clause SecondPositive Together) Unknown refl tt))))))))))))))))
 
+-- the byte of what a byte announces is that byte
 pub command-byte : (b : ℕ) (h : Shape) → entryOf b ≡ Known h → commandByte h ≡ b
 unfolding Announces
 command-byte b h e = rw e at (announced b)
@@ -195,6 +196,7 @@ Again s at Command.Head = Unit {0}
 Again s at (Command.Constant x) = Readable (Command.Constant x) × (take (size (Command.Constant x)) (drop at s) ≡ encodeCommand (Command.Constant x))
 Again s at (Command.Clause σ t a b c) = Readable (Command.Clause σ t a b c) × (take (size (Command.Clause σ t a b c)) (drop at s) ≡ encodeCommand (Command.Clause σ t a b c))
 
+-- so it is for each command that can be read
 abbrev pub AgainStep : List ℕ → ℕ → Step → Type 0
 AgainStep s at (Take c next) = Again s at c
 AgainStep s at (Refused n) = Unit {0}
@@ -239,6 +241,7 @@ module _ (s : List ℕ) (bytes : Bytes s) (at : ℕ) (l : at < length s) where
         byte-first (Shape.Clause σ t) e ∙ ap (λ r. commandByte (Shape.Clause σ t) ∷ r) (sym (terms-stand t f)),
       )
 
+-- every command of a string of bytes stands there as it is written
 pub read-again : (s : List ℕ) → Bytes s → (at : ℕ) → AgainStep s at (readAt s at)
 unfolding readAt wholeAt
 read-again s bytes at =
