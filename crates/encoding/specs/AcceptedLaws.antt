@@ -104,7 +104,8 @@ module _ (s : List ℕ) (bytes : Bytes s) where
   unfolding taken ended
   sayable-on at q Command.End next d g = branch SayableResult (eqb next (length s)) (accepted q) (refused 10 next) (λ _. d) (λ _. tt)
   sayable-on at q Command.Head next d g = d
-  sayable-on at q (Command.Constant x) next d g = record { small = below-append _ x (q .constants .numbers) (d .small) (g .0); first = d .first; second = d .second }
+  sayable-on at q (Command.Constant x) next d g =
+      record { small = below-append _ x (q .constants .numbers) (d .small) (g .0); first = d .first; second = d .second }
   sayable-on at q (Command.Clause σ t a b c) next d g = sayable-clause q σ t a b c (g .0 .0) d
 
   sayable-turn : (q : Question) (at : ℕ) → Sayable q → Stay (λ q′ _. Sayable q′) SayableResult (turn s at q)
@@ -121,7 +122,8 @@ module _ (s : List ℕ) (bytes : Bytes s) where
     where
       pick : (h : Head) → SayableResult (afterHead s h)
       pick (Opens kind n m) =
-          run-law (λ q _. Sayable q) SayableResult s sayable-turn (λ _ _ _. tt) (length s) 4 (opened kind n m) (record { small = λ i. omega arith; first = tt; second = tt })
+          run-law (λ q _. Sayable q) SayableResult s sayable-turn (λ _ _ _. tt) (length s) 4 (opened kind n m)
+          (record { small = λ i. omega arith; first = tt; second = tt })
       pick (Wrong n) = tt
 
 pub accepted-writable : (s : List ℕ) (q : Question) → Bytes s → read s ≡ accepted q → Writable q
@@ -140,6 +142,10 @@ encode-append : (l m : List Command) → encodeCommands (l ++ m) ≡ encodeComma
 unfolding encodeCommands
 encode-append [] m = refl
 encode-append (c ∷ l) m = ap (λ r. encodeCommand c ++ r) (encode-append l m) ∙ sym (append-assoc (encodeCommand c) (encodeCommands l) (encodeCommands m))
+
+encode-snoc : (l : List Command) (c : Command) → encodeCommands (l ++ (c ∷ [])) ≡ encodeCommands l ++ encodeCommand c
+unfolding encodeCommands
+encode-snoc l c = encode-append l (c ∷ []) ∙ ap (λ r. encodeCommands l ++ r) (append-nil (encodeCommand c))
 
 -- a clause's command is that of what it says
 clause-again : (σ : Section) (t : Test) (a b c : ℕ) → Readable (Command.Clause σ t a b c) → clauseCommand σ (atomOf t a b c) ≡ Command.Clause σ t a b c
@@ -172,12 +178,11 @@ SameResult s (accepted q) = q .kind ≡ satisfiability → encode q ≡ s
 module _ (s : List ℕ) (at : ℕ) (q : Question) (e : take at s ≡ headBytes q ++ encodeCommands (commandsFor q)) where
   same-more : (c : Command) (cs : List Command) → cs ≡ commandsFor q ++ (c ∷ []) → take (size c) (drop at s) ≡ encodeCommand c
       → take (at + size c) s ≡ headBytes q ++ encodeCommands cs
-  unfolding encodeCommands
   same-more c cs f g =
       take-add at (size c) s
       ∙ ap₂ _++_ e g
       ∙ append-assoc (headBytes q) (encodeCommands (commandsFor q)) (encodeCommand c)
-      ∙ ap (λ l. headBytes q ++ l) (sym (ap encodeCommands f ∙ encode-append (commandsFor q) (c ∷ []) ∙ ap (λ l. encodeCommands (commandsFor q) ++ l) (append-nil (encodeCommand c))))
+      ∙ ap (λ l. headBytes q ++ l) (sym (ap encodeCommands f ∙ encode-snoc (commandsFor q) c))
 
   same-end : (next : ℕ) → next ≡ at + size Command.End → next ≡ length s → take (size Command.End) (drop at s) ≡ encodeCommand Command.End → encode q ≡ s
   unfolding encode

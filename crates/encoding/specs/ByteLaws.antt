@@ -189,14 +189,18 @@ select-first n l m h =
     ext-getD 0 (take n t) (take n l) (e ∙ sym (length-take-le n l h)) (λ i u.
     getD-take n t i 0 (rw e at u) ∙ select-at n l m i (rw e at u) ∙ sym (getD-take n l i 0 (rw e at u)))
 
--- what stands where c was read is what is written of it; a head that is read here is at fault
-abbrev pub Again : List ℕ → ℕ → Command → Type 0
-Again s at Command.End = Readable Command.End × (take (size Command.End) (drop at s) ≡ encodeCommand Command.End)
-Again s at Command.Head = Unit {0}
-Again s at (Command.Constant x) = Readable (Command.Constant x) × (take (size (Command.Constant x)) (drop at s) ≡ encodeCommand (Command.Constant x))
-Again s at (Command.Clause σ t a b c) = Readable (Command.Clause σ t a b c) × (take (size (Command.Clause σ t a b c)) (drop at s) ≡ encodeCommand (Command.Clause σ t a b c))
+-- c stands at an offset: it can be written, and the bytes there are what is written of it
+abbrev pub StandsAt : List ℕ → ℕ → Command → Type 0
+StandsAt s at c = Readable c × (take (size c) (drop at s) ≡ encodeCommand c)
 
--- so it is for each command that can be read
+-- so does a command that is read there, but for a head, which is at fault after the first
+abbrev pub Again : List ℕ → ℕ → Command → Type 0
+Again s at Command.End = StandsAt s at Command.End
+Again s at Command.Head = Unit {0}
+Again s at (Command.Constant x) = StandsAt s at (Command.Constant x)
+Again s at (Command.Clause σ t a b c) = StandsAt s at (Command.Clause σ t a b c)
+
+-- so does what reading gives there
 abbrev pub AgainStep : List ℕ → ℕ → Step → Type 0
 AgainStep s at (Take c next) = Again s at c
 AgainStep s at (Refused n) = Unit {0}
