@@ -1,7 +1,7 @@
 -- Every accepted question can be written, and one of satisfiability is written byte for byte as it came. Assumes nothing.
 use mathlib.Core.Path.{_≡_, refl, sym, ap, ap₂, subst, _∙_}
 use mathlib.Core.Bool.{Bool, true, false, cond, _&&_}
-use mathlib.Core.List.{List, [], _∷_, _++_, map, map-append, append-nil, append-assoc}
+use mathlib.Core.List.{List, [], _∷_, _++_, map-append, append-nil, append-assoc}
 use Prim.Native.Nat.{ℕ, zero, suc, _+_, _*_, _^_, _≤_, _<_}
 use native.Mathlib.Omega.{arith}
 use borrow.Author.Tests.{ltb-false, eqb-true}
@@ -11,26 +11,26 @@ use lib.Seq.{take-add, take-all}
 use Rattle.shares.specs.Constant.{constantLevels, bytesAt}
 use Rattle.shares.specs.Test.{of-true, and-right}
 use Rattle.systems.specs.Clauses.{Clause, positive, negated, System}
-use Rattle.systems.specs.Questions.{Kind, satisfiability, entailment, Question}
+use Rattle.systems.specs.Questions.{satisfiability, entailment, Question}
 use Rattle.format.specs.declared.Section.{Section}
 use Rattle.format.specs.declared.Section.the-variants.{FirstPositive, FirstDisequation, SecondPositive, SecondDisequation}
 use Rattle.format.specs.declared.Test.{Test}
 use Rattle.format.specs.declared.Test.the-variants.{Join, Equality, Full, Empty, Together}
 use Rattle.format.specs.declared.Shape.{Shape}
-use Rattle.format.specs.declared.Entry.the-variants.{Known, Unknown}
+use Rattle.format.specs.declared.Entry.the-variants.{Known}
 use Rattle.format.specs.declared.Command.{Command}
 use Rattle.format.specs.declared.Head.{Head}
 use Rattle.format.specs.declared.Head.the-variants.{Opens, Wrong}
 use Rattle.format.specs.declared.Step.{Step}
 use Rattle.format.specs.declared.Step.the-variants.{Take, Refused}
-use Rattle.format.specs.Format.{Result, refused, accepted, entryOf, readAt, atomOf, isForeign, fault, judged, withFirst, withClause, withConstant, taken, ended, onward, turn, run, headFits, kindFrom, opened, headOf, afterHead, read}
+use Rattle.format.specs.Format.{Result, refused, accepted, entryOf, readAt, atomOf, isForeign, fault, judged, withFirst, withClause, withConstant, taken, ended, onward, turn, headFits, kindFrom, opened, headOf, afterHead, read}
 use Rattle.format.specs.Stored.{kindNumber}
 use Rattle.format.specs.SectionLaws.{clause-keeps}
 use Rattle.format.specs.FormatLaws.{branch, size, Whole, read-whole, clause-fits, constant-fits, Stay, run-law, accepted-formed, accepted-limited}
 use Rattle.format.specs.KeepingLaws.{Bytes, byte-back}
 use Rattle.encoding.specs.Order.{firstSaid, secondSaid}
 use Rattle.encoding.specs.OrderLaws.{said}
-use Rattle.encoding.specs.Encode.{clauseByte, encodeCommand, encodeCommands, clauseCommand, firstCommand, commandsFor, headBytes, encode, HasCommand, AllHaveCommands, Writable}
+use Rattle.encoding.specs.Encode.{clauseByte, encodeCommand, encodeCommands, clauseCommand, firstCommand, commandsFor, headBytes, encode, AllHaveCommands, Writable}
 use Rattle.encoding.specs.ByteLaws.{Readable, Again, AgainStep, read-again}
 use Rattle.encoding.specs.EncodeLaws.{read-encode}
 
@@ -79,6 +79,7 @@ record Sayable (q : Question) : Type 0 where
   first : AllHaveCommands (q .first)
   second : AllHaveCommands (q .second)
 
+-- and so can an accepted question
 abbrev SayableResult : Result → Type 0
 SayableResult (refused n place) = Unit {0}
 SayableResult (accepted q) = Sayable q
@@ -95,6 +96,7 @@ sayable-clause q σ t a b c e d =
     }
 
 module _ (s : List ℕ) (bytes : Bytes s) where
+  -- after a command, or a refusal of it
   abbrev Onward : ℕ → Question → Step → Type 0
   Onward at q r = Stay (λ q′ _. Sayable q′) SayableResult (onward s at q r)
 
@@ -102,7 +104,8 @@ module _ (s : List ℕ) (bytes : Bytes s) where
   unfolding taken ended
   sayable-on at q Command.End next d g = branch SayableResult (eqb next (length s)) (accepted q) (refused 10 next) (λ _. d) (λ _. tt)
   sayable-on at q Command.Head next d g = d
-  sayable-on at q (Command.Constant x) next d g = record { small = below-append _ x (q .constants .numbers) (d .small) (g .0); first = d .first; second = d .second }
+  sayable-on at q (Command.Constant x) next d g =
+      record { small = below-append _ x (q .constants .numbers) (d .small) (g .0); first = d .first; second = d .second }
   sayable-on at q (Command.Clause σ t a b c) next d g = sayable-clause q σ t a b c (g .0 .0) d
 
   sayable-turn : (q : Question) (at : ℕ) → Sayable q → Stay (λ q′ _. Sayable q′) SayableResult (turn s at q)
@@ -119,7 +122,8 @@ module _ (s : List ℕ) (bytes : Bytes s) where
     where
       pick : (h : Head) → SayableResult (afterHead s h)
       pick (Opens kind n m) =
-          run-law (λ q _. Sayable q) SayableResult s sayable-turn (λ _ _ _. tt) (length s) 4 (opened kind n m) (record { small = λ i. omega arith; first = tt; second = tt })
+          run-law (λ q _. Sayable q) SayableResult s sayable-turn (λ _ _ _. tt) (length s) 4 (opened kind n m)
+          (record { small = λ i. omega arith; first = tt; second = tt })
       pick (Wrong n) = tt
 
 pub accepted-writable : (s : List ℕ) (q : Question) → Bytes s → read s ≡ accepted q → Writable q
@@ -138,6 +142,10 @@ encode-append : (l m : List Command) → encodeCommands (l ++ m) ≡ encodeComma
 unfolding encodeCommands
 encode-append [] m = refl
 encode-append (c ∷ l) m = ap (λ r. encodeCommand c ++ r) (encode-append l m) ∙ sym (append-assoc (encodeCommand c) (encodeCommands l) (encodeCommands m))
+
+encode-snoc : (l : List Command) (c : Command) → encodeCommands (l ++ (c ∷ [])) ≡ encodeCommands l ++ encodeCommand c
+unfolding encodeCommands
+encode-snoc l c = encode-append l (c ∷ []) ∙ ap (λ r. encodeCommands l ++ r) (append-nil (encodeCommand c))
 
 -- a clause's command is that of what it says
 clause-again : (σ : Section) (t : Test) (a b c : ℕ) → Readable (Command.Clause σ t a b c) → clauseCommand σ (atomOf t a b c) ≡ Command.Clause σ t a b c
@@ -162,6 +170,7 @@ more-first q c e = rw e (simp (map-append, append-nil, append-assoc))
 abbrev Same : List ℕ → Question → ℕ → Type 0
 Same s q at = q .kind ≡ satisfiability → (q .second ≡ []) × (take at s ≡ headBytes q ++ encodeCommands (commandsFor q))
 
+-- an accepted one is written as all of them
 abbrev SameResult : List ℕ → Result → Type 0
 SameResult s (refused n place) = Unit {0}
 SameResult s (accepted q) = q .kind ≡ satisfiability → encode q ≡ s
@@ -169,12 +178,11 @@ SameResult s (accepted q) = q .kind ≡ satisfiability → encode q ≡ s
 module _ (s : List ℕ) (at : ℕ) (q : Question) (e : take at s ≡ headBytes q ++ encodeCommands (commandsFor q)) where
   same-more : (c : Command) (cs : List Command) → cs ≡ commandsFor q ++ (c ∷ []) → take (size c) (drop at s) ≡ encodeCommand c
       → take (at + size c) s ≡ headBytes q ++ encodeCommands cs
-  unfolding encodeCommands
   same-more c cs f g =
       take-add at (size c) s
       ∙ ap₂ _++_ e g
       ∙ append-assoc (headBytes q) (encodeCommands (commandsFor q)) (encodeCommand c)
-      ∙ ap (λ l. headBytes q ++ l) (sym (ap encodeCommands f ∙ encode-append (commandsFor q) (c ∷ []) ∙ ap (λ l. encodeCommands (commandsFor q) ++ l) (append-nil (encodeCommand c))))
+      ∙ ap (λ l. headBytes q ++ l) (sym (ap encodeCommands f ∙ encode-snoc (commandsFor q) c))
 
   same-end : (next : ℕ) → next ≡ at + size Command.End → next ≡ length s → take (size Command.End) (drop at s) ≡ encodeCommand Command.End → encode q ≡ s
   unfolding encode
@@ -197,6 +205,7 @@ same-clause s at q SecondPositive t a b c f d g k = let z = rw k at f in let y :
 same-clause s at q SecondDisequation t a b c f d g k = let z = rw k at f in let y : _≡_ {A = ℕ} 0 1 = cc in absurd (omega arith)
 
 module _ (s : List ℕ) (bytes : Bytes s) where
+  -- after a command, or a refusal of it
   abbrev SameOn : ℕ → Question → Step → Type 0
   SameOn at q r = Stay (Same s) (SameResult s) (onward s at q r)
 
@@ -223,6 +232,7 @@ module _ (s : List ℕ) (bytes : Bytes s) where
 
 -- ---- the head stands as it is written
 
+-- the first four bytes are those of a head that is taken
 abbrev HeadStands : List ℕ → Head → Type 0
 HeadStands s (Opens kind n m) = take 4 s ≡ 0x01 ∷ kind ∷ n ∷ m ∷ []
 HeadStands s (Wrong n) = Unit {0}
@@ -261,5 +271,6 @@ read-same s bytes = pick (headOf s) (head-stands s)
         (λ e. (refl, h ∙ ap (λ k. 0x01 ∷ k ∷ n ∷ m ∷ []) (kind-alone kind e)))
     pick (Wrong n) h = tt
 
+-- it comes out byte for byte
 pub encode-same : (s : List ℕ) (q : Question) → Bytes s → read s ≡ accepted q → q .kind ≡ satisfiability → encode q ≡ s
 encode-same s q bytes e k = subst (SameResult s) e (read-same s bytes) k

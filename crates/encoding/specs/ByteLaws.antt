@@ -27,18 +27,18 @@ use Rattle.encoding.specs.Encode.{clauseByte, commandByte, lowestBytes, 
 
 -- ---- a number's bytes
 
-pub bytes-length : (n x : ℕ) → length (lowestBytes n x) ≡ n
-unfolding lowestBytes
-bytes-length zero x = refl
-bytes-length (suc n) x = ap suc (bytes-length n (x / 2 ^ 8))
-
--- they make the number again, where it fits them
+-- its bytes make it again, where it fits them
 pub number-back : (n x : ℕ) → x < 2 ^ (8 * n) → number (lowestBytes n x) ≡ x
 unfolding lowestBytes number
 number-back zero x h = omega arith
 number-back (suc n) x h =
     let e : 8 * suc n ≡ 8 * n + 8 = omega arith in
     ap (λ m. m * 2 ^ 8 + x % 2 ^ 8) (number-back n (x / 2 ^ 8) (shr-lt (8 * n) 8 (rw e at h))) ∙ split x 8
+
+pub bytes-length : (n x : ℕ) → length (lowestBytes n x) ≡ n
+unfolding lowestBytes
+bytes-length zero x = refl
+bytes-length (suc n) x = ap suc (bytes-length n (x / 2 ^ 8))
 
 -- bytes are those of the number that they make
 pub bytes-back : (l : List ℕ) → Bytes l → lowestBytes (length l) (number l) ≡ l
@@ -79,6 +79,7 @@ announced b =
     (row b 0x39 (Shape.Clause SecondDisequation Empty) _ refl
     (row b 0x3A (Shape.Clause SecondPositive Together) Unknown refl tt))))))))))))))))
 
+-- the byte of what a byte announces is that byte
 pub command-byte : (b : ℕ) (h : Shape) → entryOf b ≡ Known h → commandByte h ≡ b
 unfolding Announces
 command-byte b h e = rw e at (announced b)
@@ -188,13 +189,18 @@ select-first n l m h =
     ext-getD 0 (take n t) (take n l) (e ∙ sym (length-take-le n l h)) (λ i u.
     getD-take n t i 0 (rw e at u) ∙ select-at n l m i (rw e at u) ∙ sym (getD-take n l i 0 (rw e at u)))
 
--- what stands where c was read is what is written of it; a head that is read here is at fault
-abbrev pub Again : List ℕ → ℕ → Command → Type 0
-Again s at Command.End = Readable Command.End × (take (size Command.End) (drop at s) ≡ encodeCommand Command.End)
-Again s at Command.Head = Unit {0}
-Again s at (Command.Constant x) = Readable (Command.Constant x) × (take (size (Command.Constant x)) (drop at s) ≡ encodeCommand (Command.Constant x))
-Again s at (Command.Clause σ t a b c) = Readable (Command.Clause σ t a b c) × (take (size (Command.Clause σ t a b c)) (drop at s) ≡ encodeCommand (Command.Clause σ t a b c))
+-- c stands at an offset: it can be written, and the bytes there are what is written of it
+abbrev pub StandsAt : List ℕ → ℕ → Command → Type 0
+StandsAt s at c = Readable c × (take (size c) (drop at s) ≡ encodeCommand c)
 
+-- so does a command that is read there, but for a head, which is at fault after the first
+abbrev pub Again : List ℕ → ℕ → Command → Type 0
+Again s at Command.End = StandsAt s at Command.End
+Again s at Command.Head = Unit {0}
+Again s at (Command.Constant x) = StandsAt s at (Command.Constant x)
+Again s at (Command.Clause σ t a b c) = StandsAt s at (Command.Clause σ t a b c)
+
+-- so does what reading gives there
 abbrev pub AgainStep : List ℕ → ℕ → Step → Type 0
 AgainStep s at (Take c next) = Again s at c
 AgainStep s at (Refused n) = Unit {0}
@@ -239,6 +245,7 @@ module _ (s : List ℕ) (bytes : Bytes s) (at : ℕ) (l : at < length s) where
         byte-first (Shape.Clause σ t) e ∙ ap (λ r. commandByte (Shape.Clause σ t) ∷ r) (sym (terms-stand t f)),
       )
 
+-- every command of a string of bytes stands there as it is written
 pub read-again : (s : List ℕ) → Bytes s → (at : ℕ) → AgainStep s at (readAt s at)
 unfolding readAt wholeAt
 read-again s bytes at =

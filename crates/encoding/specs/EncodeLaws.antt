@@ -1,33 +1,30 @@
--- What is written of a question reads back, every accepted question can be written, and one of satisfiability comes out as it came in.
--- Assumes nothing.
-use mathlib.Core.Path.{_≡_, refl, sym, ap, ap₂, subst, _∙_}
-use mathlib.Core.Bool.{Bool, true, false, cond, _&&_}
+-- A question that can be written reads back. Assumes nothing.
+use mathlib.Core.Path.{_≡_, refl, sym, ap, ap₂, _∙_}
+use mathlib.Core.Bool.{true, false, cond}
 use mathlib.Core.List.{List, [], _∷_, _++_, map, append-nil, append-assoc}
 use Prim.Native.Nat.{ℕ, zero, suc, _+_, _-_, _*_, _^_, _≤_, _<_}
 use native.Mathlib.Omega.{arith}
-use borrow.Author.Tests.{lt-ltb, le-ltb, lt-leb, eq-eqb, ltb-false, eqb-true}
-use lib.Dec.{T, eqb, ltb, leb}
+use borrow.Author.Tests.{lt-ltb, le-ltb, lt-leb, eq-eqb}
 use lib.ListN.{length, getD, length-append}
 use lib.Seq.{append-snoc}
 use Rattle.shares.specs.Constant.{constantLevels, bytesAt}
-use Rattle.shares.specs.Test.{is-true, of-true}
+use Rattle.shares.specs.Test.{is-true}
 use Rattle.systems.specs.Clauses.{Constants, Term, variable, constant, Atom, joined, equal, isFull, isEmpty, together, Clause, positive, negated, System, positives, disequations}
-use Rattle.systems.specs.Questions.{Kind, satisfiability, entailment, Question, Defined, InAtom, InSystem, Alone, WellFormed}
+use Rattle.systems.specs.Questions.{Kind, satisfiability, entailment, Question, Defined, InAtom, InSystem, Alone}
 use Rattle.format.specs.declared.Section.{Section}
 use Rattle.format.specs.declared.Section.the-variants.{FirstPositive, FirstDisequation, SecondPositive, SecondDisequation}
 use Rattle.format.specs.declared.Test.{Test}
 use Rattle.format.specs.declared.Test.the-variants.{Join, Equality, Full, Empty, Together}
 use Rattle.format.specs.declared.Command.{Command}
 use Rattle.format.specs.declared.Head.{Head}
-use Rattle.format.specs.declared.Head.the-variants.{Opens, Wrong}
-use Rattle.format.specs.declared.Step.{Step}
+use Rattle.format.specs.declared.Head.the-variants.{Opens}
 use Rattle.format.specs.declared.Step.the-variants.{Take, Refused}
-use Rattle.format.specs.Format.{Result, refused, accepted, mostVariables, mostConstants, mostPositive, mostDisequations, entryOf, isSecond, mostOf, inSection, termOf, names, variablesFor, allNamed, atomOf, isForeign, fault, judged, withClause, taken, ended, go, onward, turn, following, run, headFits, kindFrom, opened, headOf, afterHead, read}
+use Rattle.format.specs.Format.{refused, accepted, mostVariables, mostConstants, mostPositive, mostDisequations, entryOf, isSecond, mostOf, inSection, termOf, names, variablesFor, allNamed, isForeign, fault, judged, withClause, taken, ended, go, onward, turn, following, run, headFits, kindFrom, opened, headOf, afterHead, read}
 use Rattle.format.specs.Stored.{kindNumber}
 use Rattle.format.specs.Keeping.{isEnd}
 use Rattle.format.specs.SectionLaws.{positives-append, disequations-append, variables-le}
-use Rattle.format.specs.FormatLaws.{Limited, size, ClauseFits}
-use Rattle.encoding.specs.Encode.{shapeOf, encodeCommand, encodeCommands, termByteOf, clauseCommand, firstCommand, secondCommand, commandsFor, headBytes, encode, HasCommand, AllHaveCommands, Writable}
+use Rattle.format.specs.FormatLaws.{size, ClauseFits}
+use Rattle.encoding.specs.Encode.{encodeCommand, encodeCommands, termByteOf, clauseCommand, firstCommand, secondCommand, commandsFor, headBytes, encode, HasCommand, AllHaveCommands, Writable}
 use Rattle.encoding.specs.ByteLaws.{Readable, encoded-length, read-back}
 
 -- ---- commands that lead from one question to another
@@ -119,6 +116,7 @@ readable (negated (isFull a)) h = absurd h
 readable (negated (isEmpty a)) h = ((refl, (refl, refl)), (refl, (refl, refl)))
 readable (negated (together a b)) h = absurd h
 
+-- a clause that fits has no fault
 fits-clear : (q : Question) (σ : Section) (t : Test) (a b c : ℕ) → ClauseFits q σ t a b c → fault q (Command.Clause σ t a b c) ≡ 0
 unfolding fault
 fits-clear q σ t a b c f =
@@ -128,6 +126,7 @@ fits-clear q σ t a b c f =
 -- an atom in a section that has room for it, of named terms, is taken with no fault
 module _ (q : Question) (σ : Section) (home : isForeign (q .kind) σ ≡ false) (room : length (inSection q σ) < mostOf σ)
     (few : variablesFor (q .free) (q .own) σ ≤ mostVariables) where
+  -- the variables that it may name
   abbrev n : ℕ
   n = variablesFor (q .free) (q .own) σ
 
@@ -212,6 +211,7 @@ second-home satisfiability m whole f rest c σ a e = absurd (omega (arith, ap le
 second-home entailment m whole f rest c σ a e = refl
 
 module _ (q : Question) (w : Writable q) where
+  -- its constants
   abbrev numbers : List ℕ
   numbers = q .constants .numbers
 

@@ -1,5 +1,6 @@
 pub mod Encode
 pub mod Order
+pub mod Worked
 pub mod OrderLaws
 pub mod ByteLaws
 pub mod EncodeLaws

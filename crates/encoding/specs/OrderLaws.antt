@@ -6,7 +6,7 @@ use Prim.Native.Nat.{ℕ, zero, suc, _+_, _≤_, _<_}
 use native.Mathlib.Omega.{arith}
 use lib.Dec.{eqb}
 use lib.ListN.{length}
-use Rattle.systems.specs.Clauses.{Atom, System}
+use Rattle.systems.specs.Clauses.{Atom}
 use Rattle.systems.specs.Questions.{Question}
 use Rattle.format.specs.declared.Section.{Section}
 use Rattle.format.specs.declared.Section.the-variants.{FirstPositive, FirstDisequation, SecondPositive, SecondDisequation}
@@ -15,8 +15,8 @@ use Rattle.format.specs.declared.Head.{Head}
 use Rattle.format.specs.declared.Head.the-variants.{Opens, Wrong}
 use Rattle.format.specs.declared.Step.{Step}
 use Rattle.format.specs.declared.Step.the-variants.{Take, Refused}
-use Rattle.format.specs.Format.{Result, refused, accepted, readAt, atomOf, fault, judged, withClause, taken, ended, onward, turn, following, run, opened, headOf, afterHead, read}
-use Rattle.format.specs.FormatLaws.{size-some, Whole, read-whole}
+use Rattle.format.specs.Format.{refused, accepted, readAt, atomOf, fault, judged, withClause, taken, ended, onward, turn, following, run, opened, headOf, afterHead, read}
+use Rattle.format.specs.FormatLaws.{Whole, read-whole}
 use Rattle.encoding.specs.Order.{readOn, commandsFrom, commandsOf, firstSaid, secondSaid, firstClause, secondClause, firstClauses, secondClauses}
 
 -- ---- the bound on the commands does not matter, where it is more than the bytes left
@@ -83,6 +83,7 @@ unfolding run commandsFrom turn
 run-grown s zero at q q′ e = let z : _≡_ {A = ℕ} 0 1 = cc in absurd (omega arith)
 run-grown s (suc k) at q q′ e = step (readAt s at) (run-grown s k) e
   where
+    -- what holds of the commands that follow
     Onward : Type 0
     Onward = (at₁ : ℕ) (q₁ q₂ : Question) → run k s at₁ q₁ ≡ accepted q₂ → Grown q₁ q₂ (commandsFrom k s at₁)
 
