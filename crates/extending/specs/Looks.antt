@@ -72,7 +72,7 @@ module _ (S : Stored) where
 
   -- leaf i of the rows lies where the constants have the values of one of their first b leaves
   abbrev pub SeenBy : ℕ → ℕ → Type 0
-  SeenBy b i = (i < 2 ^ rowLevels constantLevels) × ((a : ℕ) × (a < b) × (leafValues S constantLevels a ≡ leafValues S constantLevels (over i)))
+  SeenBy b i = (a : ℕ) × (a < b) × (i < 2 ^ rowLevels constantLevels) × (leafValues S constantLevels a ≡ leafValues S constantLevels (over i))
 
   -- those leaves of the rows are looked at
   abbrev pub LeavesLooked : List ℕ → ℕ → ℕ → Rest → Type 0

@@ -18,10 +18,11 @@ use Rattle.shares.specs.Test.{is-true, is-false, of-true, passes, beq-iff, and-
 use Rattle.shares.specs.Below.{one, firstBelow}
 use Rattle.shares.specs.Constant.{bit, constantLevels}
 use Rattle.shares.specs.BitLaws.{bit-zero, bit-and, bit-or}
-use Rattle.shares.specs.BitParts.{bit-not, bit-digit}
+use Rattle.shares.specs.BitParts.{bit-not}
 use Rattle.leaves.specs.RowNumbers as numbers
 use Rattle.leaves.specs.ChoiceLaws.{value-lt}
 use Rattle.words.specs.Shifts.{power-shift}
+use Rattle.entries.specs.BitLaws.{power-bit}
 use Rattle.unfolded.specs.Unfolded.{rowWords, leafOf}
 use Rattle.extending.specs.Extending.{choiceAt}
 use Rattle.extending.specs.Looks.{inSet, Added, BitOf, SameAs, over, Alike}
@@ -142,15 +143,7 @@ added-as choice G H old new back there A = record {
 
 -- one bit of a word set
 marked-bit : (x j k : ℕ) → j < 64 → bit (bitOr x ((1 * 2 ^ j) % 2 ^ 64)) k ≡ (bit x k || eqb k j)
-unfolding bit
-marked-bit x j k h =
-    let e : 1 * 2 ^ j ≡ 2 ^ j = omega arith in
-    bit-or x ((1 * 2 ^ j) % 2 ^ 64) k
-    ∙ ap (λ b. bit x k || b) (ap (λ y. bit y k) (power-shift j h ∙ sym e) ∙ bit-digit 1 j k (omega arith) ∙ ends (eqb k j))
-  where
-    ends : (b : Bool) → (b && bit 1 0) ≡ b
-    ends true = refl
-    ends false = refl
+marked-bit x j k h = bit-or x ((1 * 2 ^ j) % 2 ^ 64) k ∙ ap (_||_ (bit x k)) (ap (λ y. bit y k) (power-shift j h) ∙ power-bit j k)
 
 -- one choice marked
 pub added-one : (old : List ℕ) (choice : ℕ) → choice / 64 < length old

@@ -1,15 +1,13 @@
+-- `extending::like` meets its contract. Assumes nothing.
+use Rattle.extending.specs.WordLaws.{like-set, like-unset}
 use Rattle.extending.proofs.like.Statement.{statement}
 use Rattle.extending.proofs.like.Tie as tie
-use Rattle.extending.proofs.like.Reads as reads
-use Rattle.extending.proofs.like.Lts as lts
 
--- src/lib.rt:55:1
 returns : tie.Need-returns
-returns c = ?
+returns c k h = like-set (c .before .args .x) k _ (c .if1 .taken)
 
--- src/lib.rt:55:1
 returns-2 : tie.Need-returns-2
-returns-2 c = ?
+returns-2 c k h = like-unset (c .before .args .x) k _ (c .before .fits .x .fits) h (c .if1 .left)
 
 pub like-spec : {M : Type 1} → statement M
 like-spec = tie.close (tie.spec returns returns-2)

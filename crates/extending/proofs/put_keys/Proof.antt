@@ -1,50 +1,54 @@
+-- `extending::put_keys` meets its contract. The loop's invariant: the values at the first b leaves are put. Assumes nothing.
+use mathlib.Core.Path.{_≡_, refl}
+use Prim.Native.Nat.{ℕ, _-_, _≤_, _<_}
+use native.Mathlib.Omega.{arith}
+use lib.ListN.{length, getD, length-set}
+use Rattle.shares.specs.Constant.{constantLevels}
+use Rattle.words.specs.Choices.{valuesAt}
+use Rattle.pass.specs.PassLaws.{keys-more}
 use Rattle.extending.proofs.put_keys.Statement.{statement}
 use Rattle.extending.proofs.put_keys.Tie as tie
-use Rattle.extending.proofs.put_keys.Reads as reads
-use Rattle.extending.proofs.put_keys.Lts as lts
-use Rattle.words.proofs.values_at.Reads as values-at-reads
 
 abbrev Inv-loop : tie.InvT-loop
-Inv-loop constants defined keys₀ b₀ keys b = ?
+Inv-loop constants defined keys₀ b₀ keys b =
+    (b ≤ 32) × (length keys ≡ length keys₀) × ((a : ℕ) → a < b → getD keys a 0 ≡ valuesAt constantLevels constants defined constantLevels a)
 
 abbrev μ-loop : tie.MeasureT-loop
-μ-loop constants defined keys₀ b₀ keys b = ?
+μ-loop constants defined keys₀ b₀ keys b = 32 - b
 
--- src/lib.rt:255:5
 loop-holds : tie.Need-loop-holds Inv-loop μ-loop
-loop-holds c = ?
+loop-holds c = (omega arith, refl, λ a l. absurd (omega arith))
 
--- src/lib.rt:256:19
 values-at-requires : tie.Need-values-at-requires Inv-loop μ-loop
-values-at-requires c κs = ?
+values-at-requires c κs = (omega arith, omega arith, omega arith)
 
--- src/lib.rt:256:9
 mul-keys : tie.Need-mul-keys Inv-loop μ-loop
-mul-keys c = ?
+mul-keys c = omega arith
 
--- src/lib.rt:256:9
 slice-write-keys : tie.Need-slice-write-keys Inv-loop μ-loop
-slice-write-keys c = ?
+slice-write-keys c = omega arith
 
--- src/lib.rt:257:9
 add-b : tie.Need-add-b Inv-loop μ-loop
-add-b c = ?
+add-b c = omega arith
 
--- src/lib.rt:255:5
 loop-less : tie.Need-loop-less Inv-loop μ-loop
-loop-less c = ?
+loop-less c = omega arith
 
--- src/lib.rt:255:5
 loop-again : tie.Need-loop-again Inv-loop μ-loop
-loop-again c = ?
+loop-again c =
+    let a = c .before .before .before .before .args in
+    let l = c .before .before .loop in (
+      omega arith,
+      simp length-set (l .inv .1),
+      keys-more (valuesAt constantLevels (a .constants .now) (a .defined) constantLevels) (l .keys) (l .b) (c .values-at .result) (omega arith)
+          (c .values-at .ensures) (l .inv .2),
+    )
 
--- src/lib.rt:250:1
 same-length : tie.Need-same-length Inv-loop μ-loop
-same-length c = ?
+same-length c = c .before .loop .inv .1
 
--- src/lib.rt:250:1
 returns : tie.Need-returns Inv-loop μ-loop
-returns c = ?
+returns c a h = c .before .loop .inv .2 a (omega arith)
 
 pub put-keys-spec : {M : Type 1} → statement M
 put-keys-spec =

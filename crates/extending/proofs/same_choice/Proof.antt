@@ -1,53 +1,55 @@
+-- `extending::same_choice` meets its contract. The loop's invariant: the same of the choice of the first v variables. Assumes nothing.
+use mathlib.Core.Path.{_≡_}
+use Prim.Native.Nat.{_+_, _*_, _-_, _≤_}
+use native.Mathlib.Omega.{arith}
+use lib.Pow.{pow-mono}
+use Rattle.extending.specs.Looks.{SameAs}
+use Rattle.extending.specs.MarkLaws.{choice-lt, same-start, same-more}
 use Rattle.extending.proofs.same_choice.Statement.{statement}
 use Rattle.extending.proofs.same_choice.Tie as tie
-use Rattle.extending.proofs.same_choice.Reads as reads
-use Rattle.extending.proofs.same_choice.Lts as lts
-use Rattle.basics.proofs.digit.Reads as digit-reads
-use Rattle.extending.proofs.like.Reads as like-reads
-use Rattle.extending.proofs.row_word.Reads as row-word-reads
-use Rattle.extending.proofs.with_digit.Reads as with-digit-reads
 
 abbrev Inv-loop : tie.InvT-loop
-Inv-loop table free w i leaves choice₀ same₀ v₀ choice same v = ?
+Inv-loop table free w i leaves choice₀ same₀ v₀ choice same v = (v ≤ free) × SameAs table v w i leaves (record { choice = choice; leaves = same })
 
 abbrev μ-loop : tie.MeasureT-loop
-μ-loop table free w i leaves choice₀ same₀ v₀ choice same v = ?
+μ-loop table free w i leaves choice₀ same₀ v₀ choice same v = free - v
 
--- src/lib.rt:69:5
 loop-holds : tie.Need-loop-holds Inv-loop μ-loop
-loop-holds c = ?
+loop-holds c = let a = c .args in (omega arith, same-start (a .table .now) (a .w) (a .i) (a .leaves) (c .pre .2))
 
--- src/lib.rt:70:13
 row-word-requires : tie.Need-row-word-requires Inv-loop μ-loop
-row-word-requires c κs = ?
+row-word-requires c κs = (omega arith, omega arith)
 
--- src/lib.rt:71:13
 digit-requires : tie.Need-digit-requires Inv-loop μ-loop
-digit-requires c κs = ?
+digit-requires c κs = omega arith
 
--- src/lib.rt:72:9
 with-digit-requires : tie.Need-with-digit-requires Inv-loop μ-loop
-with-digit-requires c κs = ?
+with-digit-requires c κs =
+    let s = c .before .before .before .before in
+    let l = c .before .before .before .loop in
+    omega (arith, l .inv .1 .choice, choice-lt (s .args .table .now) (l .v) (64 * s .args .w + s .args .i), pow-mono {i = l .v} {j = 12} (omega arith))
 
--- src/lib.rt:73:23
 like-requires : tie.Need-like-requires Inv-loop μ-loop
-like-requires c κs = ?
+like-requires c κs = tt
 
--- src/lib.rt:74:9
 add-v : tie.Need-add-v Inv-loop μ-loop
-add-v c = ?
+add-v c = omega arith
 
--- src/lib.rt:69:5
 loop-less : tie.Need-loop-less Inv-loop μ-loop
-loop-less c = ?
+loop-less c = omega arith
 
--- src/lib.rt:69:5
 loop-again : tie.Need-loop-again Inv-loop μ-loop
-loop-again c = ?
+loop-again c =
+    let a = c .before .before .before .before .before .before .args in
+    let l = c .before .before .before .before .before .loop in (
+      omega arith,
+      same-more (a .table .now) (a .w) (a .i) (a .leaves) (c .before .before .before .before .before .before .pre .2) (l .v) (l .choice) (l .same)
+          (c .before .before .before .row-word .result) (c .like .result) (c .before .with-digit .result) (c .before .before .digit .result)
+          (c .before .before .before .row-word .ensures) (c .before .before .digit .ensures) (c .before .with-digit .ensures) (c .like .ensures) (l .inv .1),
+    )
 
--- src/lib.rt:62:1
 returns : tie.Need-returns Inv-loop μ-loop
-returns c = ?
+returns c = let e : c .before .loop .v ≡ c .before .before .args .free = omega arith in rw e at (c .before .loop .inv .1)
 
 pub same-choice-spec : {M : Type 1} → statement M
 same-choice-spec =

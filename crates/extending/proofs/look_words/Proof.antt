@@ -1,0 +1,73 @@
+-- `extending::look_words` meets its contract. The loop's invariant: the first w words are looked at. Assumes nothing.
+use mathlib.Core.List.{List}
+use mathlib.Core.Path.{_≡_}
+use Prim.Native.Nat.{ℕ, _-_, _≤_}
+use native.Mathlib.Omega.{arith}
+use lib.Dec.{T}
+use lib.ListN.{getD}
+use Rattle.words.specs.Choices.{wordCount}
+use Rattle.words.specs.Table.{Terms}
+use Rattle.steps.specs.Steps.{storedBy}
+use Rattle.extending.specs.Looks.{ChoicesLooked, InWords}
+use Rattle.extending.specs.LookLaws.{words-start, words-more, looked-wider}
+use Rattle.extending.proofs.look_words.Statement.{statement}
+use Rattle.extending.proofs.look_words.Tie as tie
+use Rattle.extending.proofs.look_words.Reads as reads
+use Rattle.extending.proofs.look_words.Lts as lts
+use Rattle.extending.proofs.look_word.Reads as look-word-reads
+use Rattle.words.proofs.word_count.Reads as word-count-reads
+
+abbrev Inv-loop : tie.InvT-loop
+Inv-loop terms₀ clauses sizes present wanted words rest₀ w₀ terms rest w = (w ≤ words) × T (rest .met)
+    × ((constants : List ℕ) (values v : ℕ) → Terms (sizes .free) (sizes .own) values v terms₀
+    → ((u : ℕ) × Terms (sizes .free) (sizes .own) values u terms) × ChoicesLooked (storedBy sizes clauses constants) values (InWords w present) wanted rest)
+
+abbrev μ-loop : tie.MeasureT-loop
+μ-loop terms₀ clauses sizes present wanted words rest₀ w₀ terms rest w = words - w
+
+word-count-requires : tie.Need-word-count-requires Inv-loop μ-loop
+word-count-requires c κs = omega (arith, c .pre .variables)
+
+loop-holds : tie.Need-loop-holds Inv-loop μ-loop
+loop-holds c = ?
+
+mul-look-word : tie.Need-mul-look-word Inv-loop μ-loop
+mul-look-word c = ?
+
+element-copy-out-look-word : tie.Need-element-copy-out-look-word Inv-loop μ-loop
+element-copy-out-look-word c = ?
+
+look-word-requires : tie.Need-look-word-requires Inv-loop μ-loop
+look-word-requires c κs = ?
+
+returns : tie.Need-returns Inv-loop μ-loop
+returns c = ?
+
+add-w : tie.Need-add-w Inv-loop μ-loop
+add-w c = ?
+
+loop-less : tie.Need-loop-less Inv-loop μ-loop
+loop-less c = omega arith
+
+loop-again : tie.Need-loop-again Inv-loop μ-loop
+loop-again c = ?
+
+returns-2 : tie.Need-returns-2 Inv-loop μ-loop
+returns-2 c = ?
+
+pub look-words-spec : {M : Type 1} → statement M
+look-words-spec =
+    tie.close
+    (tie.spec
+    Inv-loop
+    μ-loop
+    word-count-requires
+    loop-holds
+    mul-look-word
+    element-copy-out-look-word
+    look-word-requires
+    returns
+    add-w
+    loop-less
+    loop-again
+    returns-2)
