@@ -21,8 +21,8 @@ use Rattle.shares.specs.BitLaws.{bit-zero, bits-zero}
 use Rattle.shares.specs.BitParts.{bit-ones, bit-beyond}
 use Rattle.format.specs.Stored.{Stored}
 use Rattle.rows.specs.Rows.{rowLevels}
-use Rattle.words.specs.Choices.{wordCount}
-use Rattle.beside.specs.Beside.{Merged, SameFree, Left, Missing}
+use Rattle.words.specs.Choices.{wordCount, someOwn}
+use Rattle.beside.specs.Beside.{Merged, SameFree, Left, positivesPass, disequationPasses, Missing}
 use Rattle.beside.specs.GatherLaws.{same-free, choices-le}
 use Rattle.steps.specs.Tests.{leafValues, secondMeets, secondDiffers}
 use Rattle.extending.specs.Extending.{choiceAt, meetsOver, differsOver, extendsIn}
@@ -200,13 +200,21 @@ module _ (n w choices x r : ℕ) (p : ℕ → Bool) (hw : w < wordCount n) (merg
           apart false true q e u = absurd (mathlib.Core.Bool.true≢false e)
           apart false false q e u = absurd u
 
+-- an own choice meets the second system's positive clauses beside free choice y, and its disequation j
+module _ (S : Stored) (values : ℕ) where
+  abbrev ownMeets : ℕ → Bool
+  ownMeets = someOwn (S .free) (S .own) (positivesPass (S .clauses) (S .counts) (S .free) (S .own) values)
+
+  abbrev ownDiffers : ℕ → ℕ → Bool
+  ownDiffers j = someOwn (S .free) (S .own) (disequationPasses (S .clauses) (S .counts) (S .free) (S .own) values j)
+
 module _ (S : Stored) (values w choices x wanted rest : ℕ) (left : List ℕ) (hw : w < wordCount (S .free)) (merged : Merged (S .free) choices x)
     (M : Missing (S .clauses) (S .counts) (S .free) (S .own) values w x wanted rest left) where
   pub word-unmet : rest < 2 ^ 64 → (rest ≡ 0 → ⊥) → ChoicesLooked S values (InWord w choices) wanted (record { met = false; wanted = wanted })
   word-unmet small some = record {
     fewer = λ j l t. t;
     all = λ t. absurd t;
-    unmet = λ t. left-something (S .free) w choices x rest _ hw merged (M .none) small some;
+    unmet = λ t. left-something (S .free) w choices x rest (ownMeets S values) hw merged (M .none) small some;
     found = λ j l t u. absurd (T-not (bit wanted j) u t);
     none = λ t. absurd t;
   }
@@ -216,13 +224,13 @@ module _ (S : Stored) (values w choices x wanted rest : ℕ) (left : List ℕ) (
       → ChoicesLooked S values (InWord w choices) wanted (record { met = true; wanted = still })
   word-met still few e bits = record {
     fewer = λ j l t. was j l t;
-    all = λ t c a. left-nothing (S .free) w choices x rest _ hw merged (M .none) e c a;
+    all = λ t c a. left-nothing (S .free) w choices x rest (ownMeets S values) hw merged (M .none) e c a;
     unmet = λ t. absurd t;
     found = λ j l t u.
-        left-part (S .free) w choices x (getD left j 0) _ hw merged (M .each j l t) (not-T (alike x (getD left j 0)) (λ v.
+        left-part (S .free) w choices x (getD left j 0) (ownDiffers S values j) hw merged (M .each j l t) (not-T (alike x (getD left j 0)) (λ v.
         T-not (bit still j) u (subst T (sym (wanted-bit j l)) (and-intro (bit wanted j) (alike x (getD left j 0)) t v))));
     none = λ t j l u c a.
-        left-all (S .free) w choices x (getD left j 0) _ hw merged (M .each j l (was j (omega arith) u))
+        left-all (S .free) w choices x (getD left j 0) (ownDiffers S values j) hw merged (M .each j l (was j (omega arith) u))
         (and-right (bit wanted j) (alike x (getD left j 0)) (subst T (wanted-bit j l) u)) c a;
   }
     where

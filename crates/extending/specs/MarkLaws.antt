@@ -16,11 +16,13 @@ use lib.Seq.{getD-set-same, getD-set-other}
 use borrow.Author.Tests.{eq-eqb, ne-eqb}
 use Rattle.shares.specs.Test.{is-true, is-false, of-true, passes, beq-iff, and-intro, and-left, and-right, or-left, or-right, or-cases}
 use Rattle.shares.specs.Below.{one, firstBelow}
+use Rattle.shares.specs.BelowLaws.{first-below}
 use Rattle.shares.specs.Constant.{bit, constantLevels}
 use Rattle.shares.specs.BitLaws.{bit-zero, bit-and, bit-or}
 use Rattle.shares.specs.BitParts.{bit-not}
 use Rattle.leaves.specs.RowNumbers as numbers
 use Rattle.leaves.specs.ChoiceLaws.{value-lt}
+use Rattle.words.specs.LowestLaws.{lowest-lt}
 use Rattle.words.specs.Shifts.{power-shift}
 use Rattle.entries.specs.BitLaws.{power-bit}
 use Rattle.unfolded.specs.Unfolded.{rowWords, leafOf}
@@ -189,6 +191,10 @@ added-one old choice room = record {
 abbrev pub Done : ℕ → ℕ → ℕ → Type 0
 Done leaves rest k = BitOf leaves k × T (not (bit rest k))
 
+-- the lowest bit of a word that is not 0 is set
+pub lowest-set : (rest i : ℕ) → rest < 2 ^ 64 → (rest ≡ 0 → ⊥) → i ≡ firstBelow 64 (bit rest) → BitOf rest i
+lowest-set rest i small some e = let l = lowest-lt rest small some in subst (BitOf rest) (sym e) (l, first-below 64 (bit rest) l)
+
 -- a set bit taken out makes a word smaller
 pub less-rest : (rest same i : ℕ) → same < 2 ^ 64 → BitOf rest i → BitOf same i → bitAnd rest ((2 ^ 64 - 1) - same) < rest
 less-rest rest same i small r s = lt-of-le-ne (and-le-l rest ((2 ^ 64 - 1) - same)) (λ e.
@@ -198,8 +204,8 @@ less-rest rest same i small r s = lt-of-le-ne (and-le-l rest ((2 ^ 64 - 1) - sam
     (s .1))
 
 -- what is left of the rest
-pub rest-more : (leaves rest same k : ℕ) → k < 64 → ((k : ℕ) → BitOf rest k → BitOf leaves k) → BitOf (bitAnd rest ((2 ^ 64 - 1) - same)) k → BitOf leaves k
-rest-more leaves rest same k l within b = within k (l, and-left (bit rest k) (bit ((2 ^ 64 - 1) - same) k) (subst T (bit-and rest ((2 ^ 64 - 1) - same) k) (b .1)))
+pub rest-more : (leaves rest same k : ℕ) → ((k : ℕ) → BitOf rest k → BitOf leaves k) → BitOf (bitAnd rest ((2 ^ 64 - 1) - same)) k → BitOf leaves k
+rest-more leaves rest same k within b = within k (b .0, and-left (bit rest k) (bit ((2 ^ 64 - 1) - same) k) (subst T (bit-and rest ((2 ^ 64 - 1) - same) k) (b .1)))
 
 module _ (table : List ℕ) (n w leaves : ℕ) where
   -- the choices at the leaves of one word
