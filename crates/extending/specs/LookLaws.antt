@@ -9,7 +9,7 @@ use native.Mathlib.Nat.{mod-eq-of-lt, lt-of-lt-of-le}
 use native.Mathlib.Decide.{decLt}
 use native.Mathlib.Omega.{arith}
 use lib.Dec.{T, T-not, not-T, ltb, eqb, eqb→eq, eqb-refl}
-use lib.ListN.{getD}
+use lib.ListN.{getD, replicate}
 use borrow.Author.Tests.{eq-eqb, ne-eqb, lt-ltb}
 use Rattle.shares.specs.Test.{is-true, is-false, of-true, of-false, passes, holds, same-test, beq-iff, and-intro, and-left, and-right}
 use Rattle.shares.specs.Below.{everyBelow, someBelow}
@@ -68,6 +68,17 @@ module _ (count : ℕ) (meets : ℕ → Bool) (differs : ℕ → ℕ → Bool) w
       never t j l u c (inl a) = L .none met j l (M .fewer j (omega arith) u) c a
       never t j l u c (inr b) = M .none t j l u c b
 
+  -- none fails
+  pub looked-met : (A : ℕ → Type 0) (wanted : ℕ) (r : Rest) → T (r .met) → Looked count meets differs A wanted r
+      → Looked count meets differs A wanted (allMet (r .wanted))
+  looked-met A wanted r met L = record {
+    fewer = L .fewer;
+    all = λ t. L .all met;
+    unmet = λ t. absurd t;
+    found = L .found;
+    none = λ t. L .none met;
+  }
+
   -- one that fails is found among more
   pub looked-wider : (A B : ℕ → Type 0) (wanted : ℕ) (r : Rest) → T (not (r .met)) → ((c : ℕ) → A c → B c)
       → Looked count meets differs A wanted r → Looked count meets differs B wanted r
@@ -98,7 +109,9 @@ module _ (count : ℕ) (meets : ℕ → Bool) (differs : ℕ → ℕ → Bool) w
     pub looked-unmet : T (not (r .met)) → (everyBelow N meets && everyBelow count (λ j. someBelow N (differs j))) ≡ false
     looked-unmet t =
         let (c, a, u) = L .unmet t in
-        is-false _ (not-T _ (λ v. T-not (meets c) u (every-at N meets (and-left (everyBelow N meets) _ v) c (within c a))))
+        let rest = everyBelow count (λ j. someBelow N (differs j)) in
+        is-false (everyBelow N meets && rest)
+        (not-T (everyBelow N meets && rest) (λ v. T-not (meets c) u (every-at N meets (and-left (everyBelow N meets) rest v) c (within c a))))
 
     -- none fails: all have what was wanted exactly if nothing is wanted any more
     pub looked-all : ((c : ℕ) → c < N → A c) → T (r .met) → wanted ≡ 2 ^ count - 1 → count ≤ 64 → r .wanted < 2 ^ 64
@@ -278,11 +291,10 @@ module _ (S : Stored) (table keys : List ℕ) (b start wanted : ℕ) (room : b <
       earlier a l e i d m h q (no n) = let f : b ≡ d = omega arith in (a, l, h, e ∙ ap (leafValues S constantLevels) f ∙ q)
 
   -- the leaves that look like it are looked at
-  pub leaf-looked : (present old : List ℕ) (r : Rest) → getD (S .counts) 3 0 ≤ 64
-      → ((k : ℕ) → getD old k 0 ≡ 0)
-      → Added (choiceAt table (S .free)) (Alike keys b) old present
+  pub leaf-looked : (words : ℕ) (present : List ℕ) (r : Rest) → getD (S .counts) 3 0 ≤ 64
+      → Added (choiceAt table (S .free)) (Alike keys b) (replicate words 0) present
       → ChoicesLooked S (getD keys b 0) (InWords (wordCount (S .free)) present) wanted r → LeavesLooked S table (b + 1) start r
-  leaf-looked present old r few empty A W =
+  leaf-looked words present r few A W =
       looked-more (getD (S .counts) 3 0) (meetsOver S table) (differsOver S table) (SeenBy S b) (Alike keys b) (SeenBy S (b + 1)) start (allMet wanted) r few tt
       (λ i (d, m, h, q). part i h d m q (decLt d b)) (λ i (d, m, h, q). (d, omega arith, h, q))
       (λ i (h, m, q). (b, omega arith, h, sym (K b room) ∙ sym q ∙ K (over i) (below i h))) L
@@ -305,10 +317,10 @@ module _ (S : Stored) (table keys : List ℕ) (b start wanted : ℕ) (room : b <
         λ j. ap (λ v. secondDiffers S v j (choiceAt table (S .free) i)) (values i a),
       )
 
-      from : (c : ℕ) → T (inSet old c) ⊎ ((i : ℕ) × Alike keys b i × (choiceAt table (S .free) i ≡ c))
+      from : (c : ℕ) → T (inSet (replicate words 0) c) ⊎ ((i : ℕ) × Alike keys b i × (choiceAt table (S .free) i ≡ c))
           → (i : ℕ) × Alike keys b i × (secondMeets S (getD keys b 0) c ≡ meetsOver S table i)
           × ((j : ℕ) → secondDiffers S (getD keys b 0) j c ≡ differsOver S table j i)
-      from c (inl t) = absurd (empty-set old empty c t)
+      from c (inl t) = absurd (empty-set words c t)
       from c (inr (i, a, e)) =
           (i, a, ap (secondMeets S (getD keys b 0)) (sym e) ∙ same i a .0, λ j. ap (secondDiffers S (getD keys b 0) j) (sym e) ∙ same i a .1 j)
 
@@ -322,3 +334,24 @@ module _ (S : Stored) (table keys : List ℕ) (b start wanted : ℕ) (room : b <
           later : getD keys (over i) 0 ≡ getD keys b 0 → Dec (over i < b) → SeenBy S b i ⊎ Alike keys b i
           later f (yes l) = inl (over i, l, h, refl)
           later f (no n) = inr (h, omega arith, f)
+
+-- ---- all leaves of the rows
+
+module _ (S : Stored) (table : List ℕ) where
+  pub leaves-start : (start : ℕ) → LeavesLooked S table 0 start (allMet start)
+  leaves-start start =
+      looked-none (getD (S .counts) 3 0) (meetsOver S table) (differsOver S table) (SeenBy S 0) start (λ i (d, m, h, q). omega arith)
+
+  -- one fails
+  pub leaves-unmet : (b start : ℕ) (r : Rest) → T (not (r .met)) → LeavesLooked S table b start r → extendsIn S table ≡ false
+  leaves-unmet b start r fails L =
+      looked-unmet (getD (S .counts) 3 0) (meetsOver S table) (differsOver S table) (2 ^ rowLevels constantLevels) (SeenBy S b) start r
+      (λ i (d, m, h, q). h) L fails
+
+  -- none fails
+  pub leaves-all : (b wanted : ℕ) → 2 ^ constantLevels ≤ b → getD (S .counts) 3 0 ≤ 64 → wanted < 2 ^ 64
+      → LeavesLooked S table b (2 ^ getD (S .counts) 3 0 - 1) (allMet wanted) → eqb wanted 0 ≡ extendsIn S table
+  leaves-all b wanted last few small L =
+      looked-all (getD (S .counts) 3 0) (meetsOver S table) (differsOver S table) (2 ^ rowLevels constantLevels) (SeenBy S b)
+      (2 ^ getD (S .counts) 3 0 - 1) (allMet wanted) (λ i (d, m, h, q). h) L
+      (λ i h. (over i, lt-of-lt-of-le (block-lt {h = constantLevels} {w = rowLevels constantLevels} (omega arith) h) last, h, refl)) tt refl few small

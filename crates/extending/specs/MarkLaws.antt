@@ -11,7 +11,7 @@ use native.Mathlib.Omega.{arith}
 use lib.Arith.{lt-of-le-ne}
 use lib.Bits.{bitAnd, bitOr, and-le-l}
 use lib.Dec.{T, T-not, not-T, eqb, eqb→eq, eqb-refl}
-use lib.ListN.{length, getD, set}
+use lib.ListN.{length, getD, set, replicate}
 use lib.Seq.{getD-set-same, getD-set-other}
 use borrow.Author.Tests.{eq-eqb, ne-eqb}
 use Rattle.shares.specs.Test.{is-true, is-false, of-true, passes, beq-iff, and-intro, and-left, and-right, or-left, or-right, or-cases}
@@ -99,9 +99,15 @@ module _ (table : List ℕ) (w i leaves : ℕ) (small : i < 64) where
 
 -- ---- sets
 
-pub empty-set : (old : List ℕ) → ((k : ℕ) → getD old k 0 ≡ 0) → (c : ℕ) → T (inSet old c) → ⊥
+-- a set of no words, and one of zeros, have no choice
+pub empty-set : (n c : ℕ) → T (inSet (replicate n 0) c) → ⊥
 unfolding inSet
-empty-set old empty c t = subst T (ap (λ x. bit x (c % 64)) (empty (c / 64)) ∙ bit-zero (c % 64)) t
+empty-set n c t = subst T (ap (λ x. bit x (c % 64)) (go n (c / 64)) ∙ bit-zero (c % 64)) t
+  where
+    go : (n k : ℕ) → _≡_ {A = ℕ} (getD (replicate n 0) k 0) 0
+    go zero k = refl
+    go (suc n) zero = refl
+    go (suc n) (suc k) = go n k
 
 -- no leaf is given
 pub added-none : (choice : ℕ → ℕ) (Given : ℕ → Type 0) (old : List ℕ) → ((i : ℕ) → Given i → ⊥) → Added choice Given old old

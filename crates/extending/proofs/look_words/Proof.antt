@@ -1,13 +1,13 @@
 -- `extending::look_words` meets its contract. The loop's invariant: the first w words are looked at. Assumes nothing.
+use mathlib.Core.Bool.{not}
 use mathlib.Core.List.{List}
 use mathlib.Core.Path.{_≡_, sym, subst}
 use Prim.Native.Nat.{ℕ, _+_, _-_, _≤_}
 use native.Mathlib.Omega.{arith}
-use lib.Dec.{T}
+use lib.Dec.{T, T-not}
 use lib.ListN.{getD}
 use Rattle.words.specs.Choices.{wordCount}
-use borrow.Author.Tests.{not-false}
-use Rattle.shares.specs.Test.{of-true}
+use Rattle.shares.specs.Test.{of-false, holds}
 use Rattle.beside.specs.GatherLaws.{words-le}
 use Rattle.words.specs.Table.{Terms}
 use Rattle.steps.specs.Steps.{storedBy}
@@ -72,7 +72,7 @@ loop-again c =
     let s = c .before .before .before .before .before .before .before .before in
     let l = c .before .before .before .before .before .before .loop in (
       omega arith,
-      of-true (not-false _ (c .if1 .left)),
+      holds (c .before .before .look-word .result .met) (λ u. T-not (not (c .before .before .look-word .result .met)) (of-false (c .if1 .left)) u),
       λ constants values v t.
           (let ((u, m), L) = l .inv .2 constants values v t in
           let (placed, M) = c .before .before .look-word .ensures constants values u m in
