@@ -1,20 +1,20 @@
 -- Laws of what is found where choices or leaves are looked at: none of them, more of them, the same said otherwise; a word of choices, all words of a set, the
 -- leaves of the rows below leaves of the constants, and all leaves of the rows. Assumes nothing.
-use mathlib.Core.Path.{_≡_, refl, sym, ap, ap₂, _∙_, subst}
+use mathlib.Core.Path.{_≡_, refl, sym, ap, _∙_, subst}
 use mathlib.Core.Logic.{_⊎_, inl, inr}
-use mathlib.Core.Bool.{Bool, true, false, not, _&&_, _||_, Bool·beq}
+use mathlib.Core.Bool.{Bool, true, false, not, _&&_, _||_, Bool·beq, true≢false, false≢true}
 use mathlib.Core.List.{List}
 use Prim.Native.Nat.{ℕ, _+_, _-_, _*_, _/_, _%_, _^_, _≤_, _<_}
-use native.Mathlib.Nat.{mod-eq-of-lt, lt-of-lt-of-le}
+use native.Mathlib.Nat.{mod-lt, mod-eq-of-lt, lt-of-lt-of-le}
 use native.Mathlib.Decide.{decLt}
 use native.Mathlib.Omega.{arith}
 use lib.Dec.{T, T-not, not-T, ltb, eqb, eqb→eq, eqb-refl}
 use lib.ListN.{getD, replicate}
-use borrow.Author.Tests.{eq-eqb, ne-eqb, lt-ltb}
-use Rattle.shares.specs.Test.{is-true, is-false, of-true, of-false, passes, holds, same-test, beq-iff, and-intro, and-left, and-right}
+use lib.Pow.{ones-lt}
+use borrow.Author.Tests.{eq-eqb, lt-ltb}
+use Rattle.shares.specs.Test.{is-false, of-true, of-false, passes, holds, same-test, beq-iff, and-intro, and-left, and-right}
 use Rattle.shares.specs.Below.{everyBelow, someBelow}
 use Rattle.shares.specs.BelowLaws.{every-at, every-intro, every-or, some-intro, some-found, some-or}
-use Rattle.shares.specs.Blocks.{blockOf}
 use Rattle.shares.specs.BlockLaws.{block-lt}
 use Rattle.shares.specs.Constant.{bit, constantLevels}
 use Rattle.shares.specs.BitLaws.{bit-zero, bits-zero}
@@ -131,7 +131,7 @@ module _ (count : ℕ) (meets : ℕ → Bool) (differs : ℕ → ℕ → Bool) w
             let (c, b, d) = some-found N (differs j) (every-at count (λ j. someBelow N (differs j)) (and-right (everyBelow N meets) _ v) j h) in
             T-not (differs j c) (L .none t j h u c (every c b)) d
         unset v j l (no n) u =
-            T-not (bit wanted j) (of-false (ap (λ x. bit x j) start ∙ bit-beyond count (2 ^ count - 1) j (lib.Pow.ones-lt count) (omega arith))) (L .fewer j l u)
+            T-not (bit wanted j) (of-false (ap (λ x. bit x j) start ∙ bit-beyond count (2 ^ count - 1) j (ones-lt count) (omega arith))) (L .fewer j l u)
 
 -- ---- a word of choices, merged
 
@@ -155,7 +155,7 @@ module _ (n w choices x r : ℕ) (p : ℕ → Bool) (hw : w < wordCount n) (merg
   here : (c : ℕ) → InWord w choices c → T (bit x (c % 64)) × ((64 * w + c % 64) % 2 ^ n ≡ c % 2 ^ n)
   here c (e, t) =
       let q : 64 * w + c % 64 ≡ c = omega arith in
-      (merged-here n choices x merged (c % 64) (native.Mathlib.Nat.mod-lt c (omega arith)) t, ap (λ z. z % 2 ^ n) q)
+      (merged-here n choices x merged (c % 64) (mod-lt c (omega arith)) t, ap (λ z. z % 2 ^ n) q)
 
   there : (i : ℕ) → i < 64 → T (bit x i) → (c : ℕ) × InWord w choices c × (c % 2 ^ n ≡ (64 * w + i) % 2 ^ n)
   there i l t =
@@ -167,7 +167,7 @@ module _ (n w choices x r : ℕ) (p : ℕ → Bool) (hw : w < wordCount n) (merg
   -- nothing is left: all pass
   pub left-nothing : r ≡ 0 → (c : ℕ) → InWord w choices c → T (p (c % 2 ^ n))
   left-nothing e c a =
-      let l : c % 64 < 64 = native.Mathlib.Nat.mod-lt c (omega arith) in
+      let l : c % 64 < 64 = mod-lt c (omega arith) in
       let (t, q) = here c a in
       subst (λ z. T (p z)) q
       (holds (p ((64 * w + c % 64) % 2 ^ n)) (λ u.
@@ -188,7 +188,7 @@ module _ (n w choices x r : ℕ) (p : ℕ → Bool) (hw : w < wordCount n) (merg
   pub left-all : T (alike x r) → (c : ℕ) → InWord w choices c → T (not (p (c % 2 ^ n)))
   unfolding alike
   left-all t c a =
-      let l : c % 64 < 64 = native.Mathlib.Nat.mod-lt c (omega arith) in
+      let l : c % 64 < 64 = mod-lt c (omega arith) in
       let (u, q) = here c a in
       let e : bit x (c % 64) ≡ bit r (c % 64) = beq-iff (bit x (c % 64)) (bit r (c % 64)) .0 (every-at 64 (λ i. Bool·beq (bit x i) (bit r i)) t (c % 64) l) in
       subst (λ z. T (not (p z))) q (and-right (bit x (c % 64)) (not (p ((64 * w + c % 64) % 2 ^ n))) (subst T (e ∙ left (c % 64) l) u))
@@ -209,8 +209,8 @@ module _ (n w choices x r : ℕ) (p : ℕ → Bool) (hw : w < wordCount n) (merg
           apart : (a b q : Bool) → b ≡ (a && not q) → T (not (Bool·beq a b)) → T a × T q
           apart true true q e u = absurd u
           apart true false true e u = (tt, tt)
-          apart true false false e u = absurd (mathlib.Core.Bool.false≢true e)
-          apart false true q e u = absurd (mathlib.Core.Bool.true≢false e)
+          apart true false false e u = absurd (false≢true e)
+          apart false true q e u = absurd (true≢false e)
           apart false false q e u = absurd u
 
 -- an own choice meets the second system's positive clauses beside free choice y, and its disequation j

@@ -6,15 +6,15 @@ use mathlib.Core.List.{List}
 use Prim.Native.Nat.{ℕ, zero, suc, _+_, _-_, _*_, _/_, _%_, _^_, _≤_, _<_}
 use native.Mathlib.Nat.{pow-suc, mod-lt}
 use native.Mathlib.Numerals.{add-one}
-use native.Mathlib.Decide.{ℕ-discrete, decLt}
+use native.Mathlib.Decide.{ℕ-discrete}
 use native.Mathlib.Omega.{arith}
 use lib.Arith.{lt-of-le-ne}
 use lib.Bits.{bitAnd, bitOr, and-le-l}
 use lib.Dec.{T, T-not, not-T, eqb, eqb→eq, eqb-refl}
 use lib.ListN.{length, getD, set, replicate}
 use lib.Seq.{getD-set-same, getD-set-other}
-use borrow.Author.Tests.{eq-eqb, ne-eqb}
-use Rattle.shares.specs.Test.{is-true, is-false, of-true, passes, beq-iff, and-intro, and-left, and-right, or-left, or-right, or-cases}
+use borrow.Author.Tests.{eq-eqb}
+use Rattle.shares.specs.Test.{of-true, passes, beq-iff, and-intro, and-left, and-right, or-left, or-right, or-cases}
 use Rattle.shares.specs.Below.{one, firstBelow}
 use Rattle.shares.specs.BelowLaws.{first-below}
 use Rattle.shares.specs.Constant.{bit, constantLevels}

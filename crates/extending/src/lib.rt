@@ -17,7 +17,7 @@ ghost use Rattle.words.specs.Table.{Terms, Within};
 ghost use Rattle.beside.specs.Beside.{Readable};
 ghost use Rattle.steps.specs.Steps.{storedBy, PlacedWithin};
 ghost use Rattle.extending.specs.Extending.{choiceAt, extendsIn};
-ghost use Rattle.extending.specs.Looks.{inSet, Added, BitOf, SameAs, Alike, alike, allMet, ChoicesLooked, LeavesLooked, InWord, InWords, KeysOf};
+ghost use Rattle.extending.specs.Looks.{Added, BitOf, SameAs, Alike, alike, allMet, ChoicesLooked, LeavesLooked, InWord, InWords, KeysOf};
 
 // Constants have this many leaves, and each stands over half a word of a row.
 const LEAVES: usize = 32;

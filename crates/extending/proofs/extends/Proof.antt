@@ -17,11 +17,6 @@ use Rattle.extending.specs.Looks.{allMet, LeavesLooked}
 use Rattle.extending.specs.LookLaws.{looked-met, leaves-start, leaves-unmet, leaves-all}
 use Rattle.extending.proofs.extends.Statement.{statement}
 use Rattle.extending.proofs.extends.Tie as tie
-use Rattle.extending.proofs.extends.Reads as reads
-use Rattle.extending.proofs.extends.Lts as lts
-use Rattle.extending.proofs.look_leaf.Reads as look-leaf-reads
-use Rattle.extending.proofs.put_keys.Reads as put-keys-reads
-use Rattle.words.proofs.start_terms.Reads as start-terms-reads
 
 abbrev Inv-loop : tie.InvT-loop
 Inv-loop table clauses constants sizes terms₀ keys wanted₀ b₀ terms wanted b = (b ≤ 32) × (wanted < 2 ^ 64)
@@ -31,37 +26,29 @@ Inv-loop table clauses constants sizes terms₀ keys wanted₀ b₀ terms wanted
 abbrev μ-loop : tie.MeasureT-loop
 μ-loop table clauses constants sizes terms₀ keys wanted₀ b₀ terms wanted b = 32 - b
 
--- src/lib.rt:272:47
 slice-aggregate-start-terms : tie.Need-slice-aggregate-start-terms Inv-loop μ-loop
 slice-aggregate-start-terms c = refl
 
--- src/lib.rt:272:5
 start-terms-requires : tie.Need-start-terms-requires Inv-loop μ-loop
 start-terms-requires c κs = (c .before .pre .0 .variables, refl, λ t l. getD-replicate 64 t 0 0 l)
 
--- src/lib.rt:274:40
 slice-aggregate-put-keys : tie.Need-slice-aggregate-put-keys Inv-loop μ-loop
 slice-aggregate-put-keys c = refl
 
--- src/lib.rt:274:5
 put-keys-requires : tie.Need-put-keys-requires Inv-loop μ-loop
 put-keys-requires c κs = (c .before .before .before .before .pre .1, refl)
 
--- src/lib.rt:275:33
 element-copy-out-wanted : tie.Need-element-copy-out-wanted Inv-loop μ-loop
 element-copy-out-wanted c = search needs
 
--- src/lib.rt:275:28
 shl-wanted : tie.Need-shl-wanted Inv-loop μ-loop
 shl-wanted c = omega (arith, c .before .before .before .before .before .before .before .pre .0 .few)
 
--- src/lib.rt:275:27
 sub-wanted : tie.Need-sub-wanted Inv-loop μ-loop
 sub-wanted c =
     let s = c .before .before .before .before .before .before .before in
     rw (power-shift (getD (s .args .t3 .counts) 3 0) (omega (arith, s .pre .0 .few))) (pow-pos (getD (s .args .t3 .counts) 3 0))
 
--- src/lib.rt:277:5
 loop-holds : tie.Need-loop-holds Inv-loop μ-loop
 loop-holds c =
     let s = c .before .before .before .before .before .before .before in
@@ -74,7 +61,6 @@ loop-holds c =
       rw e (leaves-start (storedBy (a .t3) (a .clauses .now) (a .constants .now)) (a .table .now) (2 ^ d - 1)),
     )
 
--- src/lib.rt:278:13
 look-leaf-requires : tie.Need-look-leaf-requires Inv-loop μ-loop
 look-leaf-requires c κs =
     let s = c .before .before .before .before .before .before .before .before .before .before .before in
@@ -82,7 +68,6 @@ look-leaf-requires c κs =
     let keys = c .before .before .before .before .before .before .put-keys .ensures in
     (s .pre .0, (omega arith, s .pre .1, rw (keys (l .b) (omega arith)) (values-within _ _ _ _ _), l .inv .2))
 
--- src/lib.rt:280:13
 returns : tie.Need-returns Inv-loop μ-loop
 returns c =
     let s = c .before .before .before .before .before .before .before .before .before .before .before .before .before .before in
@@ -94,15 +79,12 @@ returns c =
     sym (leaves-unmet S (a .table .now) (l .b + 1) (2 ^ getD (a .t3 .counts) 3 0 - 1) (looked .result) (subst (λ b. T b) (sym (c .if1 .taken)) tt)
     (looked .ensures .1 (a .constants .now) (2 ^ getD (a .t3 .counts) 3 0 - 1) keys (l .inv .3)))
 
--- src/lib.rt:283:9
 add-b : tie.Need-add-b Inv-loop μ-loop
 add-b c = omega arith
 
--- src/lib.rt:277:5
 loop-less : tie.Need-loop-less Inv-loop μ-loop
 loop-less c = omega arith
 
--- src/lib.rt:277:5
 loop-again : tie.Need-loop-again Inv-loop μ-loop
 loop-again c =
     let s = c .before .before .before .before .before .before .before .before .before .before .before .before .before .before in
@@ -118,7 +100,6 @@ loop-again c =
           (looked .ensures .1 (a .constants .now) (2 ^ getD (a .t3 .counts) 3 0 - 1) keys (l .inv .3)),
     )
 
--- src/lib.rt:262:1
 returns-2 : tie.Need-returns-2 Inv-loop μ-loop
 returns-2 c =
     let s = c .before .before .before .before .before .before .before .before .before in

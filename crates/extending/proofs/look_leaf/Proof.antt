@@ -10,18 +10,10 @@ use Rattle.steps.specs.Steps.{storedBy}
 use Rattle.extending.specs.LookLaws.{leaf-known, leaf-looked}
 use Rattle.extending.proofs.look_leaf.Statement.{statement}
 use Rattle.extending.proofs.look_leaf.Tie as tie
-use Rattle.extending.proofs.look_leaf.Reads as reads
-use Rattle.extending.proofs.look_leaf.Lts as lts
-use Rattle.extending.proofs.is_known.Reads as is-known-reads
-use Rattle.extending.proofs.look_words.Reads as look-words-reads
-use Rattle.extending.proofs.mark_alike.Reads as mark-alike-reads
-use Rattle.words.proofs.set_constants.Reads as set-constants-reads
 
--- src/lib.rt:240:8
 is-known-requires : tie.Need-is-known-requires
 is-known-requires c κs = search needs
 
--- src/lib.rt:241:9
 returns : tie.Need-returns
 returns c =
     let s = c .before .before in
@@ -32,31 +24,24 @@ returns c =
           (subst T (c .before .is-known .ensures) (of-true (c .if1 .taken))),
     )
 
--- src/lib.rt:244:44
 slice-aggregate-mark-alike : tie.Need-slice-aggregate-mark-alike
 slice-aggregate-mark-alike c = search needs
 
--- src/lib.rt:244:5
 mark-alike-requires : tie.Need-mark-alike-requires
 mark-alike-requires c κs = search needs
 
--- src/lib.rt:245:26
 mul-set-constants : tie.Need-mul-set-constants
 mul-set-constants c = search needs
 
--- src/lib.rt:245:26
 element-copy-out-set-constants : tie.Need-element-copy-out-set-constants
 element-copy-out-set-constants c = search needs
 
--- src/lib.rt:245:5
 set-constants-requires : tie.Need-set-constants-requires
 set-constants-requires c κs = search needs
 
--- src/lib.rt:246:5
 look-words-requires : tie.Need-look-words-requires
 look-words-requires c κs = search needs
 
--- src/lib.rt:226:1
 returns-2 : tie.Need-returns-2
 returns-2 c =
     let s = c .before .before .before .before .before .before .before .before .before .before .before in

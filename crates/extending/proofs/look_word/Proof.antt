@@ -11,14 +11,7 @@ use Rattle.extending.specs.Looks.{InWord}
 use Rattle.extending.specs.LookLaws.{looked-none, merged-free, word-unmet, word-met}
 use Rattle.extending.proofs.look_word.Statement.{statement}
 use Rattle.extending.proofs.look_word.Tie as tie
-use Rattle.extending.proofs.look_word.Reads as reads
-use Rattle.extending.proofs.look_word.Lts as lts
-use Rattle.beside.proofs.merge_word.Reads as merge-word-reads
-use Rattle.beside.proofs.missing.Reads as missing-reads
-use Rattle.extending.proofs.still_wanted.Reads as still-wanted-reads
-use Rattle.words.proofs.move_terms.Reads as move-terms-reads
 
--- src/lib.rt:173:9
 returns : tie.Need-returns
 returns c constants values v t = (
   (v, t),
@@ -26,25 +19,20 @@ returns c constants values v t = (
       subst T (ap (λ x. bit x (d % 64)) (c .if1 .taken) ∙ bit-zero (d % 64)) u),
 )
 
--- src/lib.rt:175:9
 merge-word-requires : tie.Need-merge-word-requires
 merge-word-requires c κs = search needs
 
--- src/lib.rt:177:5
 move-terms-requires : tie.Need-move-terms-requires
 move-terms-requires c κs = search needs
 
--- src/lib.rt:178:69
 slice-aggregate-missing : tie.Need-slice-aggregate-missing
 slice-aggregate-missing c = search needs
 
--- src/lib.rt:178:9
 missing-requires : tie.Need-missing-requires
 missing-requires c κs =
     let s = c .before .before .before .before .before .before in
     (s .pre .0, (s .pre .1, omega arith, merged-free (s .args .t3 .free) (s .args .choices) _ (c .before .before .before .before .merge-word .ensures)))
 
--- src/lib.rt:180:9
 returns-2 : tie.Need-returns-2
 returns-2 c constants values v t =
     let s = c .before .before .before .before .before .before .before .before .before in
@@ -57,15 +45,12 @@ returns-2 c constants values v t =
           (merged .ensures) M (missing .ok) (c .if2 .taken),
     )
 
--- src/lib.rt:182:49
 element-copy-out-still-wanted : tie.Need-element-copy-out-still-wanted
 element-copy-out-still-wanted c = search needs
 
--- src/lib.rt:182:9
 still-wanted-requires : tie.Need-still-wanted-requires
 still-wanted-requires c κs = search needs
 
--- src/lib.rt:161:1
 returns-3 : tie.Need-returns-3
 returns-3 c constants values v t =
     let s = c .before .before .before .before .before .before .before .before .before .before .before .before in

@@ -5,7 +5,6 @@ use mathlib.Core.Path.{_≡_, sym, subst}
 use Prim.Native.Nat.{ℕ, _+_, _-_, _≤_}
 use native.Mathlib.Omega.{arith}
 use lib.Dec.{T, T-not}
-use lib.ListN.{getD}
 use Rattle.words.specs.Choices.{wordCount}
 use Rattle.shares.specs.Test.{of-false, holds}
 use Rattle.beside.specs.GatherLaws.{words-le}
@@ -15,10 +14,6 @@ use Rattle.extending.specs.Looks.{ChoicesLooked, InWords}
 use Rattle.extending.specs.LookLaws.{words-start, words-more, looked-wider}
 use Rattle.extending.proofs.look_words.Statement.{statement}
 use Rattle.extending.proofs.look_words.Tie as tie
-use Rattle.extending.proofs.look_words.Reads as reads
-use Rattle.extending.proofs.look_words.Lts as lts
-use Rattle.extending.proofs.look_word.Reads as look-word-reads
-use Rattle.words.proofs.word_count.Reads as word-count-reads
 
 abbrev Inv-loop : tie.InvT-loop
 Inv-loop terms₀ clauses sizes present wanted words rest₀ w₀ terms rest w = (w ≤ words) × T (rest .met)

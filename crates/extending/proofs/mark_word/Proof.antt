@@ -9,11 +9,6 @@ use Rattle.extending.specs.Looks.{Added, BitOf}
 use Rattle.extending.specs.MarkLaws.{choice-lt, Done, wordChoice, lowest-set, less-rest, rest-more, word-start, word-more, word-done}
 use Rattle.extending.proofs.mark_word.Statement.{statement}
 use Rattle.extending.proofs.mark_word.Tie as tie
-use Rattle.extending.proofs.mark_word.Reads as reads
-use Rattle.extending.proofs.mark_word.Lts as lts
-use Rattle.extending.proofs.mark.Reads as mark-reads
-use Rattle.extending.proofs.same_choice.Reads as same-choice-reads
-use Rattle.words.proofs.lowest.Reads as lowest-reads
 
 abbrev Inv-loop : tie.InvT-loop
 Inv-loop table free w leaves present₀ rest₀ present rest =
