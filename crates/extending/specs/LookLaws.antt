@@ -124,9 +124,13 @@ module _ (count : ℕ) (meets : ℕ → Bool) (differs : ℕ → ℕ → Bool) w
         (every-intro count _ (λ j l.
         let (c, a, d) = L .found j l (of-true (ap (λ x. bit x j) start ∙ bit-ones count j l)) (of-false (ap (λ x. bit x j) e ∙ bit-zero j)) in
         some-intro N (differs j) c (within c a) d)))
-        (λ v. of-true (eq-eqb (r .wanted) 0 (bits-zero 64 (r .wanted) small (λ j l. is-false (bit (r .wanted) j) (not-T (bit (r .wanted) j) (unset v j l (decLt j count)))))))
+        (λ v.
+        of-true
+        (eq-eqb (r .wanted) 0
+        (bits-zero 64 (r .wanted) small (λ j l. is-false (bit (r .wanted) j) (not-T (bit (r .wanted) j) (unset v j l (decLt j count)))))))
       where
-        unset : T (everyBelow N meets && everyBelow count (λ j. someBelow N (differs j))) → (j : ℕ) → j < 64 → Dec (j < count) → T (bit (r .wanted) j) → ⊥
+        unset : T (everyBelow N meets && everyBelow count (λ j. someBelow N (differs j))) → (j : ℕ) → j < 64 → Dec (j < count)
+            → T (bit (r .wanted) j) → ⊥
         unset v j l (yes h) u =
             let (c, b, d) = some-found N (differs j) (every-at count (λ j. someBelow N (differs j)) (and-right (everyBelow N meets) _ v) j h) in
             T-not (differs j c) (L .none t j h u c (every c b)) d
@@ -300,7 +304,10 @@ module _ (S : Stored) (table keys : List ℕ) (b start wanted : ℕ) (room : b <
       (λ i (h, m, q). (b, omega arith, h, sym (K b room) ∙ sym q ∙ K (over i) (below i h))) L
       (looked-as (getD (S .counts) 3 0) (secondMeets S (getD keys b 0)) (secondDiffers S (getD keys b 0)) (meetsOver S table) (differsOver S table)
       (InWords (wordCount (S .free)) present) (Alike keys b) wanted r
-      (λ c (l, t). from c (A .only c t)) (λ i a. (choiceAt table (S .free) i, (lt-of-lt-of-le (choice-lt table (S .free) i) (choices-le (S .free)), A .added i a), same i a .0, same i a .1)) W)
+      (λ c (l, t). from c (A .only c t))
+      (λ i a.
+      let small = lt-of-lt-of-le (choice-lt table (S .free) i) (choices-le (S .free)) in
+      (choiceAt table (S .free) i, (small, A .added i a), same i a .0, same i a .1)) W)
     where
       below : (i : ℕ) → i < 2 ^ rowLevels constantLevels → over i < 2 ^ constantLevels
       below i h = block-lt {h = constantLevels} {w = rowLevels constantLevels} (omega arith) h

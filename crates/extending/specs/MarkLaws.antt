@@ -159,7 +159,9 @@ pub added-one : (old : List ℕ) (choice : ℕ) → choice / 64 < length old
 unfolding inSet
 added-one old choice room = record {
   kept = λ c t. go c (ℕ-discrete (c / 64) (choice / 64)) t;
-  added = λ c e. subst (λ c. T (inSet new c)) (sym e) (here choice refl (or-right (bit word (choice % 64)) (eqb (choice % 64) (choice % 64)) (eqb-refl (choice % 64))));
+  added = λ c e.
+      subst (λ c. T (inSet new c)) (sym e)
+      (here choice refl (or-right (bit word (choice % 64)) (eqb (choice % 64) (choice % 64)) (eqb-refl (choice % 64))));
   only = λ c t. from c (ℕ-discrete (c / 64) (choice / 64)) t;
 }
   where
@@ -242,7 +244,8 @@ module _ (table : List ℕ) (n w leaves : ℕ) where
       gone k (inr b) = not-T (bit rest′ k) (λ u.
           T-not (bit same k) (and-right (bit rest k) (not (bit same k)) (subst T (is k (b .0)) u)) (b .1))
 
-      part : (k : ℕ) → Done leaves rest′ k → T (bit rest k) ⊎ T (not (bit rest k)) → Done leaves rest k ⊎ ((c : ℕ) × (c ≡ choice) × (c ≡ wordChoice k))
+      part : (k : ℕ) → Done leaves rest′ k → T (bit rest k) ⊎ T (not (bit rest k))
+          → Done leaves rest k ⊎ ((c : ℕ) × (c ≡ choice) × (c ≡ wordChoice k))
       part k d (inr t) = inl (d .0, t)
       part k d (inl t) = taken (passes (bit same k))
         where

@@ -111,7 +111,8 @@ module _ (x wanted : ℕ) (left : List ℕ) where
   pub still-start : StillTo 0 wanted
   still-start k l = sym (ap (λ b. bit wanted k && (not b || alike x (getD left k 0))) (le-ltb k 0 (omega arith)) ∙ and-true (bit wanted k))
 
-  pub still-more : (j r s : ℕ) → ((k : ℕ) → k < 64 → bit s k ≡ (bit r k && (not (eqb k j) || alike x (getD left j 0)))) → StillTo j r → StillTo (j + 1) s
+  pub still-more : (j r s : ℕ) → ((k : ℕ) → k < 64 → bit s k ≡ (bit r k && (not (eqb k j) || alike x (getD left j 0)))) → StillTo j r
+      → StillTo (j + 1) s
   still-more j r s step S k l = step k l ∙ ap (λ b. b && (not (eqb k j) || alike x (getD left j 0))) (S k l) ∙ go (decLt k j) (ℕ-discrete k j)
     where
       go : Dec (k < j) → Dec (k ≡ j)

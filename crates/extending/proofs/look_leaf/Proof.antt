@@ -48,11 +48,13 @@ returns-2 c =
     let a = s .args in
     let (old, v, within, t) = s .pre .1 .3 in
     let placed = c .before .before .before .set-constants .ensures (a .sizes .free) (a .sizes .own) old v (s .pre .0 .variables) within (s .pre .1 .2) t in
-    let looked = c .look-words .ensures in (
-      (let (u, w) = looked [] (getD (a .keys .now) (a .b) 0) v placed .0 in (getD (a .keys .now) (a .b) 0, u, s .pre .1 .2, w)),
+    let looked = c .look-words .ensures in
+    let values = getD (a .keys .now) (a .b) 0 in (
+      (let (u, w) = looked [] values v placed .0 in (values, u, s .pre .1 .2, w)),
       λ constants start K L.
           leaf-looked (storedBy (a .sizes) (a .clauses .now) constants) (a .table .now) (a .keys .now) (a .b) start (a .wanted) (s .pre .1 .0) K L 64 _ _
-          (omega (arith, s .pre .0 .few)) (c .before .before .before .before .before .before .before .mark-alike .ensures) (looked constants (getD (a .keys .now) (a .b) 0) v placed .1),
+          (omega (arith, s .pre .0 .few)) (c .before .before .before .before .before .before .before .mark-alike .ensures)
+          (looked constants values v placed .1),
     )
 
 pub look-leaf-spec : {M : Type 1} → statement M

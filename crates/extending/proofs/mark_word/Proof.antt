@@ -38,7 +38,8 @@ mark-requires c κs =
     let s = c .before .before .before .before .before .before in
     let a = s .args in
     let l = c .before .before .before .before .loop in
-    omega (arith, c .before .same-choice .ensures .choice, choice-lt (a .table .now) (a .free) (64 * a .w + c .before .before .lowest .result), pow-mono {i = a .free} {j = 12} (s .pre .0), l .inv .1, s .pre .2)
+    let small = choice-lt (a .table .now) (a .free) (64 * a .w + c .before .before .lowest .result) in
+    omega (arith, c .before .same-choice .ensures .choice, pow-mono {i = a .free} {j = 12} (s .pre .0), l .inv .1, s .pre .2)
 
 loop-less : tie.Need-loop-less Inv-loop μ-loop
 loop-less c =
@@ -70,7 +71,8 @@ same-length c = c .before .loop .inv .1
 returns : tie.Need-returns Inv-loop μ-loop
 returns c =
     let a = c .before .before .before .args in
-    word-done (a .table .now) (a .free) (a .w) (a .leaves) (c .before .loop .rest) (a .present .now) (c .before .loop .present) (c .loop-test .left) (c .before .loop .inv .3)
+    let l = c .before .loop in
+    word-done (a .table .now) (a .free) (a .w) (a .leaves) (l .rest) (a .present .now) (l .present) (c .loop-test .left) (l .inv .3)
 
 pub mark-word-spec : {M : Type 1} → statement M
 mark-word-spec =
