@@ -5,10 +5,19 @@ use beside::Sizes;
 use unfolded::ROW_WORDS;
 use unfolded::TABLE_WORDS;
 ghost use mathlib.Core.Path.{_≡_};
-ghost use Prim.Native.Nat.{_≤_};
+ghost use mathlib.Core.Bool.{_&&_, _||_, not, Bool·beq};
+ghost use mathlib.Core.List.{List};
+ghost use Prim.Native.Nat.{ℕ, _+_, _*_, _/_, _%_, _^_, _≤_, _<_};
+ghost use lib.Dec.{ltb, eqb};
+ghost use lib.ListN.{length, getD};
+ghost use Rattle.shares.specs.Below.{one, someBelow};
+ghost use Rattle.shares.specs.Constant.{bit, constantLevels};
+ghost use Rattle.words.specs.Choices.{wordCount, valuesAt};
+ghost use Rattle.words.specs.Table.{Terms, Within};
 ghost use Rattle.beside.specs.Beside.{Readable};
-ghost use Rattle.steps.specs.Steps.{storedBy};
-ghost use Rattle.extending.specs.Extending.{extendsIn};
+ghost use Rattle.steps.specs.Steps.{storedBy, PlacedWithin};
+ghost use Rattle.extending.specs.Extending.{choiceAt, extendsIn};
+ghost use Rattle.extending.specs.Looks.{Added, BitOf, SameAs, Alike, alike, allMet, ChoicesLooked, LeavesLooked, InWord, InWords, KeysOf};
 
 // Constants have this many leaves, and each stands over half a word of a row.
 const LEAVES: usize = 32;
@@ -26,20 +35,41 @@ pub struct Same {
     pub leaves: u64,
 }
 
-// The bits of x that are like its bit i.
-fn like(x: u64, digit: bool) -> u64 {
+// Word w of the row of variable v.
+fn row_word(table: &[u64; TABLE_WORDS], v: usize, w: usize) -> u64
+    requires { ⌜ (v < 12) × (w < 16) ⌝ }
+    ensures { λ r. ⌜ r ≡ getD (now (table .entry)) (16 * v + w) 0 ⌝ }
+{
+    table[ROW_WORDS * v + w]
+}
+
+// A choice with one digit more, the lowest.
+fn with_digit(choice: usize, digit: bool) -> usize
+    requires { ⌜ choice < 2 ^ 12 ⌝ }
+    ensures { λ r. ⌜ r ≡ 2 * choice + one digit ⌝ }
+{
+    if digit { 2 * choice + 1 } else { 2 * choice }
+}
+
+// Where the bits of x have this value.
+fn like(x: u64, digit: bool) -> u64
+    ensures { λ r. ⌜ ((k : ℕ) → k < 64 → bit r k ≡ Bool·beq (bit x k) digit) ⌝ }
+{
     if digit { x } else { !x }
 }
 
 // The choice at leaf 64 * w + i, and the leaves of word w among those given that have the same.
-fn same_choice(table: &[u64; TABLE_WORDS], free: usize, w: usize, i: usize, leaves: u64) -> Same {
+fn same_choice(table: &[u64; TABLE_WORDS], free: usize, w: usize, i: usize, leaves: u64) -> Same
+    requires { ⌜ (free ≤ 12) × (w < 16) × (i < 64) ⌝ }
+    ensures { λ r. ⌜ SameAs (now (table .entry)) free w i leaves r ⌝ }
+{
     let mut choice: usize = 0;
     let mut same = leaves;
     let mut v: usize = 0;
     while v < free {
-        let x = table[ROW_WORDS * v + w];
+        let x = row_word(table, v, w);
         let digit = basics::digit(x, i);
-        choice = 2 * choice + (digit as usize);
+        choice = with_digit(choice, digit);
         same = same & like(x, digit);
         v += 1;
     }
@@ -50,13 +80,19 @@ fn same_choice(table: &[u64; TABLE_WORDS], free: usize, w: usize, i: usize, leav
 }
 
 // Sets bit `choice` of a set of choices.
-fn mark(present: &mut [u64], choice: usize) {
+fn mark(present: &mut [u64], choice: usize)
+    requires { ⌜ choice / 64 < length (now present) ⌝ }
+    ensures { λ _. ⌜ Added (λ c. c) (λ c. c ≡ choice) (now (present .entry)) (now (present .exit)) ⌝ }
+{
     let w = choice / 64;
     present[w] = present[w] | (1 << (choice % 64));
 }
 
 // Marks the choices at the given leaves of word w.
-fn mark_word(table: &[u64; TABLE_WORDS], free: usize, w: usize, leaves: u64, present: &mut [u64]) {
+fn mark_word(table: &[u64; TABLE_WORDS], free: usize, w: usize, leaves: u64, present: &mut [u64])
+    requires { ⌜ (free ≤ 12) × (w < 16) × (length (now present) ≡ 64) ⌝ }
+    ensures { λ _. ⌜ Added (λ k. choiceAt (now (table .entry)) free (64 * w + k)) (BitOf leaves) (now (present .entry)) (now (present .exit)) ⌝ }
+{
     let mut rest = leaves;
     while rest != 0 {
         let same = same_choice(table, free, w, words::lowest(rest), rest);
@@ -66,7 +102,9 @@ fn mark_word(table: &[u64; TABLE_WORDS], free: usize, w: usize, leaves: u64, pre
 }
 
 // The leaves of the rows below leaf b of the constants, among the leaves of their word: half of it.
-fn half(b: usize) -> u64 {
+fn half(b: usize) -> u64
+    ensures { λ r. ⌜ ((k : ℕ) → k < 64 → bit r k ≡ eqb (k / 32) (b % 2)) ⌝ }
+{
     if b % 2 == 0 {
         0xFFFF_FFFF
     } else {
@@ -74,14 +112,17 @@ fn half(b: usize) -> u64 {
     }
 }
 
-// Marks those below each leaf where the constants have the values that they have at leaf b.
+// Marks those below each leaf from b on where the constants have the values that they have at leaf b.
 fn mark_alike(
     table: &[u64; TABLE_WORDS],
     free: usize,
     keys: &[u64; 32],
     b: usize,
     present: &mut [u64],
-) {
+)
+    requires { ⌜ (free ≤ 12) × (b < 32) × (length (now present) ≡ 64) ⌝ }
+    ensures { λ _. ⌜ Added (choiceAt (now (table .entry)) free) (Alike (now (keys .entry)) b) (now (present .entry)) (now (present .exit)) ⌝ }
+{
     let mut a = b;
     while a < LEAVES {
         if keys[a] == keys[b] {
@@ -91,14 +132,26 @@ fn mark_alike(
     }
 }
 
+// Takes bit j out of r, unless x and y are the same word.
+fn unless_same(x: u64, y: u64, r: u64, j: usize) -> u64
+    requires { ⌜ j < 64 ⌝ }
+    ensures { λ s. ⌜ ((k : ℕ) → k < 64 → bit s k ≡ (bit r k && (not (eqb k j) || alike x y))) ⌝ }
+{
+    if x == y {
+        return r;
+    }
+    r & !(1 << j)
+}
+
 // The disequations that are still wanted: of those that were, the ones that every choice of x was left with.
-fn still_wanted(x: u64, wanted: u64, left: &[u64; 32], count: usize) -> u64 {
+fn still_wanted(x: u64, wanted: u64, left: &[u64; 32], count: usize) -> u64
+    requires { ⌜ count ≤ 32 ⌝ }
+    ensures { λ r. ⌜ ((j : ℕ) → j < 64 → bit r j ≡ (bit wanted j && (not (ltb j count) || alike x (getD (now (left .entry)) j 0)))) ⌝ }
+{
     let mut r = wanted;
     let mut j: usize = 0;
     while j < count {
-        if left[j] != x {
-            r = r & !(1 << j);
-        }
+        r = unless_same(x, left[j], r, j);
         j += 1;
     }
     r
@@ -112,7 +165,10 @@ fn look_word(
     w: usize,
     choices: u64,
     wanted: u64,
-) -> Rest {
+) -> Rest
+    requires { ⌜ Readable (now clauses) (sizes .counts) (sizes .free) (sizes .own) × (w < wordCount (sizes .free)) ⌝ }
+    ensures { λ r. ⌜ ((constants : List ℕ) (values v : ℕ) → Terms (sizes .free) (sizes .own) values v (now (terms .entry)) → ((u : ℕ) × Terms (sizes .free) (sizes .own) values u (now (terms .exit))) × ChoicesLooked (storedBy sizes (now (clauses .entry)) constants) values (InWord w choices) wanted r) ⌝ }
+{
     if choices == 0 {
         return Rest { met: true, wanted };
     }
@@ -134,7 +190,10 @@ fn look_words(
     sizes: Sizes,
     present: &[u64; 64],
     wanted: u64,
-) -> Rest {
+) -> Rest
+    requires { ⌜ Readable (now clauses) (sizes .counts) (sizes .free) (sizes .own) ⌝ }
+    ensures { λ r. ⌜ ((constants : List ℕ) (values v : ℕ) → Terms (sizes .free) (sizes .own) values v (now (terms .entry)) → ((u : ℕ) × Terms (sizes .free) (sizes .own) values u (now (terms .exit))) × ChoicesLooked (storedBy sizes (now (clauses .entry)) constants) values (InWords (wordCount (sizes .free)) (now (present .entry))) wanted r) ⌝ }
+{
     let words = words::word_count(sizes.free);
     let mut rest = Rest { met: true, wanted };
     let mut w: usize = 0;
@@ -149,7 +208,10 @@ fn look_words(
 }
 
 // Whether the constants have at an earlier leaf the values that they have at leaf b.
-fn is_known(keys: &[u64; 32], b: usize) -> bool {
+fn is_known(keys: &[u64; 32], b: usize) -> bool
+    requires { ⌜ b < 32 ⌝ }
+    ensures { λ r. ⌜ r ≡ someBelow b (λ a. eqb (getD (now (keys .entry)) a 0) (getD (now (keys .entry)) b 0)) ⌝ }
+{
     let mut a: usize = 0;
     while a < b {
         if keys[a] == keys[b] {
@@ -169,7 +231,12 @@ fn look_leaf(
     b: usize,
     terms: &mut [u64; 64],
     wanted: u64,
-) -> Rest {
+) -> Rest
+    requires { ⌜ Readable (now clauses) (sizes .counts) (sizes .free) (sizes .own) ⌝ }
+    requires { ⌜ (b < 32) × (sizes .defined ≤ 32) × Within (sizes .defined) (getD (now keys) b 0) × PlacedWithin (sizes .free) (sizes .own) (sizes .defined) (now terms) ⌝ }
+    ensures { λ r. ⌜ PlacedWithin (sizes .free) (sizes .own) (sizes .defined) (now (terms .exit)) ⌝ }
+    ensures { λ r. ⌜ ((constants : List ℕ) (start : ℕ) → KeysOf (storedBy sizes (now (clauses .entry)) constants) (now (keys .entry)) → LeavesLooked (storedBy sizes (now (clauses .entry)) constants) (now (table .entry)) b start (allMet wanted) → LeavesLooked (storedBy sizes (now (clauses .entry)) constants) (now (table .entry)) (b + 1) start r) ⌝ }
+{
     if is_known(keys, b) {
         return Rest { met: true, wanted };
     }
@@ -180,7 +247,10 @@ fn look_leaf(
 }
 
 // The values of the constants at each of their leaves.
-fn put_keys(constants: &[u64; 32], defined: usize, keys: &mut [u64]) {
+fn put_keys(constants: &[u64; 32], defined: usize, keys: &mut [u64])
+    requires { ⌜ (defined ≤ 32) × (length (now keys) ≡ 32) ⌝ }
+    ensures { λ _. ⌜ ((a : ℕ) → a < 2 ^ constantLevels → getD (now (keys .exit)) a 0 ≡ valuesAt constantLevels (now (constants .entry)) defined constantLevels a) ⌝ }
+{
     let mut b: usize = 0;
     while b < LEAVES {
         keys[b] = words::values_at(constants, defined, 5, b);
