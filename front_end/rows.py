@@ -9,6 +9,7 @@ from front_end.text import CONSTANT_DUE, KEPT, NO_SHARE, read_joined, starts_tre
 from front_end.trees import TALLEST_ROW, join, unfold
 
 ROW_BYTES = (1 << TALLEST_ROW) // 8
+ROWS_BYTES = MOST_VARIABLES * ROW_BYTES
 # The lines of an answer that are no rows.
 PASSED_OVER = re.compile(r"answer (yes|no)|height \d{1,2}|reason \d( \d{1,2})?", re.ASCII)
 
@@ -93,6 +94,8 @@ class RowsReader:
 
 def read_rows(text, asked):
     """The leaves of each free variable of what a text asks, in order, from a text of rows."""
+    if "\0" in text and len(text.encode("utf-8", "surrogateescape")) == ROWS_BYTES:
+        raise TextFault("these are rows in bytes, and no text: the judging program reads them, and behind them what './ask --bytes FILE' writes", 1, 1)
     reader = RowsReader(asked)
     for number, code in code_lines(text):
         line = Line(number, code)
@@ -116,4 +119,4 @@ def with_joins(question, named):
 
 def write_rows(rows):
     """The bytes of rows: 12 rows of 128, those of no free variable zero."""
-    return b"".join(leaves.to_bytes(ROW_BYTES, "little") for leaves in rows).ljust(MOST_VARIABLES * ROW_BYTES, b"\0")
+    return b"".join(leaves.to_bytes(ROW_BYTES, "little") for leaves in rows).ljust(ROWS_BYTES, b"\0")
