@@ -75,10 +75,15 @@ def read_answer(said, question):
     return answer if whole else None
 
 
+def file_name(name):
+    """The name of a file, for --json."""
+    return os.fsencode(name).decode("utf-8", "backslashreplace")
+
+
 def to_object(name, asked=None, answer=None, trouble=None):
     """What --json says of a question: always the same keys, None where there is nothing to say."""
     said = dict.fromkeys(["file", "answer", "question", "reason", "meaning", "disequation", "height", "solution", "error"])
-    said["file"] = os.fsencode(name).decode("utf-8", "backslashreplace")
+    said["file"] = file_name(name)
     if trouble:
         said["error"] = {"line": trouble.line, "column": trouble.column, "message": trouble.what}
         return said

@@ -3,9 +3,9 @@
 import re
 from contextlib import contextmanager
 
-from front_end.files import Trouble, quote
+from front_end.files import LONG_NAME, Trouble, quote
 from front_end.question import Fault
-from front_end.trees import TreeFault, read_tree
+from front_end.trees import TALLEST, TreeFault, read_tree
 
 WORD = re.compile(r"=|[^\s=]+")
 NAME = re.compile(r"[A-Za-z_][A-Za-z_0-9]*")
@@ -93,17 +93,17 @@ class Line:
         self.at += 1
         return self.words[self.at - 1][0]
 
-    def take_tree(self):
-        """Takes a tree text, and gives its leaves."""
+    def take_tree(self, tallest=TALLEST):
+        """Takes a tree text, and gives its 2^tallest leaves."""
         with self.here():
             try:
-                leaves = read_tree(self.peek())
+                leaves = read_tree(self.peek(), tallest)
             except TreeFault as fault:
-                raise self.spaces(fault) or fault from None
+                raise self.spaces(fault, tallest) or fault from None
         self.take("a tree")
         return leaves
 
-    def spaces(self, fault):
+    def spaces(self, fault, tallest):
         """What is said of a tree text that ends too soon, if the words after it are the rest of it."""
         first, depth = self.peek(), 0
         for number, (word, _) in enumerate(self.words[self.at:], 1):
@@ -117,8 +117,9 @@ class Line:
             return TreeFault(fault.number, fault.at, "no tree text: a join stands without brackets round it")
         whole = "".join(words)
         try:
-            read_tree(whole)
-            return TreeFault(fault.number, fault.at, f"tree text has no spaces: write '{whole}'")
+            read_tree(whole, tallest)
+            write = f": write '{whole}'" if len(whole) <= LONG_NAME else ""
+            return TreeFault(fault.number, fault.at, f"tree text has no spaces{write}")
         except TreeFault:
             return TreeFault(fault.number, fault.at, "tree text has no spaces")
 

@@ -4,7 +4,7 @@ from front_end.files import LONG_NAME, LONG_WORD, quote, shown
 from front_end.lines import NAME, NAME_DUE, Line, TextFault, code_lines
 from front_end.question import (CLAUSES, COMMANDS, CONSTANTS, EQUAL, JOIN, MAY_READ, MAY_WRITE, MOST_VARIABLES, NO_JOIN, UNEQUAL, WITH, Fault,
                                 Question)
-from front_end.trees import join, write_tree
+from front_end.trees import TALLEST, join, write_tree
 
 LONGEST = 255  # characters of a name
 KINDS = ["satisfiable", "entails"]
@@ -16,6 +16,7 @@ NOT_INSIDE = ("a negated clause has one join, 'not a join b is c': give the join
 NOT_WITH = ("that shares may not be held together cannot be said as one clause: give their common part a variable of its own, as in "
             "'p join q is a', 'p join r is b' and 'p may read'")
 TWICE = "two negations: write '{}'"
+NO_SHARE = "'{}' is no share: write 'o' for the empty one, '*' for the full one"
 
 # What is due where a share is, and how a name comes to be one; the same for a share that a 'let' joins.
 SHARE_DUE = "a name or a tree", "a line 'free {}' before the first clause makes it a variable"
@@ -92,6 +93,23 @@ def granted(line, right):
     return TWICE.format(f"{shown(' '.join(side))} may {right}")
 
 
+def read_joined(line, read_constant, height=TALLEST):
+    """Takes constants with 'join' between them, to the end of the line, and gives the leaves of their join; 'read_constant' takes one."""
+    so_far = read_constant(line)
+    while line.skip("join"):
+        word, column = line.peek(), line.column()
+        leaves = read_constant(line)
+        joined = join(so_far, leaves)
+        if joined is None:
+            before, common = (shown(write_tree(share, height)) for share in (so_far, so_far & leaves))
+            what = f"the join is undefined: {quote(word)} and what stands before it, '{before}', have the common part '{common}'"
+            raise TextFault(what, line.number, column)
+        so_far = joined
+    if line.peek():
+        raise line.due("'join' or the end of the line")
+    return so_far
+
+
 class TextReader:
     """Reads a question line by line."""
 
@@ -162,22 +180,7 @@ class TextReader:
         name = self.read_name(line)
         line.expect("=")
         with line.here():
-            self.lets[name] = self.question.define(self.read_joined(line))
-
-    def read_joined(self, line):
-        """Takes constants with 'join' between them, to the end of the line, and gives the leaves of their join."""
-        so_far = self.read_constant(line)
-        while line.skip("join"):
-            word, column = line.peek(), line.column()
-            leaves = self.read_constant(line)
-            joined = join(so_far, leaves)
-            if joined is None:
-                what = f"the join is undefined: {quote(word)} and what stands before it, '{write_tree(so_far)}', have the common part"
-                raise TextFault(f"{what} '{write_tree(so_far & leaves)}'", line.number, column)
-            so_far = joined
-        if line.peek():
-            raise line.due("'join' or the end of the line")
-        return so_far
+            self.lets[name] = self.question.define(read_joined(line, self.read_constant))
 
     def read_constant(self, line):
         """Takes a tree text or the name of a constant, and gives its leaves."""
@@ -188,6 +191,10 @@ class TextReader:
             raise self.no_constant(line, word)
         line.take("a constant")
         return self.question.constants[self.lets[word] - CONSTANTS]
+
+    def named_constants(self):
+        """The leaves of each constant that has a name."""
+        return {name: self.question.constants[term - CONSTANTS] for name, term in self.lets.items()}
 
     def no_constant(self, line, word):
         """The fault of a word that is no constant, where 'let' joins constants."""
@@ -337,7 +344,7 @@ class TextReader:
     def unknown(self, line, word, due, cure):
         """The fault of a word that is no share, where one is due; 'cure' says how a name comes to be one."""
         if word in ("0", "1"):
-            return line.fault(f"'{word}' is no share: write 'o' for the empty one, '*' for the full one")
+            return line.fault(NO_SHARE.format(word))
         if not NAME.fullmatch(word) or word in KEPT:
             return line.no_name(due)
         if line.peek(1) == "=":
@@ -350,7 +357,7 @@ class TextReader:
         joined = line.rest(2)
         try:
             if "=" not in joined:
-                self.read_joined(Line(line.number, joined))
+                read_joined(Line(line.number, joined), self.read_constant)
                 return joined
         except TextFault:
             pass
@@ -374,16 +381,22 @@ def decode(string):
 
 
 class Asked:
-    """What a text asks: the question; the names of its variables in order, None for one that stands for a join; of each clause its line."""
+    """What a text asks: the question; the names of its variables in order, None for one that stands for a join; of each clause its line; the
+    leaves of each constant that has a name."""
 
-    def __init__(self, question, names, clauses):
+    def __init__(self, question, names, clauses, constants):
         self.question = question
         self.names = names
         self.clauses = clauses
+        self.constants = constants
 
     def disequation(self, number):
         """The line of a disequation of the second system."""
         return self.clauses[self.question.alike(second=True, disequation=True)[number]]
+
+    def first_clauses(self):
+        """The lines of the first system's clauses; one with joins inside stands there for each of its clauses."""
+        return [line for line, clause in zip(self.clauses, self.question.clauses) if not CLAUSES[clause[0]].second]
 
 
 def read_text(text):
@@ -397,7 +410,7 @@ def read_text(text):
             reader.read(line)
     if reader.question is None:
         raise TextFault("the text asks nothing: 'satisfiable' or 'entails' is due in its first line", 1, 1)
-    return Asked(reader.question, reader.names(), reader.clauses)
+    return Asked(reader.question, reader.names(), reader.clauses, reader.named_constants())
 
 
 def in_clauses(question):

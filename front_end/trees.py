@@ -1,6 +1,6 @@
-"""Shares as tree text and as 32 leaves.
+"""Shares as tree text and as leaves: 32 of a constant, 1,024 of a row.
 
-Tree text is 'o' (empty), '*' (full) or '(' left right ')', always folded. The 32 leaves are a number, leaf i at bit i.
+Tree text is 'o' (empty), '*' (full) or '(' left right ')', always folded. The leaves are a number, leaf i at bit i.
 """
 
 import re
@@ -8,6 +8,7 @@ import re
 from front_end.files import quote
 
 TALLEST = 5  # of a constant
+TALLEST_ROW = 10  # of a row, the share of a variable
 NOT_TREE_TEXT, NOT_FOLDED, TOO_TALL = 15, 16, 17  # refusal numbers, told in this order
 FOLDABLE = re.compile(r"\(([o*])\1\)")  # a pair of two equal leaves
 
@@ -42,7 +43,7 @@ def read_tree(text, tallest=TALLEST):
         if at > 0 and not pairs:
             raise no_tree_text(at, "the tree ends before this character")
         if at == most:
-            raise no_tree_text(at, f"it is too long: a folded tree with at most {tallest} pairs one in the other has at most {at} characters")
+            raise no_tree_text(at, f"it is too long: a folded tree with at most {tallest} pairs one in the other has at most {at:,} characters")
         wants_half = not pairs or pairs[-1] < 2
         if sign not in ("(o*" if wants_half else ")"):
             due = "'(', 'o' or '*'" if wants_half else "')'"
@@ -82,6 +83,11 @@ def write_tree(leaves, height=TALLEST):
     if left == right and len(left) == 1:
         return left
     return f"({left}{right})"
+
+
+def unfold(leaves):
+    """The leaves of a constant, unfolded to those of a row."""
+    return read_tree(write_tree(leaves), TALLEST_ROW)
 
 
 def join(a, b):

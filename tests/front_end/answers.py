@@ -114,3 +114,6 @@ def test_not_built():
     for arguments in (("ask", str(TOP / "examples" / "printed.shares")), ("docs/draw",)):
         status, out, errors = process(str(bare / arguments[0]), *arguments[1:], ZIMORGAL_CLI="")
         check(f"{arguments} before anything is built", (status, out, errors[-len(what):], errors.count("\n")), (2, b"", what, 1))
+    what = what.replace("printing", "judging").replace("zimorgal_cli", "zimorgal_judge_cli").replace("ZIMORGAL_CLI", "ZIMORGAL_JUDGE_CLI")
+    found = process(str(bare / "ask"), "--judge", file("no.shares", "satisfiable").name, "-", ZIMORGAL_JUDGE_CLI="")
+    check("ask --judge before anything is built", found, (2, b"", f"no.shares: {what}"))

@@ -3,7 +3,7 @@
 EMPTY, FULL, LEFT, RIGHT = "03 00 00 00 00", "03 FF FF FF FF", "03 FF FF 00 00", "03 00 00 FF FF"
 
 # Lines of the help: what the status of ask says.
-STATUSES = ["0  yes", "1  no", "2  refused, or an error", "3  the answer could not be written"]
+STATUSES = ["0  yes; with --judge: accepted", "1  no; with --judge: rejected", "2  refused, or an error", "3  the answer could not be written"]
 
 # The worked questions of SPEC 12.1 to 12.14; 'printed' is 12.13, 'half_not_full' is 12.14.
 WORKED = """printed no_clause joined_to_itself doubled three_not_empty five_not_empty not_the_left_half undefined_join

@@ -4,12 +4,14 @@ import json
 import re
 
 import cases
+import judging
 from commands import KEYS
+from front_end import judge
 from front_end.answer import MEANINGS
 from front_end.question import CLAUSES, OPERANDS, read_question
 from front_end.text import RESERVED, read_text
-from front_end.trees import write_tree
-from harness import TOP, check, command, library_reads, program
+from front_end.trees import read_tree, write_tree
+from harness import TOP, check, command, judging_program, library_judges, library_reads, program
 from texts import constant_question
 
 
@@ -147,6 +149,48 @@ def test_format_joins():
         found = errors[len("-:"):-len("\n")] if status else write_tree(read_question(out).constants[-1])
         check(f"FORMAT.md, {lines}", found, due)
     check("FORMAT.md has joins in 'let' and errors in them", [":" in due for _, [due] in lets], [False] * 3 + [True] * 3)
+
+
+def example_rows(cell):
+    """The rows of an example: zero but for those that are written, or so many bytes."""
+    if cell.endswith(" bytes"):
+        return bytes(int(cell.split()[0].replace(",", "")))
+    rows = {int(number): tree for number, tree in re.findall(r"`v(\d\d) (\S+)`", cell)}
+    return b"".join(read_tree(rows.get(number, "o"), 10).to_bytes(128, "little") for number in range(12))
+
+
+def test_format_judging():
+    """The examples of judging in docs/FORMAT.md are what the library's call and the judging program give; the meanings, the keys, and rows as text."""
+    markdown = (TOP / "docs" / "FORMAT.md").read_text()
+    rows, seen = list(tables(markdown)), set()
+    for row in rows:
+        if "zimorgal_judge" not in row:
+            continue
+        name, question, given = f"FORMAT.md, {' | '.join(row.values())}", example_bytes(row["bytes"]), example_rows(row["rows"])
+        number = int(row["zimorgal_judge"].strip("`"), 16)
+        check(name, library_judges([(question, given)]), [number])
+        if row["judging prints"] != "does not occur":
+            check(f"{name}: the program", judging_program(given + question), row["judging prints"].strip("`"))
+            check(f"{name}: number", judging.packed(row["judging prints"].strip("`")), number)
+        seen.add((number & 0xFF, number >> 8 & 0xFF))
+    check("FORMAT.md has each judgement", seen, {(1, 0), (2, 0), (3, 0), (0, 8), (0, 18), (0, 19)})
+    words = {(kind, row["judgement"]): row[f"kind {kind}"] for row in rows for kind in (0, 1) if "judgement" in row}
+    check("FORMAT.md has the meanings of judgements", words, {**judge.MEANINGS, (0, "extends"): "does not occur"})
+    check("FORMAT.md has the keys of --judge --json", [row["key with --judge"].strip("`") for row in rows if "key with --judge" in row], judging.KEYS)
+
+
+def test_format_rows():
+    """Rows as text in docs/FORMAT.md: the form, and what is said of each example."""
+    markdown = (TOP / "docs" / "FORMAT.md").read_text()
+    question = "".join(line[4:] for line in markdown.splitlines(True) if line.startswith("    "))
+    form = re.search(r"```\n(.*?)```", markdown, re.S)[1]
+    check("FORMAT.md, the form of rows", judging.judged(question, form, "--plain"), (1, b"extends\n", ""))
+    lines = re.findall(r"`(.*?)`", re.search(r"for a FILE with the lines (.*?):\n", markdown)[1])
+    examples = [[re.findall(r"`(.*?)`", cell) for cell in row.values()] for row in tables(markdown) if "rows in ROWS" in row]
+    for rows, [due] in examples:
+        status, out, errors = judging.judged("\n".join(lines), "\n".join(rows))
+        check(f"FORMAT.md, {rows}", (out.decode() or errors.removeprefix("-:"), status), (f"{due}\n", 2 if due[0].isdigit() else 1))
+    check("FORMAT.md has rows and errors in them", [due[0].isdigit() for _, [due] in examples], [False] * 2 + [True] * 7)
 
 
 def test_format_text():

@@ -9,7 +9,7 @@ from random import Random
 from xml.etree import ElementTree
 
 import make
-from harness import TOP, check, command, program_says
+from harness import TOP, check, command, file, judging_program, program_says
 
 WORDS = ["satisfiable", "entails", "free", "own", "let", "if", "then", "not", "join", "is", "=", "o", "*", "(*o)", "(o*)", "(o *)", "(oo)", "((*o)o)",
          "(" * 7, ")", "(*", "a", "b", "c", "x", "y", "a", "b", "c", "a,", "7a", "0", "1", "#", "# o", "\t", "\r", "\ufeff", "\0", "\x1b[31m", "\u00e4",
@@ -69,6 +69,35 @@ def odd_texts():
         yield b"#" * size
 
 
+ROW_WORDS = ["a", "b", "c", "a =", "b =", "c =", "a", "b", "c", "o", "*", "(*o)", "(o*)", "((o*)(*o))", "L", "join", "join (o*)", "=", "is", "x", "answer yes", "height 3",
+             "reason 3 1", "answer", "height", "#", "(oo)", "(o *)", "(" * 12, ")", "0", "7a", "\t", "\r", "\0", "\x1b[31m", "\u2028", "\xa0", "\u00e4", "d" * 300, "(o" * 700]
+JUDGED = "entails\nfree a b c\nown x\nlet L = (*o)\na join b is c\na is not o\nthen\nx join c is *\nx is not o"
+
+
+def random_rows(random):
+    """Rows for JUDGED, often right."""
+    trees = random.choice([["(*o)", "(o*)", "*"], ["((*o)o)", "((o*)o)", "L"], ["L", "o", "L"], ["o", "o", "o"], ["L", "L", "*"], random.choices(ROW_WORDS, k=3)])
+    lines = [f"{name}{random.choice([' ', ' = ', '='])}{tree}" for name, tree in zip("abc", trees)]
+    for _ in range(random.choice([0, 0, 1, 2])):
+        lines.insert(random.randrange(len(lines) + 1), " ".join(random.choices(ROW_WORDS, k=random.randrange(4))))
+    random.shuffle(lines)
+    return "\n".join(lines).encode()
+
+
+def odd_rows():
+    """Long lines, many lines, deep trees, many words."""
+    for sign in ("a", "(", ")", "*", "o", " ", "\t", "\n", "#", "=", "a ", "( ", "(o", "(o ", "L ", "\0", "\x1b", "\u00e4", "\ufeff", "height 3\n", "a = o\n"):
+        for head in ("", "a ", "a = ", "a = L join ", "b o\nc o\na "):
+            yield (head + sign * 20000).encode()
+    for head, part, tail in (("b o\nc o\na o", " join o", ""), ("b o\nc o\na o", " join o", " join L"), ("a L", " join o", " join L"), ("a L", " join", ""), ("a", " = a", ""),
+                             ("b o\nc o", "\n# a o", "\na o"), ("b o\nc o", "\nanswer no", "\na o"), ("a ((((((((((*o)o)o)o)o)o)o)o)o)o)", "o)", "")):
+        yield (head + part * 40000 + tail).encode()
+    for size in (0, (1 << 20) - 1, 1 << 20):
+        yield b"#" * size
+    for sign in ("(", "(o", "( ", "a ", "=", "o join "):
+        yield ("a = " + sign * (1 << 20))[:1 << 20].encode()
+
+
 def fits(text, errors):
     """Whether errors are one line that prints and names a place inside a text."""
     found = re.fullmatch(r"-:(\d+):(\d+): (.{10,900})\n", errors)
@@ -121,6 +150,40 @@ def test_odd_texts():
         status, out, errors = command("explain", "-", given=text)
         check(f"explain {text[:40]!r}", (status, out.count(b"\n") in (4, 5), errors), (1, True, ""))
     check("line ends before a letter", command("explain", "-", given=b"\n" * 20000 + b"z")[0], 1)
+
+
+def try_rows(rows, question):
+    """Judges rows, and gives what is said of them."""
+    status, out, errors = command("ask", "--judge", question, "-", given=rows)
+    said = out.decode().split("\n")[0].split(":")[0]
+    name = f"ask --judge {rows[:200]!r}"
+    if status == 2:
+        check(name, (out, fits(rows, errors) or errors), (b"", True))
+    else:
+        check(name, (out.count(b"\n"), said in [["accepted"], ["broken", "extends"]][status], errors), (1, True, ""))
+    return said
+
+
+def test_random_rows():
+    """Random rows; --json says the same, and what was judged is judged alike from its bytes."""
+    random, question = Random(33), str(file("rows.shares", JUDGED))
+    seen = []
+    for number in range(500):
+        rows = random_rows(random) if number % 10 else random.randbytes(random.randrange(60))
+        seen.append(try_rows(rows, question))
+        if number % 3 == 0:
+            said = json.loads(command("ask", "--judge", "--json", question, "-", given=rows)[1])
+            check(f"--json of {rows!r}", (said["judgement"] or "", said["error"] is None), (seen[-1], bool(seen[-1])))
+        if number % 5 == 0 and seen[-1]:
+            string = command("ask", "--judge", "--bytes", question, "-", given=rows)[1]
+            check(f"the program judges the bytes of {rows!r}", judging_program(string).split()[0], seen[-1])
+    check("judgements and errors were seen", [word for word in ("accepted", "broken", "extends", "") if seen.count(word) < 15], [])
+
+
+def test_odd_rows():
+    question = str(file("rows.shares", JUDGED))
+    seen = {try_rows(rows, question) for rows in odd_rows()}
+    check("odd rows are judged, too", seen, {"", "broken"})
 
 
 def test_random_strings():

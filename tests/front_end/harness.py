@@ -66,9 +66,10 @@ def command(name, *arguments, given=b""):
     return status, out.buffer.getvalue(), errors.getvalue()
 
 
-def program(string):
-    """What the printing program says of a byte string, as lines, each ended by byte 0A. It says nothing on standard error."""
-    done = subprocess.run([os.environ["ZIMORGAL_CLI"]], input=string, stdout=subprocess.PIPE, stderr=subprocess.PIPE, check=True)
+def program(string, variable="ZIMORGAL_CLI"):
+    """What the printing program, or the one that another variable names, says of a byte string, as lines, each ended by byte 0A. It says nothing
+    on standard error."""
+    done = subprocess.run([os.environ[variable]], input=string, stdout=subprocess.PIPE, stderr=subprocess.PIPE, check=True)
     *lines, rest = done.stdout.decode("ascii").split("\n")
     if rest or done.stderr:
         raise ValueError(f"the program says {done.stdout!r} and {done.stderr!r}")
@@ -79,6 +80,12 @@ def program_says(string):
     """Its first line, or only 'answer' where it answers."""
     said = program(string)[0]
     return "answer" if said in ("answer yes", "answer no") else said
+
+
+def judging_program(string):
+    """The line that the judging program says of a byte string."""
+    [line] = program(string, "ZIMORGAL_JUDGE_CLI")
+    return line
 
 
 def build_caller(archive):
@@ -100,3 +107,8 @@ def library_reads(texts):
 def library_joins(pairs):
     """What the library's join gives for each of some pairs of numbers."""
     return library_calls(b"".join(b"%d+%d\n" % pair for pair in pairs))
+
+
+def library_judges(pairs):
+    """What the library's judge gives for each of some pairs of a question and rows, both as bytes."""
+    return library_calls(b"".join(b"%d&%d:%b%b" % (len(question), len(rows), question, rows) for question, rows in pairs))

@@ -6,11 +6,11 @@ LIKELY = [0x00, 0x01, 0x02, 0x03, 0x0B, 0x0C, 0x0D, 0x10, 0x11, 0x12, 0x13, 0x1F
 CLAUSES = [(0x10, 0x20, 3), (0x11, 0x21, 3), (0x12, 0x22, 2), (0x13, 0x23, 2), (0x30, 0x38, 1), (0x31, 0x39, 1), (0x32, 0x3A, 2)]
 
 
-def random_leaves(random):
-    """Leaves of a tree of any height up to 5."""
-    height = random.randrange(6)
+def random_leaves(random, tallest=5):
+    """Leaves of a tree of any height up to a tallest, unfolded to that."""
+    height = random.randrange(tallest + 1)
     bits = random.getrandbits(1 << height)
-    width = 32 >> height
+    width = (1 << tallest) >> height
     return sum(((1 << width) - 1) << (width * leaf) for leaf in range(1 << height) if bits >> leaf & 1)
 
 

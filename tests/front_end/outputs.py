@@ -14,10 +14,13 @@ from unittest import mock
 from harness import FOLDER, TOP, check, command, file, process, surroundings
 
 ANSWERED = TOP / "examples" / "third_part.shares"
+JUDGED = ("--judge", str(ANSWERED), "judged.rows")
+EXTENDING = "editor ((*o)o)\nplayer ((o*)o)\nboth (*o)\nlogger (o(*o))\nlist (*(*o))\n"
 # Commands that print, with what they are given.
 PRINTING = [("ask", str(ANSWERED)), ("ask", "--bytes", str(ANSWERED)), ("ask", "--plain", str(ANSWERED)), ("ask", "--json", str(ANSWERED)),
             ("ask", "--svg", str(ANSWERED)), ("ask", "--help"), ("explain", "question.bytes"), ("explain", str(ANSWERED)),
-            ("explain", "--help"), ("docs/draw",)]
+            ("explain", "--help"), ("docs/draw",), ("ask", *JUDGED), ("ask", "--json", *JUDGED), ("ask", "--plain", *JUDGED),
+            ("ask", "--bytes", *JUDGED)]
 
 
 def end(arguments, before=None, given=subprocess.DEVNULL, out=subprocess.PIPE, errors=subprocess.PIPE, **environment):
@@ -50,6 +53,8 @@ def lost(why):
 def test_lost_output():
     """Output that cannot be written has a status of its own and one line, with Python's buffers and without."""
     file("question.bytes", bytes.fromhex("01 00 00 00 00"))
+    file("judged.rows", EXTENDING)
+    check("the rows extend", process("ask", *JUDGED)[:2], (1, b"extends: the rows solve the first system, and some own shares extend them to the second\n"))
     for buffers, commands in (({}, PRINTING), ({"PYTHONUNBUFFERED": "1"}, PRINTING[:2])):
         for arguments in commands:
             with open("/dev/full", "wb") as full:
@@ -96,8 +101,10 @@ def test_input():
     closed = (2, "-: it could not be read: it is closed\n")
     check("ask, input closed", end(("ask", "-"), before=lambda: os.close(0)), closed)
     check("explain, input closed", end(("explain", "-"), before=lambda: os.close(0)), closed)
+    check("ask --judge, input closed", end(("ask", "--judge", str(ANSWERED), "-"), before=lambda: os.close(0)), closed)
+    check("ask --judge, a folder", end(("ask", "--judge", str(ANSWERED), ".")), (2, ".: it could not be read: Is a directory\n"))
     check("ask, a folder", end(("ask", ".")), (2, ".: it could not be read: Is a directory\n"))
-    for name in ("ask", "explain --hex"):
+    for name in ("ask", "explain --hex", f"ask --judge {ANSWERED}"):
         with open("/dev/zero", "rb") as zeros:
             check(f"{name}, input without an end", end((*name.split(), "-"), before=small_memory, given=zeros),
                   (2, "-: it could not be read: it has more than 1,048,576 bytes\n"))
@@ -152,6 +159,9 @@ def test_echo():
              b"satisfiable\nfree " + b"a" * (1 << 19), b"satisfiable\n" + b"a" * (1 << 19) + b" is o", b"entails\n\xff\xfe\x80",
              b"satisfiable\nfree a\na is o\rentails", b"satisfiable\na\x85 is o"]
     runs = [(f"text {text[:40]!r}", command("ask", "-", given=text)) for text in texts]
+    rows = [hostile, b"editor " + hostile, b"editor = (" + hostile, b"editor = o join " + hostile, b"a" * (1 << 19), b"editor " + b"a" * (1 << 19),
+            b"editor (*o) " + b"b" * (1 << 19), b"", b"editor \xff\xfe", b"editor o\rplayer o"]
+    runs += [(f"rows {text[:40]!r}", command("ask", "--judge", str(ANSWERED), "-", given=text)) for text in rows]
     runs.append(("hexadecimal", command("explain", "--hex", "-", given=hostile)))
     for name in ("ask", "explain", "docs/draw"):
         runs.append((f"{name}, a file's name", command(name, argument)))
@@ -159,6 +169,9 @@ def test_echo():
         runs.append((f"{name}, an option", command(name, "--" + argument)))
         runs.append((f"{name}, a name that is no text", process(name, b"\xff\xfe")))
     runs.append(("a program's name", process("ask", str(ANSWERED), ZIMORGAL_CLI=argument)))
+    file("judged.rows", EXTENDING)
+    runs.append(("a judging program's name", process("ask", *JUDGED, ZIMORGAL_JUDGE_CLI=argument)))
+    runs.append(("the name of a file with rows", command("ask", "--judge", str(ANSWERED), argument)))
     runs.append(("an empty name", process("ask", "")))
     for name, (status, out, errors) in runs:
         ends = status == (1 if name == "hexadecimal" else 2) and out == b""

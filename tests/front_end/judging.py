@@ -1,0 +1,408 @@
+"""Tests of --judge: rows as text, what is wrong with them, what is said of them, and the library's call beside it."""
+
+import json
+import os
+import re
+from collections import Counter
+from random import Random
+
+import cases
+import make
+from front_end.judge import read_judgement
+from front_end.question import read_question
+from front_end.text import read_text, write_text
+from front_end.trees import write_tree
+from harness import TOP, check, command, file, judging_program, library_judges, process, program, wrong_program
+from joins import Clause, Policy, random_meaning, total, up_to
+
+WORDS = ["refused", "accepted", "broken", "extends"]  # what byte 0 of the library's number says
+ROWS, ROW = 1536, 128  # bytes
+
+# Questions. MIXED has clauses 0 and 1 of its first system in lines 7 and 11; the joins inside INSIDE's line 3 are two clauses.
+WHOLE = "satisfiable\nfree a b c\nlet L = (*o)\n# a comment\na join b is c\na is not o\n  b   is L # left\n"
+MIXED = "entails\nfree a\nown x y\nthen\nx join y is a\nif\na is not o\nthen\nx is not o\nif\na is not *\nthen\ny is not o"
+INSIDE = "satisfiable\nfree a b c d\na join b join c is d\nd is not *"
+FULL_OWN = "entails\nfree a\nown x\na is not *\nthen\nx is not o\nx with a\nx join a is *"
+NAMED = "satisfiable\nfree answer height reason\nlet yes = *\nanswer is yes\nheight is (*o)\nreason is o"
+TALL = "(" * 10 + "*o)" + "o)" * 9  # a tree of height 10
+
+EXTENDS = "extends: the rows solve the first system, and some own shares extend them to the second"
+
+# A question, rows, and what is said of them.
+JUDGED = [
+    (WHOLE, "a = (o*)\nb = L\nc = *", "accepted"),
+    (WHOLE, "c *\na (o*)\nb (*o)\n", "accepted"),
+    (WHOLE, "answer yes\nheight 1\na (o*)\nb (*o)\nc *\n", "accepted"),
+    (WHOLE, "\ufeff# rows\r\n\r\n a=(o*) # a = o\r\nb\t(*o)\n\nc = L join (o*)\r", "accepted"),
+    (WHOLE, b"a (o*) # \xff\xfe\nb L\nc (o(o*)) join L join (o(*o))", "accepted"),
+    (WHOLE, "a = (o*)\nb = L\nc = (*o)", "broken: clause 0, line 5: a join b is c"),
+    (WHOLE, "a = *\nb = L\nc = *", "broken: clause 0, line 5: a join b is c"),
+    (WHOLE, "a = o\nb = L\nc = L", "broken: clause 1, line 6: a is not o"),
+    (WHOLE, "a = L\nb = (o*)\nc = *", "broken: clause 2, line 7: b is L"),
+    (WHOLE, "a = o\nb = o\nc = o", "broken: clause 1, line 6: a is not o"),
+    # Clauses of the second system in between are not counted, and own shares may be taller than the rows.
+    (MIXED, "a = o", "broken: clause 0, line 7: a is not o"),
+    (MIXED, "a = *", "broken: clause 1, line 11: a is not *"),
+    (MIXED, "a = (*o)", EXTENDS),
+    (MIXED, f"a = {TALL}", EXTENDS),
+    (FULL_OWN, "a = (*o)", EXTENDS),
+    (FULL_OWN.replace("x is not o", "x is (*o)"), "a = (o*)", EXTENDS),
+    (FULL_OWN.replace("x is not o", "x is (*o)"), "a = (*o)", "accepted"),
+    (FULL_OWN, "a = *", "broken: clause 0, line 4: a is not *"),
+    # Joins inside a clause: the rows of their variables are not given, and follow from the others.
+    (INSIDE, "a ((*o)o)\nb ((o*)o)\nc (o(*o))\nd (*(*o))", "accepted"),
+    (INSIDE, "a *\nb *\nc o\nd *", "broken: clause 0, line 3: a join b join c is d"),
+    (INSIDE, "a ((*o)o)\nb ((o*)o)\nc (o(*o))\nd *", "broken: clause 1, line 3: a join b join c is d"),
+    (INSIDE, "a ((*o)o)\nb ((o*)o)\nc (*o)\nd (*o)", "broken: clause 1, line 3: a join b join c is d"),
+    (INSIDE, "a ((*o)o)\nb ((o*)o)\nc (o*)\nd *", "broken: clause 2, line 4: d is not *"),
+    # Names that an answer's other lines start with, and a constant that an answer's first line ends with.
+    (NAMED, "answer yes\nheight 1\nreason 3 12\nanswer = yes\nheight (*o)\nreason o", "accepted"),
+    (NAMED, "answer no\nheight 10\nanswer = o\nheight = (*o)\nreason = o\nreason 0", "broken: clause 0, line 4: answer is yes"),
+    # No free variable; no clause; policies; the tallest tree, and the longest text of one.
+    ("satisfiable", "", "accepted"),
+    ("satisfiable", "# nothing\n\nanswer yes\nheight 0\n", "accepted"),
+    ("satisfiable\n* is o", "", "broken: clause 0, line 2: * is o"),
+    ("entails", "", EXTENDS),
+    ("entails\nthen\n* is o", "", "accepted"),
+    ("satisfiable\nfree a b\na may read\na with b\nb may write", "a (*o)\nb (o*)", "broken: clause 2, line 5: b may write"),
+    ("satisfiable\nfree a\na is not o", f"a {TALL}", "accepted"),
+    ("satisfiable\nfree a\na is (((((*o)o)o)o)o)", f"a {TALL}", "broken: clause 0, line 3: a is (((((*o)o)o)o)o)"),
+    ("satisfiable\nfree a b\na join b is *", "a {0}\nb {1}".format(*(write_tree((1 << 1024) // 3 * one, 10) for one in (1, 2))), "accepted"),
+]
+
+DUE, NO_ROW = cases.CONSTANT, "is due before the text ends"
+PART = "entails\nfree a b\nown x\nlet L = (*o)\na is b"
+ALONE = "and rows are those of the free {}alone: leave this line out"
+NAME = "the name of a free variable"
+IN_BYTES = "these are rows in bytes, and no text: the judging program reads them, and behind them what './ask --bytes FILE' writes"
+
+# Rows for PART, and where and why they are refused.
+FAULTS = [
+    ("", f"1:1: no row for a, b: a line for each {NO_ROW}"),
+    ("a = o", f"1:6: no row for b: a line for it {NO_ROW}"),
+    ("\nb o # a = o\n", f"3:1: no row for a: a line for it {NO_ROW}"),
+    ("answer yes\nheight 0\nreason 0", f"3:9: no row for a, b: a line for each {NO_ROW}"),
+    ("a o\n z = o", "2:2: the question names nothing 'z': its free variables are a, b"),
+    ("A o", "1:1: the question names nothing 'A': its free variables are a, b"),
+    ("answer maybe", "1:1: the question names nothing 'answer': its free variables are a, b"),
+    ("height = 3", "1:1: the question names nothing 'height': its free variables are a, b"),
+    ("height 3 2", "1:1: the question names nothing 'height': its free variables are a, b"),
+    ("height 300", "1:1: the question names nothing 'height': its free variables are a, b"),
+    ("reason 3 1 1", "1:1: the question names nothing 'reason': its free variables are a, b"),
+    ("v00 o", "1:1: the question names nothing 'v00': its free variables are a, b"),
+    ("x o", f"1:1: 'x' is an own variable, {ALONE.format('ones ')}"),
+    ("a o\nb o\nx = (*o)", f"3:1: 'x' is an own variable, {ALONE.format('ones ')}"),
+    ("L = (*o)", f"1:1: 'L' is a constant of the question, {ALONE.format('variables ')}"),
+    ("a o\n\nb o\na o", "4:1: 'a' has a row already, in line 1"),
+    ("a o\na", "2:1: 'a' has a row already, in line 1"),
+    ("a", f"1:2: {DUE} is due here, and the line ends"),
+    ("a = # o", f"1:4: {DUE} is due here, and the line ends"),
+    ("a = = o", f"1:5: {DUE} is due here, not '='"),
+    ("= o", f"1:1: {NAME} is due here, not '='"),
+    ("(*o)", f"1:1: {NAME} is due here, not '(*o)'"),
+    ("o *", f"1:1: {NAME} is due here, not 'o'"),
+    ("free a b", f"1:1: {NAME} is due here, not 'free'"),
+    ("7a = o", "1:1: '7a' starts with a digit, and a name does not: write '_7a', for example"),
+    ("a, o", "1:1: names are parted by spaces: write 'a' for 'a,'"),
+    ("a is o", "1:3: '=' or a tree is due here, not 'is': write '=' for it"),
+    ("a is not o", "1:3: '=' or a tree is due here, not 'is': write '=' for it"),
+    ("a = 1", "1:5: '1' is no share: write 'o' for the empty one, '*' for the full one"),
+    ("a 0", "1:3: '0' is no share: write 'o' for the empty one, '*' for the full one"),
+    ("a = b", f"1:5: {DUE} is due here, and 'b' is a variable"),
+    ("a = L join x", f"1:12: {DUE} is due here, and 'x' is a variable"),
+    ("a = R", f"1:5: {DUE} is due here, and the question has no constant 'R'"),
+    ("a = L join", f"1:11: {DUE} is due here, and the line ends"),
+    ("a = L L", "1:7: 'join' or the end of the line is due here, not 'L'"),
+    ("a (*o) (o*)", "1:8: 'join' or the end of the line is due here, not '(o*)'"),
+    ("a = L join (o*) join (o(o*))", f"1:22: {cases.UNDEFINED.format('(o(o*))', '*', '(o(o*))')}"),
+    ("a (*", "1:5: no tree text: it ends before the tree does"),
+    ("a = (*x)", "1:7: no tree text: '(', 'o' or '*' is due here, not 'x'"),
+    ("a = *o", "1:6: no tree text: the tree ends before this character"),
+    ("a = (o *)", "1:7: tree text has no spaces: write '(o*)'"),
+    ("a = (o " + "(o " * 9 + "*" + ")" * 10, "1:7: tree text has no spaces: write '" + "(o" * 10 + "*" + ")" * 10 + "'"),
+    ("a = (o(**))", "1:7: a pair of two equal leaves must be folded: write '*' for '(**)'"),
+    (f"a = ({TALL}o)", "1:15: the tree is too tall: at most 10 pairs may stand one in the other"),
+    (f"a {'(o' * 1600}", "1:3073: no tree text: it is too long: a folded tree with at most 10 pairs one in the other has at most 3,070 characters"),
+    ("a (*o)\rb = o", "1:7: a line break (U+000D) stands here that is no line feed: end each line with a line feed"),
+    ("a = o # \u202e", "1:9: a character (U+202E) stands here that turns the order of what is shown: remove it"),
+    ("a\0 = o", "1:2: a byte 00 stands here, so this is no UTF-8: save the text as UTF-8"),
+    (b"\xff\xfea\0", "1:1: the text is in UTF-16: save it as UTF-8"),
+    # Rows in bytes, and a byte fewer or more.
+    (bytes(ROWS), f"1:1: {IN_BYTES}"),
+    (b"\xff" * ROW + b"\xc3\xa4" + bytes(ROWS - ROW - 2), f"1:1: {IN_BYTES}"),
+    (bytes(ROWS - 1), "1:1: a byte 00 stands here, so this is no UTF-8: save the text as UTF-8"),
+    (bytes(ROWS + 1), "1:1: a byte 00 stands here, so this is no UTF-8: save the text as UTF-8"),
+    (b"\xff o", f"1:1: {NAME} is due here, not '\\xff'"),
+]
+
+
+def as_bytes(text):
+    return text if isinstance(text, bytes) else text.encode()
+
+
+def judged(question, rows, *options):
+    """Judges rows for a question, both as text, inside this process."""
+    return command("ask", "--judge", *options, str(file("question.shares", as_bytes(question))), "-", given=as_bytes(rows))
+
+
+def plain(said):
+    """What the judging program says where ask says so."""
+    return re.sub(r"^(broken): clause (\d+),.*|^(extends): .*", lambda found: f"{found[1]} {found[2]}" if found[1] else found[3], said)
+
+
+def packed(said):
+    """The number that the library gives where the judging program says so."""
+    word, *numbers = said.split()
+    if word == "refused":
+        return int(numbers[0]) << 8 | int(numbers[2]) << 16
+    return WORDS.index(word) | int(numbers[0] if numbers else 0) << 32
+
+
+def test_judged():
+    """Rows that were worked by hand; the bytes that ask hands over are judged alike by the program and by the library."""
+    for question, rows, due in JUDGED:
+        name, status = f"{rows!r} for {question!r}", int(due != "accepted")
+        check(name, judged(question, rows), (status, f"{due}\n".encode(), ""))
+        check(f"--plain: {name}", judged(question, rows, "--plain"), (status, f"{plain(due)}\n".encode(), ""))
+        status, string, errors = judged(question, rows, "--bytes")
+        due_bytes = command("ask", "--bytes", "-", given=as_bytes(question))[1]
+        check(f"--bytes: {name}", (status, string[ROWS:], errors), (0, due_bytes, ""))
+        check(f"the program: {name}", judging_program(string), plain(due))
+        check(f"the library: {name}", library_judges([(string[ROWS:], string[:ROWS])]), [packed(plain(due))])
+
+
+def test_row_bytes():
+    """Which bytes rows are: leaf i is bit i mod 8 of byte i div 8, and rows of no free variable are zero."""
+    question = "entails\nfree a b c\nown x\nlet L = (*o)\na join b join c is *"
+    string = judged(question, f"c {TALL}\na = L join (o(o*))\nb *", "--bytes")[1]
+    due = b"\xff" * 64 + bytes(32) + b"\xff" * 32 + b"\xff" * 128 + b"\1" + bytes(127)
+    check("rows of the named variables", string[:3 * ROW], due)
+    check("the row of a join that is undefined, and of no free variable", string[3 * ROW:ROWS], bytes(9 * ROW))
+    string = judged(question, "a (*o)\nb (o(*o))\nc o", "--bytes")[1]
+    check("the row of a join", string[3 * ROW:4 * ROW], b"\xff" * 96 + bytes(32))
+
+
+def test_row_faults():
+    for rows, due in FAULTS:
+        check(f"fault of rows {rows[:60]!r}", judged(PART, rows), (2, b"", f"-:{due}\n"))
+    nothing = "the question names nothing 'a': it has no free variable"
+    check("rows for no variable", judged("satisfiable", "a = o"), (2, b"", f"-:1:1: {nothing}\n"))
+    long = "satisfiable\n" + "".join(f"free {sign * 255}\n" for sign in "abc")
+    errors = judged(long, "")[2]
+    check("long names", (len(errors) < 500, "..." in errors, errors.count("\n")), (True, True, 1))
+
+
+def test_judge_command():
+    """Ways to call it: which file is at fault, standard input once, what cannot be asked for together."""
+    question, rows = file("judge.shares", WHOLE).name, file("judge.rows", "a (o*)\nb (*o)\nc *\n").name
+    check("two files", process("ask", "--judge", question, rows), (0, b"accepted\n", ""))
+    check("the question from standard input", process("ask", "--judge", "-", rows, given=WHOLE.encode()), (0, b"accepted\n", ""))
+    check("the rows from standard input", process("ask", question, "-", "--judge", given=b"a o\nb L\nc L"),
+          (1, b"broken: clause 1, line 6: a is not o\n", ""))
+    check("an error in the question comes first", process("ask", "--judge", "-", "none.rows", given=b"entails\nfree a a"),
+          (2, b"", "-:2:8: 'a' is defined already, in line 2\n"))
+    check("no such rows", process("ask", "--judge", question, "none.rows"), (2, b"", "none.rows: it could not be read: No such file or directory\n"))
+    check("an error in the rows names their file", process("ask", "--judge", question, file("faulty.rows", "a o\nb p").name),
+          (2, b"", f"faulty.rows:2:3: {DUE} is due here, and the question has no constant 'p'\n"))
+    found = process("ask", "--judge", question, "faulty.rows", ZIMORGAL_JUDGE_CLI="no/program")
+    check("an error in the rows comes before the program's", found[2][:12], "faulty.rows:")
+    check("--bytes runs no program", process("ask", "--judge", "--bytes", question, rows, ZIMORGAL_JUDGE_CLI="no/program")[0], 0)
+    check("the printing program is not run", process("ask", "--judge", question, rows, ZIMORGAL_CLI="no/program")[0], 0)
+    for arguments, due in [((question,), "--judge takes two files, FILE and ROWS"), ((question, rows, rows), "--judge takes two files, FILE and ROWS"),
+                           (("--svg", question, rows), "--svg draws answers, and --judge has none"),
+                           (("-", "-"), "'-' may stand once: standard input is read to its end")]:
+        check(f"ask --judge {arguments}", process("ask", "--judge", *arguments), (2, b"", f"{due} ('ask --help' says what may be written)\n"))
+    help_text = process("ask", "--help")[1].decode()
+    missing = [form for form in ("writer = (*o)", "reader (o(*o))", "rest = L join (o(*o))") if not re.search(f"^ +{re.escape(form)}  ", help_text, re.M)]
+    check("the help has the forms of a row", missing, [])
+
+
+def test_pasted():
+    """The answer to each example that shows a solution, pasted back, is accepted; of the others the rows are missing."""
+    seen = Counter()
+    for example in sorted((TOP / "examples").glob("*.shares")):
+        answer = command("ask", str(example))[1]
+        found = command("ask", "--judge", str(example), "-", given=answer)
+        if b"\nheight " in answer:
+            check(f"the answer to {example.name}", found, (0, b"accepted\n", ""))
+        else:
+            check(f"the answer to {example.name} shows nothing", (found[0], "no row for" in found[2]), (2, True))
+        seen[found[0]] += 1
+    check("examples of both sorts", (seen[0] >= 10, seen[2] >= 5), (True, True))
+
+
+KEYS = ["file", "rows", "judgement", "question", "meaning", "clause", "error"]
+# A question and rows, the status, and what --json says of them, but for the files.
+OBJECTS = [
+    (WHOLE, "a (o*)\nb L\nc *", 0, {"judgement": "accepted", "question": "satisfiable", "meaning": "the rows solve the system"}),
+    (WHOLE, "a L\nb (o*)\nc *", 1, {"judgement": "broken", "question": "satisfiable", "clause": {"number": 2, "line": 7, "text": "b is L"},
+                                    "meaning": "the rows break a clause of the system; the lowest that they break is named"}),
+    (MIXED, "a *", 1, {"judgement": "broken", "question": "entails", "clause": {"number": 1, "line": 11, "text": "a is not *"},
+                       "meaning": "the rows break a clause of the first system; the lowest that they break is named"}),
+    (MIXED, "a (*o)", 1, {"judgement": "extends", "question": "entails",
+                          "meaning": "the rows solve the first system, and some own shares extend them to the second"}),
+    ("entails\nfree a\nthen\na is *", "a (*o)", 0, {"judgement": "accepted", "question": "entails",
+                                                    "meaning": "the rows solve the first system, and no own shares extend them to the second"}),
+    (WHOLE, "a o\nb L", 2, {"error": {"file": "json.rows", "line": 2, "column": 4, "message": f"no row for c: a line for it {NO_ROW}"}}),
+    ("entails a", "", 2, {"error": {"file": "json.shares", "line": 1, "column": 9, "message": "the end of the line is due here, not 'a'"}}),
+]
+
+
+def test_judge_json():
+    """--json: one object on a line, always with the same keys."""
+    for question, rows, status, said in OBJECTS:
+        names = file("json.shares", question).name, file("json.rows", rows).name
+        due = {key: None for key in KEYS} | dict(zip(("file", "rows"), names)) | said
+        found = process("ask", "--judge", "--json", *names)
+        check(f"--json of {rows!r} for {question!r}", (found[0], json.loads(found[1]), found[2]), (status, due, ""))
+        check(f"the keys for {question!r}", (list(json.loads(found[1])), found[1].count(b"\n"), found[1].isascii()), (KEYS, 1, True))
+    question, silent = file("judge.shares", "entails").name, wrong_program("wrong", "exit 0")
+    for rows, at, message in [("none.rows", "none.rows", "it could not be read: No such file or directory"),
+                              ("json.rows", question, "the judging program gave no judgement: it printed nothing")]:
+        status, out, errors = process("ask", "--judge", "--json", question, rows, ZIMORGAL_JUDGE_CLI=silent)
+        due = {"file": at, "line": None, "column": None, "message": message}
+        check(f"--json, {message}", (status, json.loads(out)["error"], errors), (2, due, ""))
+
+
+# What is no whole judgement of rows for MIXED, which has two clauses in its first system.
+NO_JUDGEMENT = ["", "accepted", "accepted\n\n", "accepted 0\n", "accept\n", "broken\n", "broken \n", "broken 2\n", "broken 00\n", "broken 01\n", "broken -1\n",
+                "broken 1", "broken 1 \n", " broken 1\n", "broken \u0661\n", "broken 1\nextends\n", "extends 0\n", "extends", "Extends\n", "refused 18 at 0\n",
+                "accepted\r\n", "answer yes\n", "broken " + "1" * 9999 + "\n"]
+
+
+def test_whole_judgements():
+    """Each judgement is taken, and nothing that is lost, cut or not one of these rows."""
+    mixed, whole = read_text(MIXED), read_text(WHOLE)
+    for said in ("accepted\n", "broken 0\n", "broken 1\n", "extends\n"):
+        check(f"{said!r} is taken", read_judgement(said, mixed).plain() + "\n", said)
+        for length in range(len(said)):
+            check(f"{said[:length]!r} is cut", read_judgement(said[:length], mixed), None)
+    for said in NO_JUDGEMENT:
+        check(f"{said!r} is no judgement", read_judgement(said, mixed), None)
+    check("rows of a satisfiability do not extend", (read_judgement("extends\n", whole), read_judgement("broken 2\n", whole).clause), (None, 2))
+    check("the third clause is the last", read_judgement("broken 3\n", whole), None)
+
+
+def test_lost_judgements():
+    """A judging program that does not do its work."""
+    names = file("judge.shares", WHOLE).name, file("judge.rows", "a (o*)\nb (*o)\nc *\n").name
+    real = f'"{os.environ["ZIMORGAL_JUDGE_CLI"]}"'
+    for script, due in [(f"{real} | head -c 8", "gave no whole judgement: it printed 'accepted'"), (f"{real}; exit 3", "ended with status 3"),
+                        (f"{real}; kill -9 $$", "was ended by signal 9"), ("exit 0", "gave no judgement: it printed nothing"),
+                        ("echo lost >&2", "gave no judgement: it printed nothing; its error: lost"),
+                        ("echo broken 3", "gave no whole judgement: it printed 'broken 3\\n'"),
+                        ("echo extends", "gave no whole judgement: it printed 'extends\\n'"),
+                        ("echo refused 19 at 0", "refused the rows and the question: refused 19 at 0")]:
+        found = process("ask", "--judge", *names, ZIMORGAL_JUDGE_CLI=wrong_program("wrong", script))
+        check(f"a program that does {script}", found, (2, b"", f"judge.shares: the judging program {due}\n"))
+    due = "judge.shares: the judging program no/program could not be run: No such file or directory ($ZIMORGAL_JUDGE_CLI names it)\n"
+    check("no such program", process("ask", "--judge", *names, ZIMORGAL_JUDGE_CLI="no/program"), (2, b"", due))
+    warned = process("ask", "--judge", *names, ZIMORGAL_JUDGE_CLI=wrong_program("wrong", f"echo warning >&2; {real}"))
+    check("a warning beside a judgement", warned, (0, b"accepted\n", "judge.shares: warning\n"))
+
+
+def solution(string):
+    """The shown shares of a question in bytes, as tree texts; None where nothing is shown."""
+    lines = program(string)
+    return [line[4:] for line in lines if re.match(r"v\d\d ", line)] if lines[1:] and lines[1].startswith("height ") else None
+
+
+def candidates(random, shown, free):
+    """Rows for a question: those that are shown, those with one changed, and any."""
+    if shown is not None:
+        yield shown
+    for _ in range(2 if shown else 0):
+        changed = shown[:]
+        changed[random.randrange(free)] = random.choice([*shown, "o", "*", write_tree(make.random_leaves(random, 10), 10)])
+        yield changed
+    for tallest in (0, 2, 10) if free else ():
+        yield [write_tree(make.random_leaves(random, tallest), tallest) for _ in range(free)]
+
+
+def test_beside_the_library():
+    """Random questions and rows, by ask, by the program and by the library. What is shown is accepted."""
+    random, seen = Random(31), Counter()
+    for _ in range(150):
+        string = make.random_question(random)
+        asked = read_question(string)
+        text, shown = write_text(asked), solution(string)
+        for trees in candidates(random, shown, asked.free):
+            rows = "".join(f"v{number:02} {tree}\n" for number, tree in enumerate(trees))
+            status, given, errors = judged(text, rows, "--bytes")
+            check(f"the bytes of {rows!r} for {text!r}", (status, len(given), given[ROWS:], errors), (0, ROWS + len(string), string, ""))
+            [number] = library_judges([(string, given[:ROWS])])
+            said = judging_program(given)
+            check(f"program and library, {rows!r} for {text!r}", packed(said), number)
+            check(f"ask, {rows!r} for {text!r}", judged(text, rows, "--plain"), (int(said != "accepted"), f"{said}\n".encode(), ""))
+            if trees == shown:
+                check(f"what is shown for {text!r}", said, "accepted")
+            seen[said.split()[0]] += 1
+    check("every judgement was seen", [word for word in WORDS[1:] if seen[word] < 15], [])
+
+
+def test_library_refusals():
+    """Refusals, which ask never meets: of the question first, then of the rows' length, then of a bit in a row of no free variable."""
+    question, faulty = bytes.fromhex("01 01 01 01 00"), bytes.fromhex("01 01 01 01 04")
+    zero, own, last = bytes(ROWS), bytes(ROW) + b"\1" + bytes(ROWS - ROW - 1), bytes(ROWS - 1) + b"\x80"
+    due = [(question, zero, 3), (question, own, 19 << 8), (question, last, 19 << 8), (question, b"\xff" * ROW + bytes(ROWS - ROW), 3),
+           (faulty, own, 3 << 8 | 4 << 16), (b"", b"", 1 << 8)]
+    due += [(question, bytes(length), 18 << 8) for length in (0, 1, ROW, ROWS - 1, ROWS + 1, 2 * ROWS)]
+    due += [(question, own + b"\0", 18 << 8), (faulty, b"", 3 << 8 | 4 << 16)]
+    given = library_judges([pair[:2] for pair in due])
+    for (string, rows, number), found in zip(due, given):
+        check(f"{string.hex()} with {len(rows)} bytes of rows", hex(found), hex(number))
+        if len(rows) == ROWS:
+            check(f"the program, {string.hex()}", packed(judging_program(rows + string)), number)
+
+
+def first_undefined(words, shares):
+    """At which join, from 0, the joins of some shares from the left are undefined first; None where none is."""
+    return next((number for number in range(len(words) - 1) if total(words[:number + 2], shares) is None), None)
+
+
+def parts(clause):
+    """How many clauses a clause of a text is in bytes."""
+    joins = len(clause.left) - 1 + max(len(clause.right) - 1, 0)
+    return joins + 1 if isinstance(clause, Policy) else 1 if clause.negated else max(joins, 1)
+
+
+def broken_part(clause, shares):
+    """Which of them is the first that is broken, where the clause is."""
+    if isinstance(clause, Clause) and parts(clause) == 1:
+        return 0
+    left, right = first_undefined(clause.left, shares), first_undefined(clause.right, shares)
+    return left if left is not None else parts(clause) - 1 if right is None else len(clause.left) - 1 + right
+
+
+def meant(meaning, shares):
+    """What is to be said of shares, by the definitions; the own ones are gone through."""
+    lines, number = meaning.text().split("\n"), 0
+    for system, clause in meaning.clauses:
+        if system == 0 and not clause.holds(shares):
+            return f"broken: clause {number + broken_part(clause, shares)}, line {{}}: {clause}"
+        number += parts(clause) if system == 0 else 0
+    check(f"the clauses of {lines}", number >= len(meaning.first), True)
+    if meaning.kind == 0:
+        return "accepted"
+    return EXTENDS if any(all(had) for had in meaning.beside(shares)) else "accepted"
+
+
+def test_judged_meaning():
+    """Random questions with joins inside and rows no taller than is shown, against what the clauses mean."""
+    random, seen = Random(32), Counter()
+    while min(seen[key] for key in [(word, inside) for word in WORDS[1:] for inside in (False, True)]) < 25 and sum(seen.values()) < 4000:
+        meaning = random_meaning(random)
+        if meaning.variables() > 12 or meaning.cost() > 1 << 15:
+            continue
+        values = [random.choice(list(up_to(random.randrange(meaning.height + 1), meaning.levels))) for _ in meaning.free]
+        solutions = list(meaning.solutions()) if random.randrange(2) else []
+        shares = random.choice(solutions) if solutions else {**meaning.constants, **dict(zip(meaning.free, values))}
+        rows = "".join(f"{name} {write_tree(shares[name], meaning.levels)}\n" for name in meaning.free)
+        due = meant(meaning, shares)
+        status, out, errors = judged(meaning.text(), rows)
+        line = re.search(r"line (\d+): (.*)", out.decode())
+        if line:
+            check(f"the line that is named, {rows!r} for {meaning.text()!r}", meaning.text().split("\n")[int(line[1]) - 1], line[2])
+        check(f"{rows!r} for {meaning.text()!r}", (status, re.sub(r"line \d+", "line {}", out.decode()), errors), (int(due != "accepted"), f"{due}\n", ""))
+        seen[re.match(r"\w+", due)[0], any(clause.fresh() for clause in meaning.first)] += 1
+    check("every judgement was seen, with joins inside and without", min(seen.values()) >= 25 and len(seen) == 6, True)
