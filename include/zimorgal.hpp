@@ -1077,10 +1077,10 @@ struct Judged {
 // The fields of what zimorgal_judge gives.
 constexpr Judged decode_judged(std::uint64_t number) noexcept {
     const auto judgement = static_cast<Judgement>(zimorgal_judgement(number));
-    std::optional<std::size_t> clause;
-    if (judgement == Judgement::broken) clause = zimorgal_broken_clause(number);
+    const std::optional<std::size_t> clause = zimorgal_broken_clause(number);
     return {judgement, static_cast<Refusal>(zimorgal_judge_refusal(number)),
-            static_cast<std::uint16_t>(zimorgal_judge_place(number)), clause};
+            static_cast<std::uint16_t>(zimorgal_judge_place(number)),
+            judgement == Judgement::broken ? clause : std::nullopt};
 }
 
 // Judges rows as a solution of a question: bytes from wherever they come, rows that were put together, or a shown solution.
