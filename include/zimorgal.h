@@ -56,8 +56,9 @@
 #define ZIMORGAL_TEXT_BYTES 3070        /* no tree text of a row is longer */
 #define ZIMORGAL_CONSTANT_TEXT_BYTES 94 /* no tree text of a constant is longer */
 
-/* Enough stack for a thread that calls. A call touches under 8 KB; the rest is for the thread, for a signal's frame
-   and for buffers of the caller. tests/cpp/stack.cpp measures it, and runs threads with exactly this much. */
+/* Enough stack for a thread that calls. Judging touches under 16 KB, any other call under 8 KB; the rest is for the thread,
+   for a signal's frame and for buffers of the caller. tests/cpp/stack.cpp measures it, and runs threads with exactly this
+   much. */
 #define ZIMORGAL_STACK_BYTES 32768
 
 /* What the compiler is told of a part that is lent: its pointer and its length, as numbers of arguments. */
