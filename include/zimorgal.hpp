@@ -31,6 +31,8 @@
 // Question is one that the library accepts, at any time, whatever values a step was given. A Draft takes steps without a
 // test after each and keeps the first error.
 //
+// A solution that someone else found is put together as Rows, or is there as bytes, and judge() says whether it is one.
+//
 // Nothing here throws, and nothing uses the heap but str(). Each value belongs to one thread at a time; the threads share
 // only an atomic counter, from which questions are told apart.
 #ifndef ZIMORGAL_HPP
@@ -480,7 +482,7 @@ class Question {
         if (!sort.disequation && count == most_positives) return Error::too_many_positives;
 
         for (std::size_t i = 0; i < sort.terms; ++i)
-            if (const Error error = judge(system, clause.terms[i]); error != Error::none) return error;
+            if (const Error error = fault_of(system, clause.terms[i]); error != Error::none) return error;
 
         std::size_t at = size_ - 1;  // over the end
         bytes_[at++] = sort.command[second];
@@ -536,14 +538,14 @@ class Question {
         if (identity_ == 0) identity_ = detail::next_identity();
     }
 
-    Error judge(System system, const Term& term) const noexcept {
-        if (term.sort_ == Term::Sort::constant) return judge(term.constant_);
+    Error fault_of(System system, const Term& term) const noexcept {
+        if (term.sort_ == Term::Sort::constant) return fault_of(term.constant_);
         const bool own = term.sort_ == Term::Sort::own;
         if (term.number_ >= (own ? own_variables() : free_variables())) return Error::names_nothing;
         return own && system == System::first ? Error::own_variable_in_first : Error::none;
     }
 
-    Error judge(const Constant& constant) const noexcept {
+    Error fault_of(const Constant& constant) const noexcept {
         if (constant.question_ == 0) return Error::names_nothing;
         const bool known = constant.question_ == identity_ && constant.number_ < constants_ &&
                            constant.leaves_ == leaves_of(constant.number_);
@@ -599,6 +601,9 @@ class Draft {
     Error error() const noexcept { return error_; }
     std::size_t step() const noexcept { return steps_; }
     std::size_t place() const noexcept { return place_; }
+
+    // How many clauses a system has so far: the number of the next one.
+    std::size_t clauses(System system) const noexcept { return question_.clauses(system); }
 
     // Gives the question if every step was taken. Otherwise it says the first error and leaves `question` as it was.
     [[nodiscard]] Error finish(Question& question) const noexcept {

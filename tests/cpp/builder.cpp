@@ -547,6 +547,7 @@ void drafts() {
     draft.first(not_equal(v0, half)).second(join(v0, own0, whole)).add(System::second, not_equal(own0, whole));
     Question question;
     check(draft.error() == Error::none && draft.step() == 6 && draft.finish(question) == Error::none, "a draft");
+    check(draft.clauses(System::first) == 1 && draft.clauses(System::second) == 2, "counts of clauses of a draft");
     check(copy(question) == String{0x01, 0x01, 0x01, 0x01, 0x03, 0xFF, 0xFF, 0xFF, 0xFF, 0x03, 0xFF, 0xFF, 0x00,
                                    0x00, 0x13, 0x00, 0x21, 0x20, 0x00, 0x01, 0x20, 0x23, 0x01, 0x20, 0x00},
           "bytes of a draft");
@@ -1040,8 +1041,11 @@ void clauses_by_number() {
     const char* const second[] = {"v00 join v02 is v01", "v02 is not (*o)", ""};
     for (std::size_t i = 0; i < 4; ++i) check(text_of(question, System::first, i).str() == first[i], first[i]);
     for (std::size_t i = 0; i < 3; ++i) check(text_of(question, System::second, i).str() == second[i], second[i]);
-    const auto third = static_cast<System>(2);
-    check(question.clauses(third) == 0 && text_of(question, third, 0).str().empty(), "there is no third system");
+    for (unsigned i = 2; i < 256; ++i) {
+        const auto other = static_cast<System>(i);
+        if (question.clauses(other) != 0 || !text_of(question, other, 0).str().empty())
+            check(false, "there is no system " + std::to_string(i));
+    }
     check(text_of(question, System::first, static_cast<std::size_t>(-1)).str().empty(), "a number past all");
     std::ostringstream out;
     out << text_of(question, System::first, 2);
