@@ -1,10 +1,11 @@
 // Two threads of a lighting desk hold parts of a cue list. This program asks what an analyser would ask before it lets
-// a third thread in or lets the next line write.
+// a third thread in or lets the next line write, and judges what another prover found.
 //
 //     g++ -std=c++17 -Iinclude examples/cue_list.cpp target/staticlib/libzimorgal.a -o cue_list && ./cue_list
 //
 // It writes examples/cue_list.out.
 #include <cstdlib>
+#include <initializer_list>
 #include <iomanip>
 #include <iostream>
 
@@ -62,6 +63,40 @@ void report(const char* asked, const Question& question, zimorgal::Workspace& wo
         std::cout << "    " << std::left << std::setw(10) << names[i] << solution.text(Free{i}) << '\n';
 }
 
+// Judges what another prover found, a tree text for each free variable, and writes what comes of it.
+void report_judged(const char* judged, const Question& question, std::initializer_list<const char*> found) {
+    std::cout << judged << '\n';
+    zimorgal::Rows rows;
+    std::size_t variable = 0;
+    for (const char* const share : found) {
+        std::cout << "    " << std::left << std::setw(10) << names[variable] << share << '\n';
+        take(rows.set(Free{variable++}, share).error);
+    }
+    const zimorgal::Judged result = judge(question, rows);
+    std::cout << "  " << describe(result.judgement);
+    if (result.clause) std::cout << ": " << text_of(question, zimorgal::System::first, *result.clause);
+    std::cout << '\n';
+}
+
+// What another prover found: that a third thread may read, and that there is not always a part left.
+void other_prover() {
+    Question question;
+    take(question.start_satisfiability(4));
+    two_threads(question);
+    third_thread(question);
+    report_judged("Another prover lets the third thread read. Is it right?", question,
+                  {"((*o)o)", "((o*)o)", "(*o)", "(o*)"});
+    report_judged("And these parts?", question, {"(*o)", "(o*)", "*", "(o(o*))"});
+
+    take(question.start_entailment(3, 1));
+    const Own rest{0};
+    two_threads(question);
+    take(question.second(together(both, rest)));
+    take(question.second(may_read(rest)));
+    report_judged("Another prover says that there may be no part left. Is it right?", question, {"(*o)", "(o*)", "*"});
+    report_judged("And these parts?", question, {"(*o)", "(o(*o))", "(*(*o))"});
+}
+
 }  // namespace
 
 int main() {
@@ -107,4 +142,6 @@ int main() {
     take(question.second(together(both, rest)));
     take(question.second(may_read(rest)));
     report("Is there always a part left with which one thread more may read?", question, workspace);
+
+    other_prover();
 }

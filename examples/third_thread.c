@@ -1,5 +1,5 @@
 /* Two threads of a lighting desk hold parts of a cue list. This program asks in C what an analyser would ask before it
-   lets a third thread in.
+   lets a third thread in, and judges what another prover found.
 
        gcc -std=c99 -Iinclude examples/third_thread.c target/staticlib/libzimorgal.a -o third_thread && ./third_thread
 
@@ -79,6 +79,37 @@ static void report(const char *asked, const uint8_t *question, size_t length) {
     write_solution(question[2]);
 }
 
+/* Puts a constant in the row of a variable: each of its 32 leaves is 4 bytes there. */
+static void put_row(uint8_t *rows, size_t variable, uint32_t leaves) {
+    for (size_t i = 0; i < ZIMORGAL_ROW_BYTES; ++i)
+        rows[variable * ZIMORGAL_ROW_BYTES + i] = leaves >> i / 4 & 1 ? 0xFF : 0x00;
+}
+
+/* Judges what another prover found, a tree text for each free variable, and writes what comes of it. */
+static void report_judged(const char *judged, const uint8_t *question, size_t length, const char *const *found) {
+    static uint8_t rows[ZIMORGAL_ROWS_BYTES];
+    memset(rows, 0, sizeof rows);
+    printf("%s\n", judged);
+    for (size_t variable = 0; variable < question[2]; ++variable) {
+        const uint64_t read = zimorgal_constant((const uint8_t *)found[variable], strlen(found[variable]));
+        if (zimorgal_constant_refusal(read) != ZIMORGAL_ACCEPTED) return;
+        put_row(rows, variable, zimorgal_constant_leaves(read));
+        printf("    %-10s%s\n", names[variable], found[variable]);
+    }
+    const uint64_t result = zimorgal_judge(question, length, rows, sizeof rows);
+    printf("  %s", zimorgal_describe_judgement(zimorgal_judgement(result)));
+    if (zimorgal_judgement(result) == ZIMORGAL_CLAUSE_BROKEN) printf(", number %u", zimorgal_broken_clause(result));
+    if (zimorgal_judgement(result) == ZIMORGAL_NOT_JUDGED)
+        printf(": %s", zimorgal_describe_refusal(zimorgal_judge_refusal(result)));
+    printf("\n");
+}
+
+/* What another prover found, for the first question and for the second. */
+static const char *const three_parts[] = {"((*o)o)", "((o*)o)", "(*o)", "(o*)"};
+static const char *const none_for_the_recorder[] = {"(*o)", "(o*)", "*", "o"};
+static const char *const nothing_left[] = {"(*o)", "(o*)", "*"};
+static const char *const half_left[] = {"(*o)", "o", "(*o)"};
+
 /* Reads two shares as a tester types them, and writes whether they join. */
 static void report_join(const char *left, const char *right) {
     const char *const typed[] = {left, right};
@@ -107,6 +138,12 @@ int main(void) {
     report("Two threads may read the cue list. May a third read it as well?", third_thread, sizeof third_thread);
     report("Is there always a part left that would make theirs whole?", part_left, sizeof part_left);
     report("And a question with a mistake?", mistaken, sizeof mistaken);
+    report_judged("Another prover lets the third thread read. Is it right?", third_thread, sizeof third_thread,
+                  three_parts);
+    report_judged("And these parts?", third_thread, sizeof third_thread, none_for_the_recorder);
+    report_judged("Another prover says that no part need be left. Is it right?", part_left, sizeof part_left,
+                  nothing_left);
+    report_judged("And these parts?", part_left, sizeof part_left, half_left);
     report_join("(*o)", "(o*)");
     report_join("(*o)", "((o*)o)");
     report_join("(*o)", "(o(**))");

@@ -52,11 +52,13 @@
 #define ZIMORGAL_ANSWER_BYTES 1536      /* an answer buffer has at least as many: 12 rows */
 #define ZIMORGAL_WORK_BYTES 4096        /* a work area has at least as many */
 #define ZIMORGAL_ROW_BYTES 128          /* a shown share, unfolded to height 10: 1,024 leaves */
+#define ZIMORGAL_ROWS_BYTES 1536        /* rows to be judged have exactly as many: 12 rows */
 #define ZIMORGAL_TEXT_BYTES 3070        /* no tree text of a row is longer */
 #define ZIMORGAL_CONSTANT_TEXT_BYTES 94 /* no tree text of a constant is longer */
 
-/* Enough stack for a thread that calls. A call touches under 8 KB; the rest is for the thread, for a signal's frame
-   and for buffers of the caller. tests/cpp/stack.cpp measures it, and runs threads with exactly this much. */
+/* Enough stack for a thread that calls. Judging touches under 16 KB, any other call under 8 KB; the rest is for the thread,
+   for a signal's frame and for buffers of the caller. tests/cpp/stack.cpp measures it, and runs threads with exactly this
+   much. */
 #define ZIMORGAL_STACK_BYTES 32768
 
 /* What the compiler is told of a part that is lent: its pointer and its length, as numbers of arguments. */
@@ -87,7 +89,7 @@ enum zimorgal_kind { ZIMORGAL_SATISFIABILITY = 0, ZIMORGAL_ENTAILMENT = 1 };
 
 enum zimorgal_verdict { ZIMORGAL_REFUSED = 0, ZIMORGAL_YES = 1, ZIMORGAL_NO = 2 };
 
-/* Why a question, a buffer or a tree text is turned away. */
+/* Why a question, a buffer, a tree text or rows are turned away. */
 enum zimorgal_refusal {
     ZIMORGAL_ACCEPTED = 0,
     /* whoever writes the question */
@@ -109,7 +111,10 @@ enum zimorgal_refusal {
     /* whoever writes the tree text of a constant */
     ZIMORGAL_NOT_TREE_TEXT = 15, /* a text over 94 bytes, or no tree text */
     ZIMORGAL_NOT_FOLDED = 16,    /* a pair that could be folded */
-    ZIMORGAL_TOO_TALL = 17       /* a tree taller than 5 */
+    ZIMORGAL_TOO_TALL = 17,      /* a tree taller than 5 */
+    /* whoever writes the rows to be judged */
+    ZIMORGAL_NOT_12_ROWS = 18, /* rows that are not exactly 1,536 bytes */
+    ZIMORGAL_ROW_NOT_ZERO = 19 /* a bit set in the row of no free variable */
 };
 
 /* Why an entailment is answered yes or no. A satisfiability question has reason 0. */
@@ -118,6 +123,14 @@ enum zimorgal_reason {
     ZIMORGAL_FIRST_UNSOLVABLE = 1, /* yes, because the first system has no solution */
     ZIMORGAL_POSITIVES_UNMET = 2,  /* no: some solution of the first cannot even meet the second's positive clauses */
     ZIMORGAL_DISEQUATION_UNMET = 3 /* no: some solution of the first cannot have the numbered disequation beside them */
+};
+
+/* What comes of judging rows. The last two reject them. */
+enum zimorgal_judgement {
+    ZIMORGAL_NOT_JUDGED = 0,    /* the question or the rows are refused */
+    ZIMORGAL_ROWS_ACCEPTED = 1, /* they solve the first system and, for an entailment, do not extend */
+    ZIMORGAL_CLAUSE_BROKEN = 2, /* a clause of the first system does not hold */
+    ZIMORGAL_ROWS_EXTEND = 3    /* an entailment: they solve the first system, but extend to the second */
 };
 
 /* -------- The calls of the library -------- */
@@ -147,6 +160,25 @@ ZIMORGAL_WRITES(3, 4)
 ZIMORGAL_WRITES(5, 6)
 uint64_t zimorgal_ask(const uint8_t *question, size_t question_length, uint8_t *answer, size_t answer_length,
                       uint8_t *work, size_t work_length);
+
+/* Judges rows as a solution of a question, whoever wrote them: 12 rows of 128 bytes, as zimorgal_ask shows them, row v for
+   free variable v. The result, lowest byte first:
+
+       bits  0 to  7   judgement
+       bits  8 to 15   refusal number, 0 if not refused: 1 to 10 of the question, then 18 and 19 of the rows
+       bits 16 to 31   place of the fault in the question, as zimorgal_ask gives it; for the rows 0
+       bits 32 to 39   clause number, for a broken clause: the lowest clause of the first system that does not hold. The
+                       clauses of the first system, positive ones and disequations, are counted together, as they stand
+                       in the question, from 0; those of the second system between them are not counted
+       bits 40 to 63   0
+
+   Rows are accepted for a satisfiability exactly if their shares solve the system; for an entailment exactly if they
+   solve the first system and the own variables of the second cannot be given shares, of any height, so that it holds
+   too. So what is accepted shows the verdict yes of a satisfiability, and the verdict no of an entailment. The rows that
+   zimorgal_ask shows are accepted: the first 1,536 bytes of its answer buffer. Nothing is written. */
+ZIMORGAL_READS(1, 2)
+ZIMORGAL_READS(3, 4)
+uint64_t zimorgal_judge(const uint8_t *question, size_t question_length, const uint8_t *rows, size_t rows_length);
 
 /* Where the row of a variable lies in an answer buffer: offset in the low 32 bits, length (128) in the high 32.
    0, the empty part, if the variable is above 11 or the buffer under 1,536 bytes. */
@@ -191,6 +223,12 @@ ZIMORGAL_INLINE unsigned zimorgal_disequation(uint64_t result) { return result >
 ZIMORGAL_INLINE int zimorgal_shows(uint64_t result, int kind) {
     return zimorgal_verdict(result) == (kind == ZIMORGAL_ENTAILMENT ? ZIMORGAL_NO : ZIMORGAL_YES);
 }
+
+/* The fields of what zimorgal_judge gives. */
+ZIMORGAL_INLINE int zimorgal_judgement(uint64_t judged) { return judged & 0xFF; }          /* enum zimorgal_judgement */
+ZIMORGAL_INLINE int zimorgal_judge_refusal(uint64_t judged) { return judged >> 8 & 0xFF; } /* enum zimorgal_refusal */
+ZIMORGAL_INLINE unsigned zimorgal_judge_place(uint64_t judged) { return judged >> 16 & 0xFFFF; }
+ZIMORGAL_INLINE unsigned zimorgal_broken_clause(uint64_t judged) { return judged >> 32 & 0xFF; }
 
 /* The fields of what zimorgal_row gives. */
 ZIMORGAL_INLINE size_t zimorgal_row_offset(uint64_t part) { return part & 0xFFFFFFFF; }
@@ -239,6 +277,8 @@ ZIMORGAL_INLINE const char *zimorgal_describe_refusal(int refusal) {
         case ZIMORGAL_NOT_TREE_TEXT: return "a text over 94 bytes, or no tree text";
         case ZIMORGAL_NOT_FOLDED: return "a pair that could be folded";
         case ZIMORGAL_TOO_TALL: return "a tree taller than 5";
+        case ZIMORGAL_NOT_12_ROWS: return "the rows have not exactly 1,536 bytes";
+        case ZIMORGAL_ROW_NOT_ZERO: return "a bit set in the row of no free variable";
         default: return "unknown refusal";
     }
 }
@@ -252,6 +292,16 @@ ZIMORGAL_INLINE const char *zimorgal_describe_reason(int reason) {
         case ZIMORGAL_DISEQUATION_UNMET:
             return "some solution of the first system cannot have one of the second's disequations";
         default: return "unknown reason";
+    }
+}
+
+ZIMORGAL_INLINE const char *zimorgal_describe_judgement(int judgement) {
+    switch (judgement) {
+        case ZIMORGAL_NOT_JUDGED: return "refused";
+        case ZIMORGAL_ROWS_ACCEPTED: return "accepted";
+        case ZIMORGAL_CLAUSE_BROKEN: return "rejected: a clause of the first system is broken";
+        case ZIMORGAL_ROWS_EXTEND: return "rejected: the rows extend to the second system";
+        default: return "unknown judgement";
     }
 }
 

@@ -31,6 +31,8 @@
 // Question is one that the library accepts, at any time, whatever values a step was given. A Draft takes steps without a
 // test after each and keeps the first error.
 //
+// A solution that someone else found is put together as Rows, or is there as bytes, and judge() says whether it is one.
+//
 // Nothing here throws, and nothing uses the heap but str(). Each value belongs to one thread at a time; the threads share
 // only an atomic counter, from which questions are told apart.
 #ifndef ZIMORGAL_HPP
@@ -45,6 +47,7 @@
 #include <atomic>
 #include <cstddef>
 #include <cstdint>
+#include <cstring>
 #include <initializer_list>
 #include <iosfwd>
 #include <optional>
@@ -82,7 +85,10 @@ enum class Error : std::uint8_t {
     foreign_constant,       // of another question, or from before this one was started anew
     unknown_relation,       // a Relation that is none of the seven
     unknown_system,         // a System that is none of the two
-    undefined_join,         // a constant from a join that is undefined
+    undefined_join,         // a share from a join that is undefined
+    not_row_text,           // for a row: a text over 3,070 characters, or no tree text
+    row_too_tall,           // for a row: a tree taller than 10
+    not_a_row,              // bytes for a row that are not 128
 };
 
 constexpr std::string_view describe(Error error) noexcept {
@@ -102,6 +108,9 @@ constexpr std::string_view describe(Error error) noexcept {
         case Error::unknown_relation: return "a relation that is none of the seven";
         case Error::unknown_system: return "a system that is none of the two";
         case Error::undefined_join: return "an undefined join";
+        case Error::not_row_text: return "a text over 3,070 bytes, or no tree text";
+        case Error::row_too_tall: return "a tree taller than 10";
+        case Error::not_a_row: return "a row that is not 128 bytes";
     }
     return "unknown error";
 }
@@ -290,15 +299,21 @@ constexpr Error error_of(int refusal) noexcept {
     }
 }
 
-inline constexpr std::size_t tallest = 5;  // of a constant
+inline constexpr std::size_t tallest = 5;       // of a constant
+inline constexpr std::size_t tallest_row = 10;  // of a row
 
-// Where the fault is for which the library turned a tree text away. It only looks for the place.
-inline std::size_t place_of_fault(Error error, std::string_view text) noexcept {
-    // In a tree text two equal leaves in a row are the halves of a pair.
-    if (error == Error::not_folded) return std::min(text.find("oo"), text.find("**")) - 1;
-    text = text.substr(0, ZIMORGAL_CONSTANT_TEXT_BYTES);
+// How far a text is the beginning of one tree text whose pairs are at most so deep, and whether it is all of one.
+struct Scanned {
+    std::size_t at;
+    bool whole;
+};
+
+// Goes over a text, of which only so many characters count: nothing can stand behind them.
+template <std::size_t Most>
+Scanned scan(std::string_view whole_text, std::size_t deepest) noexcept {
+    const std::string_view text = whole_text.substr(0, Most);
     // How many trees are due: in the text, then in each pair that is open.
-    std::array<std::uint8_t, ZIMORGAL_CONSTANT_TEXT_BYTES + 1> due{1};
+    std::array<std::uint8_t, Most + 1> due{1};
     std::size_t open = 0, at = 0;
     for (; at < text.size(); ++at) {
         const char sign = text[at];
@@ -308,12 +323,25 @@ inline std::size_t place_of_fault(Error error, std::string_view text) noexcept {
         } else if (sign == 'o' || sign == '*') {
             --due[open];
         } else {
-            if (sign != '(' || (error == Error::too_tall && open == tallest)) break;
+            if (sign != '(' || open == deepest) break;
             --due[open];
             due[++open] = 2;
         }
     }
-    return at;
+    return {at, at == whole_text.size() && open == 0 && due[0] == 0};
+}
+
+// The first pair that must be folded, in a tree text; npos if there is none. Two equal leaves in a row are its halves.
+inline std::size_t place_to_fold(std::string_view text) noexcept {
+    const std::size_t leaves = std::min(text.find("oo"), text.find("**"));
+    return leaves == std::string_view::npos ? leaves : leaves - 1;
+}
+
+// Where the fault is for which the library turned a tree text away. It only looks for the place.
+inline std::size_t place_of_fault(Error error, std::string_view text) noexcept {
+    if (error == Error::not_folded) return place_to_fold(text);
+    constexpr std::size_t most = ZIMORGAL_CONSTANT_TEXT_BYTES;
+    return scan<most>(text, error == Error::too_tall ? tallest : most).at;
 }
 
 }  // namespace detail
@@ -387,6 +415,13 @@ using IfNoShare =
                          (!std::is_convertible_v<const T&, std::string_view> || std::is_null_pointer_v<T>),
                      int>;
 
+// The leaves of a constant from its four bytes.
+inline Leaves leaves_at(const std::uint8_t* bytes) noexcept {
+    Leaves leaves = 0;
+    for (std::size_t i = 4; i > 0; --i) leaves = leaves << 8 | bytes[i - 1];
+    return leaves;
+}
+
 // A number that it gives only once.
 inline std::uint64_t next_identity() noexcept {
     static std::atomic<std::uint64_t> last{0};
@@ -447,7 +482,7 @@ class Question {
         if (!sort.disequation && count == most_positives) return Error::too_many_positives;
 
         for (std::size_t i = 0; i < sort.terms; ++i)
-            if (const Error error = judge(system, clause.terms[i]); error != Error::none) return error;
+            if (const Error error = fault_of(system, clause.terms[i]); error != Error::none) return error;
 
         std::size_t at = size_ - 1;  // over the end
         bytes_[at++] = sort.command[second];
@@ -462,6 +497,14 @@ class Question {
     std::size_t free_variables() const noexcept { return bytes_[2]; }
     std::size_t own_variables() const noexcept { return bytes_[3]; }
     std::size_t constants() const noexcept { return constants_; }
+
+    // How many clauses a system has, positive ones and disequations together. The next one has this number: judging counts
+    // the clauses of the first system so, in the order in which they were added.
+    std::size_t clauses(System system) const noexcept {
+        if (system > System::second) return 0;
+        const std::uint8_t* const counts = clauses_[static_cast<std::size_t>(system)];
+        return std::size_t{counts[0]} + counts[1];
+    }
 
     // The finished string, until the next step.
     Bytes bytes() const& noexcept { return {bytes_.data(), size_}; }
@@ -481,9 +524,7 @@ class Question {
     static std::size_t place_of(std::size_t constant) noexcept { return 4 + 5 * constant; }
 
     Leaves leaves_of(std::size_t constant) const noexcept {
-        Leaves leaves = 0;
-        for (std::size_t i = 4; i > 0; --i) leaves = leaves << 8 | bytes_[place_of(constant) + i];
-        return leaves;
+        return detail::leaves_at(bytes_.data() + place_of(constant) + 1);
     }
 
     void put_constant(Leaves leaves) noexcept {
@@ -497,14 +538,14 @@ class Question {
         if (identity_ == 0) identity_ = detail::next_identity();
     }
 
-    Error judge(System system, const Term& term) const noexcept {
-        if (term.sort_ == Term::Sort::constant) return judge(term.constant_);
+    Error fault_of(System system, const Term& term) const noexcept {
+        if (term.sort_ == Term::Sort::constant) return fault_of(term.constant_);
         const bool own = term.sort_ == Term::Sort::own;
         if (term.number_ >= (own ? own_variables() : free_variables())) return Error::names_nothing;
         return own && system == System::first ? Error::own_variable_in_first : Error::none;
     }
 
-    Error judge(const Constant& constant) const noexcept {
+    Error fault_of(const Constant& constant) const noexcept {
         if (constant.question_ == 0) return Error::names_nothing;
         const bool known = constant.question_ == identity_ && constant.number_ < constants_ &&
                            constant.leaves_ == leaves_of(constant.number_);
@@ -561,6 +602,9 @@ class Draft {
     std::size_t step() const noexcept { return steps_; }
     std::size_t place() const noexcept { return place_; }
 
+    // How many clauses a system has so far: the number of the next one.
+    std::size_t clauses(System system) const noexcept { return question_.clauses(system); }
+
     // Gives the question if every step was taken. Otherwise it says the first error and leaves `question` as it was.
     [[nodiscard]] Error finish(Question& question) const noexcept {
         if (error_ == Error::none) question = question_;
@@ -616,6 +660,8 @@ enum class Refusal : std::uint8_t {
     not_tree_text = ZIMORGAL_NOT_TREE_TEXT,
     not_folded = ZIMORGAL_NOT_FOLDED,
     too_tall = ZIMORGAL_TOO_TALL,
+    not_12_rows = ZIMORGAL_NOT_12_ROWS,
+    row_not_zero = ZIMORGAL_ROW_NOT_ZERO,
 };
 
 enum class Reason : std::uint8_t {
@@ -682,6 +728,47 @@ class FixedText {
     std::size_t length_ = 0;
 };
 
+// The sort of clause with this command, in either system. Every command of a clause has one.
+inline const ClauseSort& sort_of(std::uint8_t command) noexcept {
+    return *std::find_if(std::begin(sorts), std::end(sorts), [&](const ClauseSort& sort) {
+        return sort.command[0] == command || sort.command[1] == command;
+    });
+}
+
+// The system of the clause with this command.
+inline System system_of(std::uint8_t command) noexcept {
+    return command == sort_of(command).command[1] ? System::second : System::first;
+}
+
+// A text that is put together from words.
+template <std::size_t Most>
+class PutText : public FixedText<Most> {
+  protected:
+    void put(std::string_view words) noexcept {
+        words = words.substr(0, Most - this->length_);
+        std::copy(words.begin(), words.end(), this->text_.begin() + this->length_);
+        this->length_ += words.size();
+    }
+
+    // A letter and two digits.
+    void put_name(char letter, std::size_t number) noexcept {
+        const char name[] = {letter, static_cast<char>('0' + number / 10), static_cast<char>('0' + number % 10)};
+        put({name, 3});
+    }
+
+    // Writes the clause that starts there, each term by a function that is given its byte. Gives the next one's start.
+    template <class PutTerm>
+    const std::uint8_t* put_clause(const std::uint8_t* at, PutTerm put_term) noexcept {
+        const ClauseSort& sort = sort_of(*at++);
+        put(sort.words[0]);
+        for (std::size_t i = 0; i < sort.terms; ++i) {
+            put_term(*at++);
+            put(sort.words[i + 1]);
+        }
+        return at;
+    }
+};
+
 template <std::size_t Most, class Traits>
 std::basic_ostream<char, Traits>& operator<<(std::basic_ostream<char, Traits>& out, const FixedText<Most>& text) {
     return out << text.view();
@@ -695,11 +782,21 @@ class Text : public detail::FixedText<ZIMORGAL_TEXT_BYTES> {
     explicit Text(Bytes row) noexcept { length_ = write_text(row, text_.data(), text_.size()).length; }
 };
 
+namespace detail {
+
+// The row of a constant.
+inline std::array<std::uint8_t, ZIMORGAL_ROW_BYTES> row_of(Leaves leaves) noexcept {
+    std::array<std::uint8_t, ZIMORGAL_ROW_BYTES> row{};
+    for (std::size_t i = 0; i < row.size(); ++i) row[i] = leaves >> i / 4 & 1 ? 0xFF : 0x00;
+    return row;
+}
+
+}  // namespace detail
+
 // The tree text of a constant.
 template <class Share, detail::IfLeaves<Share> = 0>
 [[nodiscard]] Text text_of(Share leaves) noexcept {
-    std::array<std::uint8_t, ZIMORGAL_ROW_BYTES> row{};
-    for (std::size_t i = 0; i < row.size(); ++i) row[i] = leaves >> i / 4 & 1 ? 0xFF : 0x00;
+    const auto row = detail::row_of(leaves);
     return Text({row.data(), row.size()});
 }
 
@@ -708,7 +805,7 @@ inline constexpr std::size_t most_question_text = 8233;
 
 // A question as text, for logs. `./ask` of the sources reads it, and it asks the same bytes again. Variables are named
 // v00, v01 and so on, the free ones first, and constants c00, c01 and so on.
-class QuestionText : public detail::FixedText<most_question_text> {
+class QuestionText : public detail::PutText<most_question_text> {
   public:
     explicit QuestionText(const Question& question) noexcept {
         const std::size_t free = question.free_variables(), own = question.own_variables();
@@ -717,23 +814,11 @@ class QuestionText : public detail::FixedText<most_question_text> {
         put_variables("own", free, own);
         const std::uint8_t* at = question.bytes().begin() + 4;
         for (std::size_t number = 0; number < question.constants(); ++number, at += 5) put_constant(number, at + 1);
-        bool second = false;
-        while (*at != 0x00) at = put_clause(at, second);
+        System system = System::first;
+        while (*at != 0x00) at = put_line(at, system);
     }
 
   private:
-    void put(std::string_view words) noexcept {
-        words = words.substr(0, text_.size() - length_);
-        std::copy(words.begin(), words.end(), text_.begin() + length_);
-        length_ += words.size();
-    }
-
-    // A letter and two digits.
-    void put_name(char letter, std::size_t number) noexcept {
-        const char name[] = {letter, static_cast<char>('0' + number / 10), static_cast<char>('0' + number % 10)};
-        put({name, 3});
-    }
-
     void put_variables(std::string_view word, std::size_t from, std::size_t count) noexcept {
         if (count == 0) return;
         put(word);
@@ -745,9 +830,7 @@ class QuestionText : public detail::FixedText<most_question_text> {
     }
 
     void put_constant(std::size_t number, const std::uint8_t* bytes) noexcept {
-        Leaves leaves = 0;
-        for (std::size_t i = 4; i > 0; --i) leaves = leaves << 8 | bytes[i - 1];
-        const Text tree = text_of(leaves);
+        const Text tree = text_of(detail::leaves_at(bytes));
         put("let ");
         put_name('c', number);
         put(" = ");
@@ -762,26 +845,13 @@ class QuestionText : public detail::FixedText<most_question_text> {
             put_name('c', term - std::size_t{0x20});
     }
 
-    // The sort of clause with this command, in either system. Every command of a clause has one.
-    static const detail::ClauseSort& sort_of(std::uint8_t command) noexcept {
-        return *std::find_if(std::begin(detail::sorts), std::end(detail::sorts), [&](const detail::ClauseSort& sort) {
-            return sort.command[0] == command || sort.command[1] == command;
-        });
-    }
-
     // Writes the clause that starts there, after a line that changes the system if it must. Gives the next one's start.
-    const std::uint8_t* put_clause(const std::uint8_t* at, bool& second) noexcept {
-        const std::uint8_t command = *at++;
-        const detail::ClauseSort& sort = sort_of(command);
-        if ((command == sort.command[1]) != second) {
-            second = !second;
-            put(second ? "then\n" : "if\n");
+    const std::uint8_t* put_line(const std::uint8_t* at, System& system) noexcept {
+        if (const System next = detail::system_of(*at); next != system) {
+            system = next;
+            put(system == System::second ? "then\n" : "if\n");
         }
-        put(sort.words[0]);
-        for (std::size_t i = 0; i < sort.terms; ++i) {
-            put_term(*at++);
-            put(sort.words[i + 1]);
-        }
+        at = put_clause(at, [this](std::uint8_t term) { put_term(term); });
         put("\n");
         return at;
     }
@@ -792,6 +862,36 @@ class QuestionText : public detail::FixedText<most_question_text> {
 template <class Traits>
 std::basic_ostream<char, Traits>& operator<<(std::basic_ostream<char, Traits>& out, const Question& question) {
     return out << QuestionText(question);
+}
+
+// No clause is longer as text: a negated join of three constants of 94 characters.
+inline constexpr std::size_t most_clause_text = 296;
+
+// One clause of a question as text, by its number in its system, from 0: the clause that judging names as broken. Variables
+// are named as in the text of the question, constants are tree texts. It is empty if the system has no such clause.
+class ClauseText : public detail::PutText<most_clause_text> {
+  public:
+    ClauseText(const Question& question, System system, std::size_t number) noexcept {
+        if (number >= question.clauses(system)) return;
+        const std::uint8_t* const constants = question.bytes().begin() + 4;
+        const std::uint8_t* at = constants + 5 * question.constants();
+        while (detail::system_of(*at) != system || number-- > 0) at += 1 + detail::sort_of(*at).terms;
+        put_clause(at, [&](std::uint8_t term) { put_term(term, constants); });
+    }
+
+  private:
+    void put_term(std::uint8_t term, const std::uint8_t* constants) noexcept {
+        if (term < 0x20) {
+            put_name('v', term);
+        } else {
+            const Text tree = text_of(detail::leaves_at(constants + 5 * (term - 0x20) + 1));
+            put(tree.view());
+        }
+    }
+};
+
+[[nodiscard]] inline ClauseText text_of(const Question& question, System system, std::size_t number) noexcept {
+    return ClauseText(question, system, number);
 }
 
 // ---------------------------------------------------------------- Asking
@@ -824,6 +924,12 @@ class Solution {
         return {answer.data() + zimorgal_row_offset(part), zimorgal_row_length(part)};
     }
 
+    // All 12 rows, as judging takes them; none if no solution is shown.
+    Bytes bytes() const noexcept {
+        if (workspace_ == nullptr) return {nullptr, 0};
+        return {workspace_->answer.data(), ZIMORGAL_ROWS_BYTES};
+    }
+
     // The tree text of a share, in a buffer of its own or in the caller's. Refusal::not_a_row if there is no such
     // variable.
     Text text(Free variable) const noexcept { return Text(row(variable)); }
@@ -853,6 +959,150 @@ struct Answer {
 
 [[nodiscard]] inline Answer ask(const Question& question, Workspace& workspace) noexcept {
     return ask(question.bytes(), workspace);
+}
+
+// ---------------------------------------------------------------- Judging
+
+struct SetShare {
+    Error error;
+    std::size_t place;  // of a fault in the tree text
+};
+
+namespace detail {
+
+// Why a text is no tree text of a row, and where. The faults have the order that they have in the text of a constant.
+inline SetShare fault_of_row_text(std::string_view text) noexcept {
+    constexpr std::size_t most = ZIMORGAL_TEXT_BYTES;
+    if (const Scanned read = scan<most>(text, most); !read.whole) return {Error::not_row_text, read.at};
+    if (const std::size_t place = place_to_fold(text); place != text.npos) return {Error::not_folded, place};
+    if (const Scanned read = scan<most>(text, tallest_row); !read.whole) return {Error::row_too_tall, read.at};
+    return {Error::none, 0};
+}
+
+}  // namespace detail
+
+// Rows to be judged, whoever found them: a share for each free variable, the empty one where none was set.
+//
+//     Rows rows;
+//     if (const SetShare set = rows.set(left, "(*(o*))"); set.error != Error::none) ..
+//     const Judged judged = judge(question, rows);
+//     if (judged.clause) std::cout << "broken: " << text_of(question, System::first, *judged.clause) << '\n';
+class Rows {
+  public:
+    // The share of a variable: its leaves, its tree text, at most ten pairs deep, a join, set(v, join(a, b)), or the 128
+    // bytes of its row. With an error the rows are left as they were. A variable above 11 names nothing; one that the
+    // question has not as a free one is refused by judging, unless its share is empty.
+    [[nodiscard]] SetShare set(Free variable, Leaves leaves) noexcept {
+        const auto row = detail::row_of(leaves);
+        return set(variable, Bytes{row.data(), row.size()});
+    }
+    [[nodiscard]] SetShare set(Free variable, std::string_view text) noexcept {
+        if (variable.number >= most_variables) return {Error::names_nothing, 0};
+        if (const SetShare fault = detail::fault_of_row_text(text); fault.error != Error::none) return fault;
+        put_tree(start_of(variable), text);
+        return {Error::none, 0};
+    }
+    [[nodiscard]] SetShare set(Free variable, std::optional<Leaves> joined) noexcept {
+        if (variable.number >= most_variables) return {Error::names_nothing, 0};
+        if (!joined) return {Error::undefined_join, 0};
+        return set(variable, *joined);
+    }
+    [[nodiscard]] SetShare set(Free variable, Bytes row) noexcept {
+        if (variable.number >= most_variables) return {Error::names_nothing, 0};
+        if (row.size != ZIMORGAL_ROW_BYTES) return {Error::not_a_row, 0};
+        std::memmove(start_of(variable), row.data, row.size);
+        return {Error::none, 0};
+    }
+    template <class Other, detail::IfNoShare<Other> = 0>
+    SetShare set(Free, const Other&) = delete;  // a share is Leaves (std::uint32_t), a tree text, a join or a row
+    template <class Other = std::nullptr_t, detail::IfNoShare<Other> = 0>
+    SetShare set(Free, std::initializer_list<Other>) = delete;  // in braces too
+
+    // The 128 bytes of a share, until the next step, and its tree text; none for a variable above 11.
+    Bytes row(Free variable) const& noexcept {
+        if (variable.number >= most_variables) return {nullptr, 0};
+        return {bytes_.data() + ZIMORGAL_ROW_BYTES * variable.number, ZIMORGAL_ROW_BYTES};
+    }
+    Bytes row(Free) const&& = delete;
+    Text text(Free variable) const noexcept { return Text(row(variable)); }
+
+    // All 12 rows, until the next step.
+    Bytes bytes() const& noexcept { return {bytes_.data(), bytes_.size()}; }
+    Bytes bytes() const&& = delete;
+
+  private:
+    std::uint8_t* start_of(Free variable) noexcept { return bytes_.data() + ZIMORGAL_ROW_BYTES * variable.number; }
+
+    // Puts a tree, leaf by leaf of its text: one inside of k pairs stands for 2^(10-k) leaves of the row.
+    static void put_tree(std::uint8_t* row, std::string_view text) noexcept {
+        std::fill_n(row, ZIMORGAL_ROW_BYTES, std::uint8_t{0});
+        std::size_t pairs = 0, leaf = 0;
+        for (const char sign : text) {
+            if (sign == '(') {
+                ++pairs;
+            } else if (sign == ')') {
+                --pairs;
+            } else {
+                const std::size_t width = std::size_t{1} << (detail::tallest_row - pairs);
+                if (sign == '*') put_full(row, leaf, width);
+                leaf += width;
+            }
+        }
+    }
+
+    // Fills so many leaves from one on.
+    static void put_full(std::uint8_t* row, std::size_t from, std::size_t width) noexcept {
+        for (std::size_t i = from; i < from + width; ++i)
+            row[i / 8] = static_cast<std::uint8_t>(row[i / 8] | 1u << i % 8);
+    }
+
+    std::array<std::uint8_t, ZIMORGAL_ROWS_BYTES> bytes_{};
+};
+
+enum class Judgement : std::uint8_t {
+    refused = ZIMORGAL_NOT_JUDGED,
+    accepted = ZIMORGAL_ROWS_ACCEPTED,
+    broken = ZIMORGAL_CLAUSE_BROKEN,
+    extends = ZIMORGAL_ROWS_EXTEND,
+};
+
+constexpr std::string_view describe(Judgement judgement) noexcept {
+    return zimorgal_describe_judgement(static_cast<int>(judgement));
+}
+
+// Fields without a meaning are 0, and the clause is none.
+struct Judged {
+    Judgement judgement;
+    Refusal refusal;
+    std::uint16_t place;  // of a refusal: the offset in the question
+    // For Judgement::broken: the lowest clause of the first system that does not hold, counted as Question::clauses counts.
+    std::optional<std::size_t> clause;
+};
+
+// The fields of what zimorgal_judge gives.
+constexpr Judged decode_judged(std::uint64_t number) noexcept {
+    const auto judgement = static_cast<Judgement>(zimorgal_judgement(number));
+    const std::optional<std::size_t> clause = zimorgal_broken_clause(number);
+    return {judgement, static_cast<Refusal>(zimorgal_judge_refusal(number)),
+            static_cast<std::uint16_t>(zimorgal_judge_place(number)),
+            judgement == Judgement::broken ? clause : std::nullopt};
+}
+
+// Judges rows as a solution of a question: bytes from wherever they come, rows that were put together, or a shown solution.
+// For a satisfiability they are accepted exactly if they solve the system; for an entailment exactly if they solve the
+// first system and no own shares of any height extend them to the second. A solution that asking shows is accepted by the
+// question that was asked; an empty one has no rows, and is refused by Refusal::not_12_rows.
+[[nodiscard]] inline Judged judge(Bytes question, Bytes rows) noexcept {
+    return decode_judged(zimorgal_judge(question.data, question.size, rows.data, rows.size));
+}
+[[nodiscard]] inline Judged judge(const Question& question, Bytes rows) noexcept {
+    return judge(question.bytes(), rows);
+}
+[[nodiscard]] inline Judged judge(const Question& question, const Rows& rows) noexcept {
+    return judge(question.bytes(), rows.bytes());
+}
+[[nodiscard]] inline Judged judge(const Question& question, const Solution& solution) noexcept {
+    return judge(question.bytes(), solution.bytes());
 }
 
 }  // namespace zimorgal

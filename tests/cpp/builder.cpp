@@ -87,9 +87,10 @@ static constexpr double not_join(double a, double b, double c) { return a * b * 
 static constexpr int may_write(const Point&) { return 8; }
 static constexpr int may_read(const Point&) { return 9; }
 static constexpr long together(long a, long b) { return a - b; }
+static constexpr int judge(const Point&, const Point&) { return 11; }
 static_assert(equal(1, 1) && !equal(0, 1) && join(1, 2, 3) == 6 && equal(not_join(1, 2, 3), 6), "not captured");
 static_assert(not_equal(Corner(), Corner()) == 7 && may_write(Corner()) == 8 && may_read(Corner()) == 9 &&
-                  together(5, 3) == 2 && join(5, 3) == 15 && height(Corner()) == 10,
+                  together(5, 3) == 2 && join(5, 3) == 15 && height(Corner()) == 10 && judge(Corner(), Corner()) == 11,
               "not captured");
 
 namespace {
@@ -126,6 +127,10 @@ static_assert(!stands_first<Clause> && !std::is_convertible_v<int, Term> && !std
 static_assert(noexcept(from_text(std::string_view())) && noexcept(join(1u, 2u)) && noexcept(height(1u)));
 static_assert(std::is_same_v<decltype(join(1u, 2u)), std::optional<Leaves>>);
 static_assert(Error{13} == Error::unknown_system && Error{14} == Error::undefined_join, "errors keep their values");
+static_assert(noexcept(judge(Bytes{nullptr, 0}, Bytes{nullptr, 0})) && noexcept(Rows().set(v0, "*")) && noexcept(
+    text_of(Question(), System::first, 0)));
+static_assert(decode_judged(0x200000002).clause == 2u && !decode_judged(3).clause &&
+              describe(Judgement::accepted) == "accepted");
 static_assert(describe(Verdict::no) == "no" && decode(2).verdict == Verdict::no, "at compile time too");
 
 // Variables from any integer; one out of range names nothing, and is no undefined behaviour.
@@ -542,6 +547,7 @@ void drafts() {
     draft.first(not_equal(v0, half)).second(join(v0, own0, whole)).add(System::second, not_equal(own0, whole));
     Question question;
     check(draft.error() == Error::none && draft.step() == 6 && draft.finish(question) == Error::none, "a draft");
+    check(draft.clauses(System::first) == 1 && draft.clauses(System::second) == 2, "counts of clauses of a draft");
     check(copy(question) == String{0x01, 0x01, 0x01, 0x01, 0x03, 0xFF, 0xFF, 0xFF, 0xFF, 0x03, 0xFF, 0xFF, 0x00,
                                    0x00, 0x13, 0x00, 0x21, 0x20, 0x00, 0x01, 0x20, 0x23, 0x01, 0x20, 0x00},
           "bytes of a draft");
@@ -674,13 +680,14 @@ void results() {
           "each field where SPEC 4.2 has it");
     check(decode(1).verdict == Verdict::yes && decode(0).verdict == Verdict::refused, "verdicts");
 
-    for (unsigned i = 0; i <= 17; ++i)
+    for (unsigned i = 0; i <= 19; ++i)
         check(describe(static_cast<Refusal>(i)) != "unknown refusal", "a text for refusal " + std::to_string(i));
-    for (unsigned i = 0; i <= 14; ++i)
+    for (unsigned i = 0; i <= 17; ++i)
         check(describe(static_cast<Error>(i)) != "unknown error", "a text for error " + std::to_string(i));
     check(describe(Error::not_tree_text) == describe(Refusal::not_tree_text),
           "no tree text, in the words of the C header");
-    check(describe(static_cast<Error>(15)) == "unknown error" &&
+    check(describe(static_cast<Error>(18)) == "unknown error" &&
+              describe(static_cast<Judgement>(4)) == "unknown judgement" &&
               describe(static_cast<Verdict>(3)) == "unknown verdict" &&
               describe(static_cast<Refusal>(255)) == "unknown refusal" &&
               describe(static_cast<Reason>(4)) == "unknown reason",
@@ -1015,6 +1022,392 @@ void texts() {
     check(text_of(full_share).str() == "*", "a text as a string");
 }
 
+// ---------------------------------------------------------------- Clauses by their number
+
+void clauses_by_number() {
+    Question question = entailment(2, 1);
+    check(question.clauses(System::first) == 0 && question.clauses(System::second) == 0,
+          "a new question has no clause");
+    const Constant half = take(question.constant("(*o)"));
+    take(question.second(join(v0, own0, v1)));
+    take(question.first(may_read(v0)));
+    take(question.first(not_join(half, v1, take(question.constant("((*o)o)")))));
+    take(question.second(not_equal(own0, half)));
+    take(question.first(together(v0, v1)));
+    check(question.clauses(System::first) == 3 && question.clauses(System::second) == 2, "counts of clauses");
+    check(question.first(may_write(v2)) == Error::names_nothing && question.clauses(System::first) == 3,
+          "a clause that is not taken is not counted");
+    const char* const first[] = {"v00 may read", "not (*o) join v01 is ((*o)o)", "v00 with v01", ""};
+    const char* const second[] = {"v00 join v02 is v01", "v02 is not (*o)", ""};
+    for (std::size_t i = 0; i < 4; ++i) check(text_of(question, System::first, i).str() == first[i], first[i]);
+    for (std::size_t i = 0; i < 3; ++i) check(text_of(question, System::second, i).str() == second[i], second[i]);
+    for (unsigned i = 2; i < 256; ++i) {
+        const auto other = static_cast<System>(i);
+        if (question.clauses(other) != 0 || !text_of(question, other, 0).str().empty())
+            check(false, "there is no system " + std::to_string(i));
+    }
+    check(text_of(question, System::first, static_cast<std::size_t>(-1)).str().empty(), "a number past all");
+    std::ostringstream out;
+    out << text_of(question, System::first, 2);
+    check(out.str() == "v00 with v01", "a clause written to a stream");
+
+    // The longest text, the last of as many clauses as there can be.
+    Question longest = satisfiability(1);
+    const Constant tall = take(longest.constant(0x55555555u));
+    for (int i = 0; i < 64; ++i) take(longest.first(may_write(v0)));
+    for (int i = 0; i < 31; ++i) take(longest.first(not_join(tall, tall, tall)));
+    const ClauseText text = text_of(longest, System::first, 94);
+    const std::string tree = text_of(tall.leaves()).str();
+    check(text.view() == "not " + tree + " join " + tree + " is " + tree && text.view().size() == most_clause_text,
+          "the longest clause just fits");
+}
+
+// ---------------------------------------------------------------- Rows to be judged
+
+String copy(const Rows& rows) {
+    const Bytes bytes = rows.bytes();
+    return String(bytes.begin(), bytes.end());
+}
+
+// A share that is meant to be set; counted only if it is not.
+void take(SetShare set) { take(set.error); }
+
+// The 12 rows with this one in the place of a variable's.
+String with_row(String rows, std::size_t variable, const String& row) {
+    std::copy(row.begin(), row.end(), rows.begin() + static_cast<std::ptrdiff_t>(128 * variable));
+    return rows;
+}
+
+void rows_of_shares() {
+    const String zero(1536), full(128, 0xFF);
+    String left(128), corner(128), leaf(128);
+    std::fill(left.begin(), left.begin() + 64, std::uint8_t{0xFF});
+    std::fill(corner.begin() + 124, corner.end(), std::uint8_t{0xFF});
+    leaf[1] = 0x04;  // leaf 10
+    Rows rows;
+    check(copy(rows) == zero, "new rows are empty shares");
+    take(rows.set(v0, "(*o)"));
+    check(copy(rows) == with_row(zero, 0, left), "a tree text");
+    take(rows.set(Free{11}, 0x80000000u));
+    check(copy(rows) == with_row(with_row(zero, 0, left), 11, corner), "leaves, and the last variable");
+    take(rows.set(v0, join(0x0000FFFFu, 0xFFFF0000u)));
+    check(copy(rows) == with_row(with_row(zero, 0, full), 11, corner), "a join, over what was there");
+    take(rows.set(Free{11}, Bytes{leaf.data(), leaf.size()}));
+    check(copy(rows) == with_row(with_row(zero, 0, full), 11, leaf), "the bytes of a row");
+    take(rows.set(v1, rows.row(Free{11})));
+    take(rows.set(v0, rows.row(v0)));
+    check(copy(rows) == with_row(with_row(with_row(zero, 0, full), 1, leaf), 11, leaf), "a row of its own");
+    take(rows.set(v1, "((((((((*o)o)o)o)o)o)o)o)"));
+    take(rows.set(v1, "(((((((o(o((*o)o)))o)o)o)o)o)o)"));
+    take(rows.set(Free{11}, "o"));
+    String fine(128);
+    fine[1] = 0x10;  // leaf 12
+    check(copy(rows) == with_row(with_row(zero, 0, full), 1, fine), "a tree of height 10, over one of height 8");
+    check(rows.text(v1).str() == "(((((((o(o((*o)o)))o)o)o)o)o)o)" && rows.text(v0).str() == "*", "its text");
+    check(rows.row(v1).data == rows.bytes().data + 128 && rows.row(v1).size == 128 && rows.row(Free{12}).size == 0 &&
+              rows.text(Free{-1}).str().empty(),
+          "the row of a variable");
+}
+
+// A share that must not be set, and leaves the rows as they were.
+template <class Share>
+void not_set(Rows& rows, Free variable, Share share, Error error, std::size_t place, const std::string& what) {
+    const String before = copy(rows);
+    const SetShare set = rows.set(variable, share);
+    check(set.error == error && set.place == place && copy(rows) == before, "no share: " + what);
+}
+
+void rows_with_errors() {
+    const String bytes(129, 0xAA);
+    Rows rows;
+    take(rows.set(v0, "(*o)"));
+    take(rows.set(v1, "*"));
+    not_set(rows, Free{12}, "*", Error::names_nothing, 0, "variable 12, a text");
+    not_set(rows, Free{-1}, full_share, Error::names_nothing, 0, "variable -1, leaves");
+    not_set(rows, Free{99}, join(1u, 2u), Error::names_nothing, 0, "variable 99, a join");
+    not_set(rows, Free{12}, Bytes{bytes.data(), 128}, Error::names_nothing, 0, "variable 12, a row");
+    not_set(rows, Free{12}, "(*", Error::names_nothing, 0, "before a fault in the text");
+    Free far{0};
+    far.number = 256;
+    not_set(rows, far, "*", Error::names_nothing, 0, "a number that was set");
+    not_set(rows, v0, join(3u, 6u), Error::undefined_join, 0, "an undefined join");
+    for (const std::size_t size : {0u, 1u, 127u, 129u})
+        not_set(rows, v0, Bytes{bytes.data(), size}, Error::not_a_row, 0, std::to_string(size) + " bytes");
+    not_set(rows, v0, Bytes{nullptr, 0}, Error::not_a_row, 0, "no bytes");
+    for (const auto& text : refused_texts) {
+        if (text.error == Error::too_tall) continue;  // not for a row
+        const Error error = text.error == Error::not_tree_text ? Error::not_row_text : text.error;
+        not_set(rows, v1, text.text, error, text.place, text.text);
+    }
+    not_set(rows, v1, "(((((((((((*o)o)o)o)o)o)o)o)o)o)o)", Error::row_too_tall, 10, "11 pairs, to the left");
+    not_set(rows, v1, "(o(o(o(o(o(o(o(o(o(o(o*)))))))))))", Error::row_too_tall, 20, "11 pairs, to the right");
+    not_set(rows, v1, "(((((((((((oo)o)o)o)o)o)o)o)o)o)o)", Error::not_folded, 10, "not folded, before too tall");
+    check(copy(rows).front() == 0xFF, "and the rows are not empty");
+}
+
+// Compares texts with what reader.hpp reads as a row.
+class RowTextsCompared {
+  public:
+    void add(const std::string& text) {
+        const reader::RowReading due = reader::read_row(text);
+        const Error errors[] = {Error::not_row_text, Error::not_folded, Error::row_too_tall};
+        const Error error = due.refusal == 0 ? Error::none : errors[due.refusal - 15];
+        String row(128, 0x5A);
+        Rows rows;
+        take(rows.set(v1, Bytes{row.data(), row.size()}));
+        if (error == Error::none)
+            for (std::size_t leaf = 0; leaf < 1024; ++leaf)
+                row[leaf / 8] = byte((row[leaf / 8] & ~(1u << leaf % 8)) | unsigned{due.leaves[leaf]} << leaf % 8);
+        const SetShare set = rows.set(v1, text);
+        const bool again =
+            error != Error::none || rows.text(v1).str() == text;  // each text that is read is what is written
+        ++seen_[static_cast<std::size_t>(error)];
+        if (set.error != error || set.place != due.place || copy(rows) != with_row(String(1536), 1, row) || !again)
+            wrong_.push_back(text);
+    }
+
+    long seen(Error error) const { return seen_[static_cast<std::size_t>(error)]; }
+
+    void done(const std::string& which) const {
+        check(wrong_.empty(), which + ": " + std::to_string(wrong_.size()) + " wrong" +
+                                  (wrong_.empty() ? "" : ", one of them " + wrong_[0]));
+    }
+
+  private:
+    std::vector<std::string> wrong_{};
+    long seen_[18] = {};  // by error
+};
+
+// Short texts, trees of 1 to 160 leaves, as they are and damaged, and texts round the longest.
+void texts_of_rows() {
+    RowTextsCompared compared;
+    std::vector<std::string> texts{""};
+    for (std::size_t i = 0; i < texts.size(); ++i) {
+        compared.add(texts[i]);
+        if (texts[i].size() == 5) continue;
+        for (const char sign : signs) texts.push_back(texts[i] + sign);
+    }
+    Random random;
+    for (int i = 0; i < 6000; ++i) {
+        std::string text = random_tree(random, 1 + random.below(160), random.below(4) > 0);
+        if (random.below(4) == 0) damage(random, text);
+        compared.add(text);
+    }
+    const std::string longest = Text(Bytes{String(128, 0x55).data(), 128}).str();
+    std::string deep = std::string(1023, '(') + 'o';
+    for (int i = 0; i < 1023; ++i) deep += "*)";
+    check(longest.size() == 3070 && deep.size() == 3070, "the longest texts");
+    for (const std::string& text : {longest, deep, std::string(), "(" + longest + "o)"})
+        for (std::size_t length = 3069; length <= 3072; ++length)
+            for (const char sign : signs) {
+                std::string cut = text;
+                cut.resize(length, sign);
+                compared.add(cut);
+            }
+    compared.done("texts of rows");
+    for (const Error error : {Error::none, Error::not_row_text, Error::not_folded, Error::row_too_tall})
+        check(compared.seen(error) > 500, "texts of rows meet: " + std::string(describe(error)));
+}
+
+// Any row, written and read again, is itself.
+void rows_written_and_read() {
+    Random random;
+    long wrong = 0;
+    for (int i = 0; i < 500; ++i) {
+        String row(128);
+        for (std::uint8_t& part : row) part = byte(random.below(256) & (i % 2 == 0 ? 0xFF : random.below(256)));
+        if (i % 4 == 3) std::fill(row.begin(), row.begin() + random.below(128), std::uint8_t{0xFF});
+        Rows rows;
+        const Text text = Text(Bytes{row.data(), row.size()});
+        take(rows.set(v2, text.view()));
+        wrong += copy(rows) != with_row(String(1536), 2, row);
+    }
+    check(wrong == 0, "rows written and read again: " + std::to_string(wrong) + " wrong");
+}
+
+// ---------------------------------------------------------------- Judging
+
+// Judges the shares of these tree texts, variable by variable.
+Judged judge_texts(const Question& question, const std::vector<const char*>& shares) {
+    Rows rows;
+    for (std::size_t i = 0; i < shares.size(); ++i) take(rows.set(Free{i}, shares[i]));
+    return judge(question, rows);
+}
+
+void judges(const char* what, const Question& question, const std::vector<const char*>& shares, Judgement due,
+            std::optional<std::size_t> clause = std::nullopt) {
+    const Judged judged = judge_texts(question, shares);
+    check(judged.judgement == due && judged.clause == clause && judged.refusal == Refusal::none && judged.place == 0,
+          std::string("judged: ") + what);
+}
+
+void judged_satisfiability() {
+    judges("nothing asked", Question(), {}, Judgement::accepted);
+    Question question = satisfiability(3);
+    const Constant left = take(question.constant("(*o)"));
+    take(question.first(join(v0, v1, v2)));
+    take(question.first(may_read(v0)));
+    take(question.first(equal(v2, left)));
+    take(question.first(not_join(v0, v0, v0)));
+    take(question.first(not_equal(v1, left)));
+    judges("a solution", question, {"((*o)o)", "((o*)o)", "(*o)"}, Judgement::accepted);
+    judges("one as tall as rows can be", question,
+           {"((((((((((*o)o)o)o)o)o)o)o)o)o)", "((((((((((o*)*)*)*)*)*)*)*)*)o)", "(*o)"}, Judgement::accepted);
+    judges("an overlap", question, {"(*o)", "((o*)o)", "(*o)"}, Judgement::broken, 0);
+    judges("a shortfall", question, {"((*o)o)", "o", "(*o)"}, Judgement::broken, 0);
+    judges("at the last leaf alone", question, {"((*o)o)", "((o*)o)", "(*(o(o(o(o(o(o(o(o(o*))))))))))"},
+           Judgement::broken, 0);
+    judges("a disequation", question, {"o", "(*o)", "(*o)"}, Judgement::broken, 1);
+    judges("an equality behind a disequation", question, {"(o*)", "(*o)", "*"}, Judgement::broken, 2);
+    judges("the lowest of two", question, {"o", "*", "*"}, Judgement::broken, 1);
+    take(question.first(may_write(v1)));
+    judges("the last clause", question, {"((*o)o)", "((o*)o)", "(*o)"}, Judgement::broken, 5);
+    check(text_of(question, System::first, *judge_texts(question, {"o", "*", "*"}).clause).str() == "v00 may read",
+          "the text of the broken clause");
+}
+
+// Clauses of the second system stand before, between and behind those of the first, and are not counted.
+void judged_entailment() {
+    Question question = entailment(2, 1);
+    const Constant whole = take(question.constant("*"));
+    take(question.second(join(v0, own0, whole)));
+    take(question.first(together(v0, v1)));
+    take(question.second(may_read(own0)));
+    take(question.second(together(own0, v1)));
+    take(question.first(may_read(v0)));
+    take(question.second(not_equal(own0, v0)));
+    take(question.first(not_equal(v0, v1)));
+    judges("rows that extend", question, {"(*o)", "o"}, Judgement::extends);
+    judges("a positive clause unmet", question, {"(*o)", "(o*)"}, Judgement::accepted);
+    judges("a disequation unmet", question, {"*", "o"}, Judgement::accepted);
+    judges("clause 0", question, {"*", "*"}, Judgement::broken, 0);
+    judges("clause 1", question, {"o", "*"}, Judgement::broken, 1);
+    judges("clauses 1 and 2", question, {"o", "o"}, Judgement::broken, 1);
+
+    // Own shares may be taller than any row.
+    question = entailment(1, 2);
+    take(question.first(may_read(v0)));
+    take(question.second(join(own0, own1, v0)));
+    take(question.second(may_read(own0)));
+    take(question.second(may_read(own1)));
+    judges("one leaf of 1,024 is split", question, {"((((((((((*o)o)o)o)o)o)o)o)o)o)"}, Judgement::extends);
+    judges("clause 0 of one", question, {"o"}, Judgement::broken, 0);
+
+    // Each disequation may have a leaf of its own.
+    question = entailment(1, 0);
+    const Constant left = take(question.constant("(*o)"));
+    take(question.second(not_equal(v0, left)));
+    take(question.second(may_read(v0)));
+    take(question.second(not_join(v0, v0, v0)));
+    judges("disequations at two leaves", question, {"(*(o(o*)))"}, Judgement::extends);
+    judges("the first unmet", question, {"(*o)"}, Judgement::accepted);
+    judges("the others unmet", question, {"o"}, Judgement::accepted);
+    judges("an empty second system is met", entailment(1, 1), {"*"}, Judgement::extends);
+}
+
+// The solution that a question shows is accepted, by each way of handing it over.
+void judged_as_shown() {
+    Question question = entailment(2, 1);
+    const Constant left = take(question.constant("(*o)"));
+    take(question.first(may_read(v0)));
+    take(question.second(join(left, own0, v0)));
+    Workspace workspace;
+    const auto [result, solution] = ask(question, workspace);
+    check(bool(solution) && result.verdict == Verdict::no, "a solution is shown");
+    check(solution.bytes().data == workspace.answer.data() && solution.bytes().size == 1536, "the bytes of a solution");
+    const String rows(workspace.answer.begin(), workspace.answer.end());
+    check(judge(question, solution).judgement == Judgement::accepted &&
+              judge(question, Bytes{rows.data(), rows.size()}).judgement == Judgement::accepted &&
+              judge(question.bytes(), solution.bytes()).judgement == Judgement::accepted,
+          "what is shown is accepted");
+    Rows again;
+    for (std::size_t i = 0; i < solution.variables(); ++i) take(again.set(Free{i}, solution.text(Free{i}).str()));
+    check(copy(again) == rows && judge(question, again).judgement == Judgement::accepted, "and by its texts");
+    check(copy(question) == String(question.bytes().begin(), question.bytes().end()) &&
+              String(workspace.answer.begin(), workspace.answer.end()) == rows,
+          "and nothing changed");
+
+    question = satisfiability(1);
+    take(question.first(join(v0, v0, take(question.constant("*")))));
+    const Solution none = ask(question, workspace).solution;
+    check(!none && none.bytes().size == 0 && judge(question, none).refusal == Refusal::not_12_rows,
+          "no solution has no rows");
+}
+
+// A question for each refusal, with its place; the bytes of the constants and clauses are put in behind the head.
+const struct {
+    Refusal refusal;
+    std::uint16_t place;
+    String bytes;
+} refused_questions[] = {{Refusal::no_head, 0, {}},
+                         {Refusal::no_head, 0, {0x02, 0x00, 0x00, 0x00, 0x00}},
+                         {Refusal::cut_short, 4, {0x01, 0x00, 0x01, 0x00}},
+                         {Refusal::cut_short, 6, {0x01, 0x00, 0x01, 0x00, 0x31, 0x00, 0x13, 0x00}},
+                         {Refusal::unknown_command, 4, {0x01, 0x00, 0x01, 0x00, 0x04, 0x00}},
+                         {Refusal::out_of_order, 6, {0x01, 0x00, 0x01, 0x00, 0x31, 0x00, 0x01, 0x00, 0x01, 0x00, 0x00}},
+                         {Refusal::bad_head, 0, {0x01, 0x02, 0x01, 0x00, 0x00}},
+                         {Refusal::bad_head, 0, {0x01, 0x01, 0x0C, 0x01, 0x00}},
+                         {Refusal::bad_term, 7, {0x01, 0x00, 0x02, 0x00, 0x12, 0x00, 0x01, 0x12, 0x00, 0x02, 0x00}},
+                         {Refusal::no_second_system, 4, {0x01, 0x00, 0x01, 0x00, 0x38, 0x00, 0x00}},
+                         {Refusal::after_the_end, 5, {0x01, 0x00, 0x01, 0x00, 0x00, 0x00}}};
+
+// The refusals of the question come before those of the rows, whatever the rows are.
+void judged_not(const String& question, Refusal refusal, std::size_t place) {
+    const String wrong(1536, 0xFF), zero(1536);
+    const Bytes asked{question.data(), question.size()};
+    for (const Bytes rows :
+         {Bytes{nullptr, 0}, Bytes{wrong.data(), 1535}, Bytes{wrong.data(), 1536}, Bytes{zero.data(), 1536}}) {
+        const Judged judged = judge(asked, rows);
+        check(judged.judgement == Judgement::refused && judged.refusal == refusal && judged.place == place &&
+                  !judged.clause,
+              "judging is refused: " + std::string(describe(refusal)));
+    }
+    Workspace workspace;
+    const Result result = ask(asked, workspace).result;
+    check(result.refusal == refusal && result.place == place, "asking too: " + std::string(describe(refusal)));
+}
+
+void judging_refused() {
+    for (const auto& question : refused_questions) judged_not(question.bytes, question.refusal, question.place);
+    String constants{0x01, 0x00, 0x01, 0x00}, clauses{0x01, 0x01, 0x01, 0x00};
+    for (int i = 0; i < 33; ++i) constants.insert(constants.end(), {0x03, 0x00, 0x00, 0x00, 0x00});
+    for (int i = 0; i < 65; ++i) clauses.insert(clauses.end(), {0x38, 0x00});
+    judged_not(constants, Refusal::too_many_constants, 4 + 5 * 32);
+    judged_not(clauses, Refusal::too_many_clauses, 4 + 2 * 64);
+
+    // The rows: 18 before 19, and 19 before a broken clause.
+    Question question = entailment(2, 1);
+    take(question.first(may_write(v0)));
+    const String wrong(1537, 0xFF);
+    for (const std::size_t size : {0u, 1u, 128u, 256u, 1535u, 1537u}) {
+        const Judged judged = judge(question, Bytes{wrong.data(), size});
+        check(judged.judgement == Judgement::refused && judged.refusal == Refusal::not_12_rows && judged.place == 0,
+              std::to_string(size) + " bytes are no rows");
+    }
+    Rows rows;
+    for (std::size_t i = 0; i < 12; ++i) {
+        Rows one = rows;
+        take(one.set(Free{i}, "(o(o(o(o(o(o(o(o(o(o*))))))))))"));
+        const Judged judged = judge(question, one);
+        const bool free = i < 2;
+        check(judged.judgement == (free ? Judgement::broken : Judgement::refused) && judged.place == 0 &&
+                  judged.refusal == (free ? Refusal::none : Refusal::row_not_zero) && judged.clause.has_value() == free,
+              "a leaf of variable " + std::to_string(i));
+    }
+}
+
+void judged_fields() {
+    // Every byte of the number, each value unlike the others.
+    const Judged fields = decode_judged(0xFFFFFF'5E'039D'08'02);
+    check(fields.judgement == Judgement::broken && fields.refusal == Refusal::bad_term && fields.place == 925 &&
+              fields.clause == 94u,
+          "each field of a judgement");
+    for (const std::uint64_t number : {0u, 1u, 3u})
+        check(!decode_judged(number | std::uint64_t{7} << 32).clause, "a clause number only where one is broken");
+    for (unsigned i = 0; i < 4; ++i)
+        check(describe(static_cast<Judgement>(i)) != "unknown judgement", "a text for judgement " + std::to_string(i));
+}
+
 // ---------------------------------------------------------------- No heap
 
 void no_heap() {
@@ -1035,9 +1428,14 @@ void no_heap() {
     const QuestionText asked = text_of(question);
     const auto [result, solution] = ask(question, workspace);
     const Text text = solution.text(v0);
-    fine =
-        fine && result.verdict == Verdict::no && !text.view().empty() && !asked.view().empty() && allocations == before;
-    check(fine, "no heap from building to tree text");
+    Rows rows;
+    fine = fine && rows.set(v0, text.view()).error == Error::none && rows.set(v1, "((oo)*)").place == 1 &&
+           judge(question, solution).judgement == Judgement::accepted;
+    const Judged judged = judge(question, rows);
+    const ClauseText clause = text_of(question, System::first, judged.clause.value_or(99));
+    fine = fine && clause.view() == "v00 join (*o) is v01" && result.verdict == Verdict::no && !text.view().empty() &&
+           !asked.view().empty() && allocations == before;
+    check(fine, "no heap from building to judging");
     delete new int;
     check(allocations > before, "allocations are counted");
 }
@@ -1067,6 +1465,16 @@ int main() {
     joins();
     heights();
     texts();
+    clauses_by_number();
+    rows_of_shares();
+    rows_with_errors();
+    texts_of_rows();
+    rows_written_and_read();
+    judged_satisfiability();
+    judged_entailment();
+    judged_as_shown();
+    judging_refused();
+    judged_fields();
     no_heap();
     std::printf("%d passed, %d failed\n", passed, failed);
     return failed == 0 ? 0 : 1;

@@ -13,6 +13,7 @@ static void check(int holds, const char *what) {
 }
 
 static uint8_t answer[ZIMORGAL_ANSWER_BYTES], work[ZIMORGAL_WORK_BYTES], text[ZIMORGAL_TEXT_BYTES];
+static uint8_t rows[ZIMORGAL_ROWS_BYTES + 1];
 
 /* SPEC 12.13. */
 static const uint8_t example[] = {0x01, 0x00, 0x01, 0x00, 0x03, 0xFF, 0xFF, 0x00, 0x00, 0x03,
@@ -27,6 +28,69 @@ static void calls(void) {
         zimorgal_text(answer + zimorgal_row_offset(row), zimorgal_row_length(row), text, sizeof text);
     check(written == 4 && memcmp(text, "(o*)", 4) == 0, "the text of row 0 is (o*)");
     check(zimorgal_constant(text, zimorgal_text_length(written)) == 0xFFFF0000, "(o*) is read again");
+    check(zimorgal_judge(example, sizeof example, answer, sizeof answer) == ZIMORGAL_ROWS_ACCEPTED,
+          "what is shown of the example is accepted");
+}
+
+/* Judges all rows, of which the first two are repeated bytes. */
+static uint64_t judge_repeated(const uint8_t *question, size_t length, int first, int second) {
+    memset(rows, 0, sizeof rows);
+    memset(rows, first, ZIMORGAL_ROW_BYTES);
+    memset(rows + ZIMORGAL_ROW_BYTES, second, ZIMORGAL_ROW_BYTES);
+    return zimorgal_judge(question, length, rows, ZIMORGAL_ROWS_BYTES);
+}
+
+static const uint64_t broken_1 = ZIMORGAL_CLAUSE_BROKEN | (uint64_t)1 << 32;
+static const uint64_t broken_2 = ZIMORGAL_CLAUSE_BROKEN | (uint64_t)2 << 32;
+
+/* v0 and v1 held together, v1 not empty, v1 is full. */
+static void judged_satisfiability(void) {
+    static const uint8_t question[] = {0x01, 0x00, 0x02, 0x00, 0x32, 0x00, 0x01, 0x31, 0x01, 0x30, 0x01, 0x00};
+    check(judge_repeated(question, sizeof question, 0, 0xFF) == ZIMORGAL_ROWS_ACCEPTED, "a solution");
+    check(judge_repeated(question, sizeof question, 0xFF, 0xFF) == ZIMORGAL_CLAUSE_BROKEN, "clause 0, a positive one");
+    check(judge_repeated(question, sizeof question, 0xFF, 0) == broken_1, "clause 1, a disequation");
+    check(judge_repeated(question, sizeof question, 0x55, 0xAA) == broken_2, "clause 2, a positive one after it");
+    rows[2 * ZIMORGAL_ROW_BYTES - 1] = 0;
+    check(zimorgal_judge(question, sizeof question, rows, ZIMORGAL_ROWS_BYTES) == broken_2, "the last leaves of a row");
+}
+
+/* v0 not empty; then own v2 joined to v1 is v0, own v2 not empty; v0 is not full. Clauses of the second system stand between
+   those of the first. */
+static void judged_entailment(void) {
+    static const uint8_t question[] = {0x01, 0x01, 0x02, 0x01, 0x03, 0xFF, 0xFF, 0xFF, 0xFF, 0x31, 0x00,
+                                       0x20, 0x02, 0x01, 0x00, 0x39, 0x02, 0x13, 0x00, 0x20, 0x00};
+    check(judge_repeated(question, sizeof question, 0x0F, 0xF0) == ZIMORGAL_ROWS_ACCEPTED,
+          "a positive clause is unmet");
+    check(judge_repeated(question, sizeof question, 0x0F, 0x0F) == ZIMORGAL_ROWS_ACCEPTED, "a disequation is unmet");
+    check(judge_repeated(question, sizeof question, 0x0F, 0x0E) == ZIMORGAL_ROWS_EXTEND, "rows that extend");
+    check(judge_repeated(question, sizeof question, 0, 0) == ZIMORGAL_CLAUSE_BROKEN,
+          "clause 0 before the second system");
+    check(judge_repeated(question, sizeof question, 0xFF, 0) == broken_1, "clause 1 behind the second system");
+    const uint64_t asked = zimorgal_ask(question, sizeof question, answer, sizeof answer, work, sizeof work);
+    check(zimorgal_shows(asked, ZIMORGAL_ENTAILMENT), "one that does not extend is shown");
+    check(zimorgal_judge(question, sizeof question, answer, ZIMORGAL_ROWS_BYTES) == ZIMORGAL_ROWS_ACCEPTED,
+          "what is shown is accepted");
+}
+
+/* Each refusal of a question first, then 18, then 19. */
+static void judging_refused(void) {
+    static const uint8_t cut[] = {0x01, 0x00, 0x01, 0x00, 0x31}, more[] = {0x01, 0x00, 0x01, 0x00, 0x00, 0x00};
+    memset(rows, 0xFF, sizeof rows);
+    check(zimorgal_judge(cut, sizeof cut, rows, 3) == (ZIMORGAL_CUT_SHORT << 8 | 4 << 16), "the question before 18");
+    check(zimorgal_judge(more, sizeof more, rows, ZIMORGAL_ROWS_BYTES) == (ZIMORGAL_AFTER_THE_END << 8 | 5 << 16),
+          "the question before 19");
+    for (size_t length = ZIMORGAL_ROWS_BYTES - 1; length <= sizeof rows; length += 2)
+        check(zimorgal_judge(example, sizeof example, rows, length) == ZIMORGAL_NOT_12_ROWS << 8, "18 before 19");
+    check(zimorgal_judge(example, sizeof example, rows, ZIMORGAL_ROWS_BYTES) == ZIMORGAL_ROW_NOT_ZERO << 8,
+          "19 before a broken clause");
+    memset(rows, 0, sizeof rows);
+    for (size_t row = 1; row < 12; ++row) {
+        rows[(row + 1) * ZIMORGAL_ROW_BYTES - 1] = 0x80;
+        check(zimorgal_judge(example, sizeof example, rows, ZIMORGAL_ROWS_BYTES) == ZIMORGAL_ROW_NOT_ZERO << 8,
+              "the last bit of a row of no free variable");
+        rows[(row + 1) * ZIMORGAL_ROW_BYTES - 1] = 0;
+    }
+    check(zimorgal_judge(example, sizeof example, rows, ZIMORGAL_ROWS_BYTES) == ZIMORGAL_CLAUSE_BROKEN, "all zero");
 }
 
 static void joins_and_heights(void) {
@@ -89,6 +153,13 @@ static void fields(void) {
     check(zimorgal_reason(result) == ZIMORGAL_DISEQUATION_UNMET, "reason");
     check(zimorgal_disequation(result) == 30, "disequation");
 
+    const uint64_t judged = 0x0000005E039D0802;
+    check(zimorgal_judgement(judged) == ZIMORGAL_CLAUSE_BROKEN, "judgement");
+    check(zimorgal_judge_refusal(judged) == ZIMORGAL_BAD_TERM, "refusal of judging");
+    check(zimorgal_judge_place(judged) == 925, "place of judging");
+    check(zimorgal_broken_clause(judged) == 94, "broken clause");
+    check(zimorgal_broken_clause(0xFFFFFF00FFFFFFFF) == 0, "no byte beside it");
+
     check(zimorgal_row_offset(0x0000008000000580) == 0x580, "offset of a row");
     check(zimorgal_row_length(0x0000008000000580) == 0x80, "length of a row");
     check(zimorgal_text_length(0x0000000000000BFE) == 3070, "length of a text");
@@ -135,18 +206,24 @@ static void nothing_lent(void) {
     check(zimorgal_text(NULL, 0, NULL, 0) == (uint64_t)ZIMORGAL_NOT_A_ROW << 32, "NULL row");
     check(zimorgal_text(answer, ZIMORGAL_ROW_BYTES, NULL, 0) == (uint64_t)ZIMORGAL_TEXT_TOO_SHORT << 32, "NULL text");
     check(zimorgal_constant(NULL, 0) == (uint64_t)ZIMORGAL_NOT_TREE_TEXT << 32, "NULL tree text");
+    check(zimorgal_judge(NULL, 0, NULL, 0) == ZIMORGAL_NO_HEAD << 8, "NULL question to be judged for");
+    check(zimorgal_judge(example, sizeof example, NULL, 0) == ZIMORGAL_NOT_12_ROWS << 8, "NULL rows");
 }
 
 int main(void) {
     calls();
+    judged_satisfiability();
+    judged_entailment();
+    judging_refused();
     joins_and_heights();
     tree_texts();
     version();
     fields();
     shown_or_not();
     in_words(zimorgal_describe_verdict, ZIMORGAL_NO, "unknown verdict");
-    in_words(zimorgal_describe_refusal, ZIMORGAL_TOO_TALL, "unknown refusal");
+    in_words(zimorgal_describe_refusal, ZIMORGAL_ROW_NOT_ZERO, "unknown refusal");
     in_words(zimorgal_describe_reason, ZIMORGAL_DISEQUATION_UNMET, "unknown reason");
+    in_words(zimorgal_describe_judgement, ZIMORGAL_ROWS_EXTEND, "unknown judgement");
     nothing_lent();
     printf("%d passed, %d failed\n", passed, failed);
     return failed != 0;

@@ -1,7 +1,8 @@
 // Random programs for the builder of zimorgal.hpp. Each step is also put to a model, which says whether it is to be
 // taken and what the question means after it. The question's bytes, read by a reader of its own (reader.hpp), must mean
 // just that, and the library must accept them: after every step, taken or not, with any value of any enum, with numbers
-// that name nothing, and with constants of other questions and of earlier starts.
+// that name nothing, and with constants of other questions and of earlier starts. Rows are judged for some of the
+// questions, and must come out as a judge of its own (judge.hpp) says.
 //
 //     programs [FOLDER [PROGRAMS]]
 //
@@ -12,10 +13,11 @@
 #include <cstdio>
 #include <cstdlib>
 #include <fstream>
+#include <optional>
 #include <string>
 #include <vector>
 
-#include "reader.hpp"
+#include "judge.hpp"
 #include "zimorgal.hpp"
 
 using namespace zimorgal;
@@ -93,8 +95,11 @@ struct Step {
     bool gives_constant() const { return sort == Sort::leaves || sort == Sort::text || sort == Sort::join; }
 };
 
-// How often each error was due.
-using Seen = std::array<long, static_cast<std::size_t>(Error::undefined_join) + 1>;
+// How often each error was due, and each judgement.
+struct Seen {
+    std::array<long, static_cast<std::size_t>(Error::undefined_join) + 1> errors{};
+    std::array<long, 4> judgements{};
+};
 
 Error due_term(const Model& model, bool second, const Put& put, reader::Term& means) {
     const bool free = put.sort == reader::Sort::free, own = put.sort == reader::Sort::own;
@@ -318,6 +323,11 @@ class Program {
     bool take_draft(std::size_t which, Seen& seen);
     bool means_its_model(std::size_t which) const;
     bool reads_damage_alike(std::size_t which);
+    bool finds_its_clauses(std::size_t which) const;
+    Rows first_solution(std::size_t which);
+    void turn_leaf(Rows& rows, std::size_t free);
+    bool judges_alike(std::size_t which, const Rows& rows, Seen& seen) const;
+    bool judges_alike(std::size_t which, Seen& seen);
 
     Random random_;
     unsigned starts_, wild_;
@@ -379,7 +389,7 @@ bool Program::take_step(std::size_t which, Seen& seen) {
     const Error expected = due(models_[which], next);
     Constant constant;
     const Error error = take(questions_[which], next, constant);
-    ++seen[static_cast<std::size_t>(expected)];
+    ++seen.errors[static_cast<std::size_t>(expected)];
     return error == expected && (error == Error::none || copy(questions_[which]) == before) &&
            keep(next, models_[which], error, constant);
 }
@@ -400,7 +410,7 @@ bool Program::take_draft(std::size_t which, Seen& seen) {
             continue;
         }
         first = due(model, next);
-        ++seen[static_cast<std::size_t>(first)];
+        ++seen.errors[static_cast<std::size_t>(first)];
         taken += first == Error::none;
         right = right && keep(next, model, first, constant);
     }
@@ -438,9 +448,103 @@ bool Program::reads_damage_alike(std::size_t which) {
     return static_cast<unsigned>(result.refusal) == reading.refusal && result.place == reading.place;
 }
 
+// ---------------------------------------------------------------- Clauses by their number
+
+// A clause as ClauseText is to write it.
+std::string clause_text(const reader::Question& question, const reader::Clause& clause) {
+    std::string terms[3];
+    for (std::size_t i = 0; i < clause.terms.size(); ++i) {
+        const reader::Term& term = clause.terms[i];
+        const unsigned variable = term.value + (term.sort == reader::Sort::own ? question.free : 0);
+        terms[i] = term.sort == reader::Sort::share ? text_by_halves(term.value, 32)
+                                                    : (variable < 10 ? "v0" : "v") + std::to_string(variable);
+    }
+    const auto& [a, b, c] = terms;
+    switch (clause.said) {
+        case reader::Said::join: return (clause.negated ? "not " : "") + a + " join " + b + " is " + c;
+        case reader::Said::equal: return a + (clause.negated ? " is not " : " is ") + b;
+        case reader::Said::full: return a + " may write";
+        case reader::Said::empty: return a + " may read";
+        default: return a + " with " + b;
+    }
+}
+
+// Each clause is found by its number in its system, and no other.
+bool Program::finds_its_clauses(std::size_t which) const {
+    const Question& question = questions_[which];
+    std::size_t counts[2] = {};
+    bool right = true;
+    for (const reader::Clause& clause : models_[which].question.clauses) {
+        const ClauseText text = text_of(question, static_cast<System>(clause.second), counts[clause.second]++);
+        right = right && text.view() == clause_text(models_[which].question, clause);
+    }
+    for (const System system : {System::first, System::second}) {
+        const std::size_t count = counts[static_cast<std::size_t>(system)];
+        right = right && question.clauses(system) == count && text_of(question, system, count).str().empty();
+    }
+    return right;
+}
+
+// ---------------------------------------------------------------- Rows
+
+// A solution of the first system alone; random shares if it has none.
+Rows Program::first_solution(std::size_t which) {
+    const std::vector<std::uint8_t> alone = reader::first_alone(copy(questions_[which]));
+    Workspace workspace;
+    const Solution solution = ask(Bytes{alone.data(), alone.size()}, workspace).solution;
+    Rows rows;
+    for (std::size_t i = 0; i < questions_[which].free_variables(); ++i) {
+        const Free variable{i};
+        const SetShare set = solution ? rows.set(variable, solution.row(variable)) : rows.set(variable, leaves());
+        if (set.error != Error::none) check(false, "a share is set");
+    }
+    return rows;
+}
+
+// Turns a leaf of a free variable round, or now and then of a variable that is none.
+void Program::turn_leaf(Rows& rows, std::size_t free) {
+    const Free variable{free == 0 || random_.one_in(10) ? random_.below(12)
+                                                        : random_.below(static_cast<unsigned>(free))};
+    const Bytes row = rows.row(variable);
+    std::vector<std::uint8_t> bytes(row.begin(), row.end());
+    const unsigned leaf = random_.below(1024);
+    bytes[leaf / 8] = static_cast<std::uint8_t>(bytes[leaf / 8] ^ 1u << leaf % 8);
+    const SetShare set = rows.set(variable, Bytes{bytes.data(), bytes.size()});
+    if (set.error != Error::none) check(false, "a row is set");
+}
+
+bool Program::judges_alike(std::size_t which, const Rows& rows, Seen& seen) const {
+    const std::vector<std::uint8_t> question = copy(questions_[which]);
+    const Bytes bytes = rows.bytes();
+    const std::uint64_t due = reader::judge(question, {bytes.begin(), bytes.end()});
+    const Judged judged = judge(questions_[which], rows);
+    ++seen.judgements[due & 0xFF];
+    const auto clause = (due & 0xFF) == 2 ? std::optional<std::size_t>(due >> 32) : std::nullopt;
+    return zimorgal_judge(question.data(), question.size(), bytes.data, bytes.size) == due &&
+           static_cast<std::uint64_t>(judged.judgement) == (due & 0xFF) &&
+           static_cast<std::uint64_t>(judged.refusal) == (due >> 8 & 0xFF) && judged.place == 0 &&
+           judged.clause == clause;
+}
+
+// A solution of the first system is judged, and rows that differ from it at some leaves; and what asking shows is
+// accepted.
+bool Program::judges_alike(std::size_t which, Seen& seen) {
+    Rows rows = first_solution(which);
+    bool right = judges_alike(which, rows, seen);
+    for (int i = 0; i < 3; ++i) {
+        turn_leaf(rows, questions_[which].free_variables());
+        right = judges_alike(which, rows, seen) && right;
+    }
+    Workspace workspace;
+    const auto [result, solution] = ask(questions_[which], workspace);
+    return right && result.verdict != Verdict::refused &&
+           (!solution || judge(questions_[which], solution).judgement == Judgement::accepted);
+}
+
+// ---------------------------------------------------------------- All of it
+
 long Program::run(int steps, Seen& seen, std::ostream* meanings) {
     long wrong = 0;
-    Workspace workspace;
     for (int i = 0; i < steps; ++i) {
         const std::size_t which = starts_ > 12 && !random_.one_in(4) ? 0 : random_.below(3);
         bool right = true;
@@ -455,7 +559,8 @@ long Program::run(int steps, Seen& seen, std::ostream* meanings) {
         }
         right = right && means_its_model(which);
         if (right && random_.one_in(20)) right = reads_damage_alike(which);
-        if (right && random_.one_in(50)) right = ask(questions_[which], workspace).result.verdict != Verdict::refused;
+        if (right && random_.one_in(20)) right = finds_its_clauses(which);
+        if (right && random_.one_in(20)) right = judges_alike(which, seen);
         wrong += !right;
         if (meanings != nullptr && i % 25 == 24)
             *meanings << hexadecimal(copy(questions_[which])) << '\t' << meaning(models_[which].question) << '\n';
@@ -500,7 +605,7 @@ Question longest_text() {
 int main(int count, char** words) {
     const std::string folder = count > 1 && std::string(words[1]) != "-" ? words[1] : "";
     const int enough = 120, programs = count > 2 ? std::atoi(words[2]) : enough;
-    Seen seen{};
+    Seen seen;
     std::ofstream meanings;
     if (!folder.empty()) meanings.open(folder + "/meanings");
     for (int seed = 0; seed < programs; ++seed) {
@@ -509,8 +614,10 @@ int main(int count, char** words) {
         check(wrong == 0, "program " + std::to_string(seed) + ": " + std::to_string(wrong) + " steps are wrong");
         if (!folder.empty() && seed < 10) leave(folder, seed, program.question());
     }
-    for (unsigned i = 0; i < seen.size() && programs >= enough; ++i)
-        check(seen[i] > 20, "the programs meet: " + std::string(describe(static_cast<Error>(i))));
+    for (unsigned i = 0; i < seen.errors.size() && programs >= enough; ++i)
+        check(seen.errors[i] > 20, "the programs meet: " + std::string(describe(static_cast<Error>(i))));
+    for (unsigned i = 0; i < seen.judgements.size() && programs >= enough; ++i)
+        check(seen.judgements[i] > 200, "rows are: " + std::string(describe(static_cast<Judgement>(i))));
     check(meanings.flush().good(), "the meanings are written");
     const Question longest = longest_text();
     if (!folder.empty()) leave(folder, 10, longest);

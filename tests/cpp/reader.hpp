@@ -173,7 +173,7 @@ inline Reading read(const std::uint8_t* bytes, std::size_t length) {
     return reading;
 }
 
-// ---------------------------------------------------------------- Tree texts of constants
+// ---------------------------------------------------------------- Tree texts of constants and of rows
 
 // A tree as it is written: the sign that it starts with, where that stands, and of a pair the halves.
 struct Tree {
@@ -187,6 +187,13 @@ struct TreeReading {
     unsigned refusal;
     std::size_t place;
     std::uint32_t leaves;
+};
+
+// The same for a row, whose faults have the numbers that they have in the text of a constant.
+struct RowReading {
+    unsigned refusal;
+    std::size_t place;
+    std::vector<bool> leaves;
 };
 
 namespace parts {
@@ -228,19 +235,43 @@ inline bool full(const Tree& tree, unsigned path, unsigned bits) {
     return full(tree.halves[path >> (bits - 1) & 1], path, bits - 1);
 }
 
+// The refusal number of a text that is to be a tree of at most that height, in at most so many characters, and the place.
+// The tree is read too.
+inline unsigned tree_fault(const std::string& text, std::size_t most, unsigned tallest, Tree& made,
+                           std::size_t& place) {
+    place = 0;
+    // Nothing can stand behind the longest text.
+    if (!tree(text.substr(0, most), place, made) || place < text.size()) return 15;
+    if (const Tree* const pair = unfolded(made)) {
+        place = pair->at;
+        return 16;
+    }
+    if (const Tree* const pair = inside(made, tallest)) {
+        place = pair->at;
+        return 17;
+    }
+    place = 0;
+    return 0;
+}
+
 }  // namespace parts
 
 inline TreeReading read_tree(const std::string& text) {
     Tree tree{};
-    std::size_t at = 0;
-    // Nothing can stand at offset 94.
-    if (!parts::tree(text.substr(0, 94), at, tree) || at < text.size()) return {15, at, 0};
-    if (const Tree* const pair = parts::unfolded(tree)) return {16, pair->at, 0};
-    if (const Tree* const pair = parts::inside(tree, 5)) return {17, pair->at, 0};
-    std::uint32_t leaves = 0;
-    for (unsigned leaf = 0; leaf < 32; ++leaf)
-        if (parts::full(tree, leaf, 5)) leaves |= std::uint32_t{1} << leaf;
-    return {0, 0, leaves};
+    TreeReading reading{0, 0, 0};
+    reading.refusal = parts::tree_fault(text, 94, 5, tree, reading.place);
+    for (unsigned leaf = 0; leaf < 32 && reading.refusal == 0; ++leaf)
+        if (parts::full(tree, leaf, 5)) reading.leaves |= std::uint32_t{1} << leaf;
+    return reading;
+}
+
+inline RowReading read_row(const std::string& text) {
+    Tree tree{};
+    RowReading reading{0, 0, {}};
+    reading.refusal = parts::tree_fault(text, 3070, 10, tree, reading.place);
+    for (unsigned leaf = 0; leaf < 1024 && reading.refusal == 0; ++leaf)
+        reading.leaves.push_back(parts::full(tree, leaf, 10));
+    return reading;
 }
 
 }  // namespace reader

@@ -1,7 +1,7 @@
 // The stack that a call takes: threads with exactly ZIMORGAL_STACK_BYTES of it, and nothing that can be read or written
-// below, ask the dearest shapes of questions and read the deepest tree texts. What they touched is measured too: it must
-// leave a quarter, and a call must take under 8 KB, that is, a thread that calls more than one that does nothing. By
-// itself, from the repository's top folder:
+// below, ask the dearest shapes of questions, judge rows for them and read the deepest tree texts. What they touched is
+// measured too: it must leave a quarter, and judging must take under 16 KB and any other call under 8 KB, that is, a thread
+// that calls more than one that does nothing. By itself, from the repository's top folder:
 //
 //     g++ -std=c++17 -O1 -pthread -Iinclude tests/cpp/stack.cpp target/staticlib/libzimorgal.a -o stack && ./stack
 //
@@ -13,7 +13,6 @@
 #include <cstdio>
 #include <cstring>
 #include <string>
-#include <utility>
 #include <vector>
 
 #include "zimorgal.hpp"
@@ -133,6 +132,8 @@ struct Run {
     Workspace workspace;
     Result result;
     std::size_t length;
+    Bytes rows;
+    Judged judged;
 };
 
 // Does nothing, so that what a thread takes for itself is known.
@@ -154,6 +155,28 @@ void* ask_with_all(void* argument) {
     run.result = answer.result;
     const Text text = answer.solution.text(Free{0});
     run.length = text.view().size();
+    return nullptr;
+}
+
+// Judges rows that lie elsewhere.
+void* judge_only(void* argument) {
+    Run& run = *static_cast<Run*>(argument);
+    run.judged = judge(run.shape->question, run.rows);
+    return nullptr;
+}
+
+// Puts rows together from tree texts, judges them and writes the clause that they break, with everything on this stack.
+void* judge_with_all(void* argument) {
+    Run& run = *static_cast<Run*>(argument);
+    const Question question = run.shape->question;
+    Rows rows;
+    for (std::size_t i = 0; i < question.free_variables(); ++i) {
+        const Text text(Bytes{run.rows.data + ZIMORGAL_ROW_BYTES * i, ZIMORGAL_ROW_BYTES});
+        if (rows.set(Free{i}, text.view()).error != Error::none) return nullptr;
+    }
+    run.judged = judge(question, rows);
+    const ClauseText clause = text_of(question, System::first, run.judged.clause.value_or(0));
+    run.length = clause.view().size();
     return nullptr;
 }
 
@@ -183,42 +206,78 @@ std::size_t touched(std::size_t size, void* (*call)(void*), Run& run) {
     return used;
 }
 
+// ---------------------------------------------------------------- What is touched at most
+
+int passed = 0, failed = 0;
+
+void check(bool holds, const char* what, const char* name) {
+    ++(holds ? passed : failed);
+    if (!holds) std::printf("FAILED %s: %s\n", what, name);
+}
+
+// By a thread that asks, judges or reads a tree text, with buffers elsewhere or with all on its stack.
+struct Most {
+    std::size_t asking = 0, asking_with_all = 0, judging = 0, judging_with_all = 0, reading = 0;
+};
+
+// Runs a thread and keeps the most that one touched. Gives whether there was such a thread.
+bool runs(void* (*call)(void*), Run& run, std::size_t& most) {
+    const std::size_t used = touched(ZIMORGAL_STACK_BYTES, call, run);
+    most = std::max(most, used);
+    return used > 0;
+}
+
+void asked(const Shape& shape, Run& run, Most& most) {
+    check(runs(ask_only, run, most.asking) && run.result.verdict == shape.verdict && run.result.reason == shape.reason,
+          "asked", shape.name);
+    check(runs(ask_with_all, run, most.asking_with_all) && run.result.verdict == shape.verdict,
+          "asked with all on the stack", shape.name);
+}
+
+// What is shown is judged, and must be accepted; empty shares where nothing is shown, and must not.
+void judged(const Shape& shape, Run& run, Most& most) {
+    const Rows none;
+    const Solution solution = ask(shape.question, run.workspace).solution;
+    run.rows = solution ? solution.bytes() : none.bytes();
+    const auto right = [&] {
+        const Judgement judgement = run.judged.judgement;
+        return judgement != Judgement::refused && (judgement == Judgement::accepted) == bool(solution);
+    };
+    check(runs(judge_only, run, most.judging) && right(), "judged", shape.name);
+    run.judged = {};
+    check(runs(judge_with_all, run, most.judging_with_all) && right(), "judged with all on the stack", shape.name);
+}
+
 }  // namespace
 
 int main() {
-    int passed = 0, failed = 0;
-    const auto check = [&](bool holds, const char* what, const char* name) {
-        ++(holds ? passed : failed);
-        if (!holds) std::printf("FAILED %s: %s\n", what, name);
-    };
     static Run run;
     const std::size_t own = touched(ZIMORGAL_STACK_BYTES, do_nothing, run);
-    std::size_t most = 0, most_with_all = 0, most_reading = 0;
+    Most most;
     const std::vector<Shape> all = shapes();
     check(made, "the questions", "every step is taken");
     for (const Shape& shape : all) {
         run.shape = &shape;
-        const std::size_t used = touched(ZIMORGAL_STACK_BYTES, ask_only, run);
-        check(used > 0 && run.result.verdict == shape.verdict && run.result.reason == shape.reason, "asked",
-              shape.name);
-        const std::size_t used_with_all = touched(ZIMORGAL_STACK_BYTES, ask_with_all, run);
-        check(used_with_all > 0 && run.result.verdict == shape.verdict, "asked with all on the stack", shape.name);
-        most = std::max(most, used);
-        most_with_all = std::max(most_with_all, used_with_all);
+        asked(shape, run, most);
+        judged(shape, run, most);
     }
     for (const TreeText& text : tree_texts()) {
         run.text = &text;
-        const std::size_t used = touched(ZIMORGAL_STACK_BYTES, read_text, run);
-        check(used > 0 && run.parsed.error == text.error, "read", text.name);
-        most_reading = std::max(most_reading, used);
+        check(runs(read_text, run, most.reading) && run.parsed.error == text.error, "read", text.name);
     }
     std::printf("a thread that does nothing touches %zu bytes of its stack, one that asks %zu, so a call %zu;\n", own,
-                most, most - own);
-    std::printf("with question, buffers and text on it %zu; one that reads a tree text %zu, so a call %zu\n",
-                most_with_all, most_reading, most_reading - own);
-    const std::pair<const char*, std::size_t> calls[] = {{"asking", most}, {"reading a tree text", most_reading}};
-    for (const auto& [name, used] : calls) {
-        check(own > 0 && own < used && used - own < 8192, "a call takes under 8 KB", name);
+                most.asking, most.asking - own);
+    std::printf("with question, buffers and text on it %zu; one that judges %zu, so a call %zu;\n",
+                most.asking_with_all, most.judging, most.judging - own);
+    std::printf("with question, rows and texts on it %zu; one that reads a tree text %zu, so a call %zu\n",
+                most.judging_with_all, most.reading, most.reading - own);
+    const struct {
+        const char* name;
+        std::size_t used, bound;
+    } calls[] = {
+        {"asking", most.asking, 8192}, {"judging", most.judging, 16384}, {"reading a tree text", most.reading, 8192}};
+    for (const auto& [name, used, bound] : calls) {
+        check(own > 0 && own < used && used - own < bound, "a call takes no more than is said", name);
         check(used > 1000 && used <= ZIMORGAL_STACK_BYTES / 4 * 3, "a quarter of the stack is left", name);
     }
     std::printf("%d passed, %d failed\n", passed, failed);

@@ -1,10 +1,9 @@
 // The C calls, for libFuzzer. The first byte of an input chooses the lengths of the lent buffers and what they hold, and
 // whether the rest is the question as it is, or numbers that one is made of which is accepted. The rest is read as a tree
-// text as well. What is checked of each call is in docs/SPEC.md: 4 and 7 for asking, 6 for rows and texts, 6.5.2 and 7
-// for the constant call. That a shown counterexample does not extend is left to tests/brute. tests/fuzz/run builds and
-// runs it.
+// text as well, and rows are made of it, which are judged. What is checked of each call is in docs/SPEC.md: 4 and 7 for
+// asking, 6 for rows and texts, 6.5.2 and 7 for the constant call; ../cpp/judge.hpp says what judging is to give.
+// tests/fuzz/run builds and runs it.
 #include <algorithm>
-#include <bitset>
 #include <cstdio>
 #include <cstdlib>
 #include <cstring>
@@ -12,7 +11,7 @@
 #include <string>
 #include <vector>
 
-#include "../cpp/reader.hpp"
+#include "../cpp/judge.hpp"
 #include "zimorgal.h"
 
 namespace {
@@ -45,21 +44,7 @@ unsigned c(std::size_t n) {
 
 // ---------------------------------------------------------------- Shares as 1,024 leaves
 
-using Row = std::bitset<1024>;
-
-Row row_of_leaves(std::uint32_t leaves) {
-    static const Row block(0xFFFFFFFF);
-    Row row;
-    for (std::size_t i = 0; i < 32; ++i)
-        if (leaves >> i & 1) row |= block << 32 * i;
-    return row;
-}
-
-Row row_of_bytes(const std::uint8_t* bytes) {
-    Row row;
-    for (std::size_t i = 128; i > 0; --i) row = row << 8 | Row(bytes[i - 1]);
-    return row;
-}
+using reader::Row;
 
 // The leaves from one on, as tree text; and how tall that tree is.
 std::string text(const Row& row, std::size_t from, std::size_t width, unsigned& height) {
@@ -77,29 +62,6 @@ unsigned height(const Row& row) {
     unsigned found = 0;
     text(row, 0, 1024, found);
     return found;
-}
-
-// What is said of the terms, at every leaf.
-bool is_so(reader::Said said, const Row (&terms)[3]) {
-    const auto& [a, b, c] = terms;
-    switch (said) {
-        case reader::Said::join: return (a & b).none() && (a | b) == c;
-        case reader::Said::equal: return a == b;
-        case reader::Said::full: return a.all();
-        case reader::Said::empty: return a.none();
-        case reader::Said::together: return (a & b).none();
-    }
-    return false;
-}
-
-// A positive clause holds at every leaf, a disequation fails as a clause at one.
-bool holds(const reader::Clause& clause, const std::vector<Row>& variables) {
-    Row terms[3];
-    for (std::size_t i = 0; i < clause.terms.size(); ++i) {
-        const reader::Term& term = clause.terms[i];
-        terms[i] = term.sort == reader::Sort::share ? row_of_leaves(term.value) : variables[term.value];
-    }
-    return is_so(clause.said, terms) != clause.negated;
 }
 
 // ---------------------------------------------------------------- Questions made of numbers
@@ -166,7 +128,7 @@ std::vector<Row> rows(const Lent& answer) {
         check(part == (variable < 12 ? std::uint64_t{128} << 32 | 128 * variable : 0), "place of a row");
         if (variable == 12) break;
         const std::uint8_t* const bytes = answer.data.get() + zimorgal_row_offset(part);
-        all.push_back(row_of_bytes(bytes));
+        all.push_back(reader::row_of_bytes(bytes));
         unsigned tall = 0;
         const std::string due = text(all.back(), 0, 1024, tall);
         Lent fits(Bytes(due.size(), '#')), short_by_one(Bytes(due.size() - 1, '#'));
@@ -186,7 +148,7 @@ void shown(const reader::Question& question, const Lent& answer, unsigned given)
         check(variable < question.free || all[variable].none(), "the row of no free variable");
     }
     for (const reader::Clause& clause : question.clauses)
-        check(clause.second || holds(clause, all), "what is shown does not solve the first system");
+        check(clause.second || reader::holds(clause, all), "what is shown does not solve the first system");
 }
 
 // The height that is given with a shown solution.
@@ -195,7 +157,7 @@ unsigned height_due(const reader::Question& question) {
     std::size_t disequations = 0;
     for (const std::uint32_t leaves : question.constants) {
         unsigned tall = 0;
-        const std::string written = text(row_of_leaves(leaves), 0, 1024, tall);
+        const std::string written = text(reader::row_of_leaves(leaves), 0, 1024, tall);
         const Lent lent(Bytes(written.begin(), written.end()));
         check(zimorgal_height(leaves) == tall, "height of a constant");
         check(zimorgal_constant(lent.data.get(), lent.size) == leaves, "a constant written and read again");
@@ -203,6 +165,44 @@ unsigned height_due(const reader::Question& question) {
     }
     for (const reader::Clause& clause : question.clauses) disequations += clause.negated && !clause.second;
     return tallest + c(disequations + question.entailment);
+}
+
+// The judge call.
+std::uint64_t judge(const Bytes& question, const Bytes& rows) {
+    const Lent asked(question), judged(rows);
+    const std::uint64_t result = zimorgal_judge(asked.data.get(), asked.size, judged.data.get(), judged.size);
+    check(result == reader::judge(question, rows), "judged otherwise");
+    check(asked.now() == question && judged.now() == rows, "judging leaves every byte unchanged");
+    return result;
+}
+
+// A solution of the first system alone; no bytes if there is none.
+Bytes first_solution(const Bytes& question) {
+    const Bytes alone = reader::first_alone(question);
+    Bytes answer(1536), work(4096);
+    const std::uint64_t result =
+        zimorgal_ask(alone.data(), alone.size(), answer.data(), answer.size(), work.data(), work.size());
+    check(zimorgal_verdict(result) != ZIMORGAL_REFUSED, "the first system alone is accepted");
+    if (zimorgal_verdict(result) != ZIMORGAL_YES) return {};
+    check(judge(alone, answer) == ZIMORGAL_ROWS_ACCEPTED, "a solution of the first system alone is accepted");
+    return answer;
+}
+
+// Judges a solution of the first system of an accepted question, also with up to three leaves turned round, and rows made
+// of the input.
+void judged(const Bytes& question, const std::uint8_t* data, std::size_t size) {
+    Bytes rows = first_solution(question);
+    if (!rows.empty()) {
+        judge(question, rows);
+        for (std::size_t i = 0; i + 2 < size && i < 9; i += 3) {
+            const std::size_t leaf = data[i] % 4 * 256 + data[i + 1], row = data[i + 2] % (question[2] + 1) % 12;
+            rows[128 * row + leaf / 8] ^= static_cast<std::uint8_t>(1u << leaf % 8);
+            judge(question, rows);
+        }
+    }
+    Bytes made(1536);
+    for (std::size_t i = 0; i < std::size_t{128} * question[2]; ++i) made[i] = data[i / 8 % size];
+    judge(question, made);
 }
 
 }  // namespace
@@ -224,6 +224,9 @@ extern "C" int LLVMFuzzerTestOneInput(const std::uint8_t* data, std::size_t size
     const std::uint64_t result =
         zimorgal_ask(question.data.get(), question.size, answer.data.get(), answer.size, work.data.get(), work.size);
     check(question.now() == bytes, "the question is unchanged");
+
+    judge(bytes, answer.now());  // whatever stands there, and however long it is
+    if (reading.refusal == 0) judged(bytes, data, size);
 
     std::uint64_t refusal = reading.refusal << 8 | reading.place << 16;
     if (refusal == 0 && answer_bytes < 1536) refusal = 11 << 8;
@@ -251,7 +254,12 @@ extern "C" int LLVMFuzzerTestOneInput(const std::uint8_t* data, std::size_t size
     check(
         answer_due == Bytes(answer_before.end() - static_cast<std::ptrdiff_t>(answer_due.size()), answer_before.end()),
         "bytes that nothing is shown in");
-    if (shows) shown(asked, answer, zimorgal_height_given(result));
+    if (shows) {
+        shown(asked, answer, zimorgal_height_given(result));
+        const Bytes now = answer.now();
+        check(judge(bytes, Bytes(now.begin(), now.begin() + 1536)) == ZIMORGAL_ROWS_ACCEPTED,
+              "what is shown is accepted");
+    }
 
     const Lent again(answer_before), work_again(work_before);
     check(zimorgal_ask(question.data.get(), question.size, again.data.get(), again.size, work_again.data.get(),
