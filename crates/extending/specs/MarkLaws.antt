@@ -99,7 +99,7 @@ module _ (table : List ℕ) (w i leaves : ℕ) (small : i < 64) where
 
 -- ---- sets
 
--- a set of no words, and one of zeros, have no choice
+-- a set whose words are all 0 has no choice
 pub empty-set : (n c : ℕ) → T (inSet (replicate n 0) c) → ⊥
 unfolding inSet
 empty-set n c t = subst T (ap (λ x. bit x (c % 64)) (go n (c / 64)) ∙ bit-zero (c % 64)) t
