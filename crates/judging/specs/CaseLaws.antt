@@ -1,6 +1,6 @@
 -- Which case of judging is met. Assumes nothing.
-use mathlib.Core.Path.{_≡_, refl}
-use mathlib.Core.Bool.{true, false}
+use mathlib.Core.Path.{_≡_, refl, ap, _∙_}
+use mathlib.Core.Bool.{Bool, true, false, cond}
 use mathlib.Core.List.{List, [], _∷_}
 use Prim.Native.Nat.{ℕ, zero, suc, _*_, _<_}
 use native.Mathlib.Omega.{arith}
@@ -9,9 +9,9 @@ use lib.Dec.{eqb}
 use lib.ListN.{length, getD, drop}
 use Rattle.shares.specs.Test.{is-true, of-true, and-left, and-right}
 use Rattle.systems.specs.Questions.{Question}
-use Rattle.format.specs.Format.{refused, accepted, read}
+use Rattle.format.specs.Format.{Result, refused, accepted, read}
 use Rattle.rows.specs.Rows.{rowBytes, answerBytes}
-use Rattle.judging.specs.Judging.{turnedAway, judged, isZero, judgedWith}
+use Rattle.judging.specs.Judging.{turnedAway, judged, isZero, handedTo, judgedWith}
 
 -- ---- parts whose bytes are 0
 
@@ -46,3 +46,21 @@ module _ (s rows : List ℕ) where
       pub judged-on : isZero (drop (q .free * rowBytes (q .constants .levels)) rows) ≡ true → judgedWith s rows ≡ judged q
       unfolding judgedWith
       judged-on f = rw (e, eq-eqb (length rows) (answerBytes (q .constants .levels)) l, f)
+
+-- rows that are judged were handed over with a question that was accepted
+pub judged-read : (s rows : List ℕ) (q : Question) → judgedWith s rows ≡ judged q → read s ≡ accepted q
+unfolding judgedWith
+judged-read s rows q e = go (read s) refl e
+  where
+    never : {A : Type 0} (n place : ℕ) → turnedAway n place ≡ judged q → A
+    never n place f = let z : _≡_ {A = ℕ} 0 1 = cc in absurd (omega arith)
+
+    handed : (p : Question) → (a b : Bool) → read s ≡ accepted p → cond a (cond b (judged p) (turnedAway 19 0)) (turnedAway 18 0) ≡ judged q → read s ≡ accepted q
+    handed p true true h f = let g : p ≡ q = cc in h ∙ ap accepted g
+    handed p true false h f = never 19 0 f
+    handed p false b h f = never 18 0 f
+
+    go : (r : Result) → read s ≡ r → handedTo r rows ≡ judged q → read s ≡ accepted q
+    go (refused n place) h f = never n place f
+    go (accepted p) h f =
+        handed p (eqb (length rows) (answerBytes (p .constants .levels))) (isZero (drop (p .free * rowBytes (p .constants .levels)) rows)) h f

@@ -1,10 +1,17 @@
 -- Exactness of what judging gives: the model's statement, over the trees of the rows and own trees of every height. Assumes nothing.
+use mathlib.Core.Path.{_≡_}
+use mathlib.Core.List.{List}
 use mathlib.Core.Logic.{_↔_}
 use Prim.Native.Nat.{ℕ, _<_}
-use lib.ListN.{length}
+use lib.Dec.{T}
+use lib.ListN.{length, take}
 use Rattle.systems.specs.Clauses.{Assignment, ClauseHolds}
 use Rattle.systems.specs.Questions.{Kind, satisfiability, entailment, Question}
 use Rattle.systems.specs.Solutions.{SolvesFirst, Extends}
+use Rattle.systems.specs.Answers.{shows}
+use Rattle.systems.specs.Decide.{decide}
+use Rattle.rows.specs.Rows.{answerBytes}
+use Rattle.asking.specs.Asking.{answered, askedWith, answerAfter}
 use Rattle.judging.specs.Judging.{clauseOf}
 use Rattle.judging.specs.declared.Judgement.{Judgement}
 use Rattle.judging.specs.declared.Judgement.the-variants.{Refused, Accepted, Broken, Extending}
@@ -26,3 +33,12 @@ pub record Exactly (q : Question) (σ : Assignment) (Gives : Judgement → Type 
   pub broken : (k : ℕ) → Gives (Broken k) ↔ BrokenAt q σ k
   pub extending : Gives Extending ↔ (SolvesFirst q σ × ExtendsToo (q .kind) q σ)
   pub not-refused : (n place : ℕ) → ¬ Gives (Refused n place)
+
+-- the rows are those of a solution that asking shows, with buffers that are long enough: the first bytes of the answer buffer, 1,536 at 5 levels
+pub record AskingShows (s rows : List ℕ) : Type 0 where
+  pub answer : List ℕ
+  pub work : List ℕ
+  pub question : Question
+  pub asked : askedWith s answer work ≡ answered question
+  pub shown : T (shows (decide question))
+  pub first : rows ≡ take (answerBytes (question .constants .levels)) (answerAfter (answered question) answer)

@@ -7,3 +7,4 @@ pub mod ShownAccepted
 pub mod TableLaws
 pub mod WalkLaws
 pub mod ExtendLaws
+pub mod JudgeLaws

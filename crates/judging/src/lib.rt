@@ -21,7 +21,8 @@ ghost use Rattle.rows.specs.Rows.{answerBytes};
 ghost use Rattle.asking.specs.Demand3.{rowShares};
 ghost use Rattle.unfolded.specs.Unfolded.{joinEverywhere, PartsIn};
 ghost use Rattle.judging.specs.Judging.{judged, judgedWith, judgementOf};
-ghost use Rattle.judging.specs.Exactly.{Exactly};
+ghost use Rattle.judging.specs.Exactly.{Exactly, AskingShows};
+ghost use Rattle.judging.specs.declared.Judgement.the-variants.{Accepted};
 ghost use Rattle.judging.specs.Walk.{breaksIn, CommandFits, commandBreaks, saysFirst, Lowest};
 
 // What judging gives. Refused: the question with the reader's number and place, or the rows with 18 or 19. Accepted. Rejected because clause number k of the
@@ -142,6 +143,7 @@ fn judge_rows(
 pub fn judge(question: &[u8], rows: &[u8]) -> Judgement
     ensures result { λ r. ⌜ r ≡ judgementOf (judgedWith (now (question .entry)) (now (rows .entry))) (now (rows .entry)) ⌝ }
     ensures model { λ r. ⌜ ((q : model.Question) → judgedWith (now (question .entry)) (now (rows .entry)) ≡ judged q → Exactly q (rowShares (q .constants .levels) (now (rows .entry))) (λ j. r ≡ j)) ⌝ }
+    ensures shown { λ r. ⌜ (AskingShows (now (question .entry)) (now (rows .entry)) → r ≡ Accepted) ⌝ }
 {
     let mut clauses = [0u8; CLAUSE_BYTES];
     let reading = questions::read(question, &mut clauses);

@@ -1,0 +1,80 @@
+-- `judging::judge_rows` meets its contract: a broken clause first, then whether the rows extend. Assumes nothing.
+use native.Mathlib.Omega.{arith}
+use borrow.Author.Needs.{needs}
+use Rattle.shares.specs.NumberLaws.{zero-at}
+use Rattle.format.specs.declared.Section.the-variants.{FirstPositive, FirstDisequation}
+use Rattle.judging.specs.JudgeLaws.{laid, sizes-readable, extends-found, given-broken, given-satisfied, given-extending, given-accepted}
+use Rattle.judging.proofs.judge_rows.Statement.{statement}
+use Rattle.judging.proofs.judge_rows.Tie as tie
+
+unfold-requires : tie.Need-unfold-requires
+unfold-requires c κs =
+    let start = c .before .before .before .before .before in
+    (start .pre .0, start .pre .1 .2 .constantCounted, zero-at 1024)
+
+lowest-broken-requires : tie.Need-lowest-broken-requires
+lowest-broken-requires c κs = let start = c .before .before .before .before .before .before .before in (start .pre .1 .0, start .pre .1 .1)
+
+element-copy-out-if1 : tie.Need-element-copy-out-if1
+element-copy-out-if1 c = search needs
+
+element-copy-out-if1-2 : tie.Need-element-copy-out-if1-2
+element-copy-out-if1-2 c = search needs
+
+add-if1 : tie.Need-add-if1
+add-if1 c =
+    let start = c .before .before .before .before .before .before .before .before .before .before in
+    let S = start .pre .1 .2 in
+    omega (arith, S .counted FirstPositive, S .counted FirstDisequation)
+
+returns : tie.Need-returns
+returns c q e St =
+    let walked = c .before .before .before in
+    given-broken _ _ _ q St _ (walked .lowest-broken .ensures q _ _ _ e (laid _ _ _ q St _ (walked .before .before .«unfold» .ensures))) (c .if1 .taken)
+
+returns-2 : tie.Need-returns-2
+returns-2 c q e St =
+    let walked = c .before .before .before .before in
+    given-satisfied _ _ _ q St _ (walked .lowest-broken .ensures q _ _ _ e (laid _ _ _ q St _ (walked .before .before .«unfold» .ensures))) (c .before .if1 .left) (c .if2 .taken)
+
+sizes-of-requires : tie.Need-sizes-of-requires
+sizes-of-requires c κs =
+    let start = c .before .before .before .before .before .before .before .before .before .before .before .before in
+    (start .pre .1 .0, record { clauses = _; stands = start .pre .1 .2 })
+
+extends-requires : tie.Need-extends-requires
+extends-requires c κs =
+    let start = c .before .before .before .before .before .before .before .before .before .before .before .before .before .before .before .before in
+    sizes-readable _ _ (start .args .rows .now) (start .pre .1 .0) (start .pre .1 .2) _ (c .before .before .before .sizes-of .ensures)
+
+returns-3 : tie.Need-returns-3
+returns-3 c q e St =
+    let sized = c .before .before .before .before .before in
+    let walked = sized .before .before .before .before .before in
+    let U = walked .before .before .«unfold» .ensures in
+    given-extending _ _ _ q St _ (walked .lowest-broken .ensures q _ _ _ e (laid _ _ _ q St _ U)) (sized .before .before .if1 .left) (sized .before .if2 .left) _
+    (extends-found _ _ _ q St _ (sized .sizes-of .ensures) _ U _ (c .before .extends .ensures)) (c .if3 .taken)
+
+returns-4 : tie.Need-returns-4
+returns-4 c q e St =
+    let sized = c .before .before .before .before .before in
+    let walked = sized .before .before .before .before .before in
+    let U = walked .before .before .«unfold» .ensures in
+    given-accepted _ _ _ q St _ (walked .lowest-broken .ensures q _ _ _ e (laid _ _ _ q St _ U)) (sized .before .before .if1 .left) (sized .before .if2 .left) _
+    (extends-found _ _ _ q St _ (sized .sizes-of .ensures) _ U _ (c .before .extends .ensures)) (c .if3 .left)
+
+pub judge-rows-spec : {M : Type 1} → statement M
+judge-rows-spec =
+    tie.close
+    (tie.spec
+    unfold-requires
+    lowest-broken-requires
+    element-copy-out-if1
+    element-copy-out-if1-2
+    add-if1
+    returns
+    returns-2
+    sizes-of-requires
+    extends-requires
+    returns-3
+    returns-4)

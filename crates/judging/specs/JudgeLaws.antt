@@ -1,0 +1,112 @@
+-- What the code finds of the rows is the judgement. Assumes nothing.
+use mathlib.Core.Path.{_≡_, refl, sym, ap, _∙_, subst}
+use mathlib.Core.Bool.{Bool, true, false, cond}
+use mathlib.Core.List.{List}
+use mathlib.Core.Logic.{_↔_}
+use Prim.Native.Nat.{ℕ, _+_, _-_, _≤_, _<_}
+use native.Mathlib.Omega.{arith}
+use borrow.Author.Tests.{lt-ltb, le-ltb}
+use lib.Dec.{T}
+use lib.ListN.{length, getD, take, drop, length-drop}
+use lib.Seq.{take-all}
+use Rattle.shares.specs.Constant.{constantLevels}
+use Rattle.shares.specs.Test.{same-test, is-true, of-true}
+use Rattle.systems.specs.Questions.{satisfiability, entailment, Question}
+use Rattle.format.specs.declared.Section.the-variants.{FirstPositive, FirstDisequation}
+use Rattle.format.specs.declared.Question as stored
+use Rattle.format.specs.FormatLaws.{accepted-formed}
+use Rattle.format.specs.Stored.{storedOf, Stands}
+use Rattle.format.specs.SectionLaws.{both-counts}
+use Rattle.format.specs.KeepingLaws.{section-count}
+use Rattle.format.specs.Callers.{kind-satisfiability, kind-entailment}
+use Rattle.beside.specs.declared.Sizes.{Sizes}
+use Rattle.beside.specs.Beside.{Readable}
+use Rattle.steps.specs.Steps.{storedBy}
+use Rattle.decide.specs.Decision.{sizesOf}
+use Rattle.decide.specs.ReadableLaws.{readable}
+use Rattle.unfolded.specs.Unfolded.{Unfolded}
+use Rattle.extending.specs.Extending.{extendsIn}
+use Rattle.asking.specs.Demand3.{rowShares}
+use Rattle.judging.specs.Judging.{turnedAway, judged, isZero, judgedWith, lowestBroken, extendsAt, judgementOf}
+use Rattle.judging.specs.Exactly.{Exactly, AskingShows}
+use Rattle.judging.specs.Walk.{Laid}
+use Rattle.judging.specs.ExtendLaws.{extends-same}
+use Rattle.judging.specs.CaseLaws.{zero-part, zero-bytes, judged-read}
+use Rattle.judging.specs.ModelLaws.{judged-exactly}
+use Rattle.judging.specs.ShownAccepted.{shown-accepted}
+use Rattle.judging.specs.declared.Judgement.{Judgement}
+use Rattle.judging.specs.declared.Judgement.the-variants.{Refused, Accepted, Broken, Extending}
+
+-- ---- rows of a question that was read
+
+module _ (x : stored.Question) (clauses rows : List ℕ) (q : Question) (St : Stands (x .kind) (storedOf x clauses) q) where
+  -- a table of the rows and the constants
+  pub laid : (table : List ℕ) → Unfolded constantLevels rows (x .constants) (x .defined) table → Laid q rows (x .constants) (x .defined) table
+  laid table U = record { constants-are = St .constants; unfolded = U }
+
+  -- how many clauses the first system has
+  pub count-first : length (q .first) ≡ getD (x .counts) 0 0 + getD (x .counts) 1 0
+  count-first =
+      omega (arith, both-counts (q .first), section-count (storedOf x clauses) q St FirstPositive, section-count (storedOf x clauses) q St FirstDisequation)
+
+  -- what the second system's clauses are asked with
+  module _ (sizes : Sizes) (sized : sizes ≡ sizesOf x) where
+    pub sizes-readable : Readable clauses (sizes .counts) (sizes .free) (sizes .own) × (sizes .defined ≤ 32)
+    sizes-readable = rw sized (readable (storedOf x clauses) q St, St .constantCounted)
+
+    pub extends-found : (table : List ℕ) → Unfolded constantLevels rows (x .constants) (x .defined) table → (b : Bool)
+        → b ≡ extendsIn (storedBy sizes clauses (x .constants)) table → b ≡ extendsAt q rows
+    extends-found table U b e =
+        e ∙ ap (λ z. extendsIn (storedBy z clauses (x .constants)) table) sized ∙ extends-same (storedOf x clauses) q St rows (x .constants) table (x .defined) U
+
+  module _ (k : ℕ) (found : k ≡ lowestBroken q rows) where
+    pub given-broken : k < getD (x .counts) 0 0 + getD (x .counts) 1 0 → Broken k ≡ judgementOf (judged q) rows
+    given-broken l = rw (← found, lt-ltb k (length (q .first)) (omega (arith, count-first))) refl
+
+    module _ (m : getD (x .counts) 0 0 + getD (x .counts) 1 0 ≤ k) where
+      pub given-satisfied : x .kind ≡ 0 → Accepted ≡ judgementOf (judged q) rows
+      given-satisfied z = rw (← found, le-ltb k (length (q .first)) (omega (arith, count-first)), kind-satisfiability (storedOf x clauses) q St z) refl
+
+      module _ (n : x .kind ≡ 0 → ⊥) (b : Bool) (extends : b ≡ extendsAt q rows) where
+        pub given-extending : b ≡ true → Extending ≡ judgementOf (judged q) rows
+        given-extending e = rw (← found, le-ltb k (length (q .first)) (omega (arith, count-first)), kind-entailment (storedOf x clauses) q St n, ← extends, e) refl
+
+        pub given-accepted : b ≡ false → Accepted ≡ judgementOf (judged q) rows
+        given-accepted e = rw (← found, le-ltb k (length (q .first)) (omega (arith, count-first)), kind-entailment (storedOf x clauses) q St n, ← extends, e) refl
+
+-- ---- every question and all rows
+
+-- whether the rows of no free variable are zero, by a part of them
+pub others-are : (part rows : List ℕ) (start total : ℕ) (r : Bool) → length rows ≡ total → part ≡ take (total - start) (drop start rows)
+    → T r ↔ ((i : ℕ) → i < length part → getD part i 0 ≡ 0) → r ≡ isZero (drop start rows)
+others-are part rows start total r len is E =
+    same-test r (isZero (drop start rows)) (λ t. of-true (zero-part (drop start rows) (λ i l. subst (λ p. (i : ℕ) → i < length p → getD p i 0 ≡ 0) whole (E .0 t) i l)))
+    (λ t. E .1 (subst (λ p. (i : ℕ) → i < length p → getD p i 0 ≡ 0) (sym whole) (zero-bytes (drop start rows) (is-true _ t))))
+  where
+    whole : part ≡ drop start rows
+    whole = is ∙ take-all (total - start) (drop start rows) (omega (arith, length-drop start rows))
+
+module _ (s rows : List ℕ) where
+  -- the result, what it means, and that what asking shows is accepted
+  abbrev pub Judges : Judgement → Type 0
+  Judges r = (r ≡ judgementOf (judgedWith s rows) rows)
+      × (((q : Question) → judgedWith s rows ≡ judged q → Exactly q (rowShares (q .constants .levels) rows) (λ j. r ≡ j)) × (AskingShows s rows → r ≡ Accepted))
+
+  -- the rest follows from the result
+  pub judges : (r : Judgement) → r ≡ judgementOf (judgedWith s rows) rows → Judges r
+  judges r e = (
+    e,
+    (
+      λ q f. subst (λ r. Exactly q (rowShares (q .constants .levels) rows) (λ j. r ≡ j)) (sym (e ∙ ap (λ j. judgementOf j rows) f))
+          (judged-exactly q (accepted-formed s q (judged-read s rows q f)) rows),
+      λ A. e ∙ subst (λ l. judgementOf (judgedWith s l) l ≡ Accepted) (sym (A .first)) (shown-accepted s (A .answer) (A .work) (A .question) (A .asked) (A .shown)),
+    ),
+  )
+
+  -- a refusal
+  pub judges-refused : (n place : ℕ) → judgedWith s rows ≡ turnedAway n place → Judges (Refused n place)
+  judges-refused n place e = judges (Refused n place) (sym (ap (λ j. judgementOf j rows) e))
+
+  -- and what is found of the rows
+  pub judges-rows : (q : Question) → judgedWith s rows ≡ judged q → (r : Judgement) → r ≡ judgementOf (judged q) rows → Judges r
+  judges-rows q e r f = judges r (f ∙ sym (ap (λ j. judgementOf j rows) e))
