@@ -2,14 +2,16 @@
 use mathlib.Core.Path.{_≡_, refl, ap, _∙_}
 use mathlib.Core.Bool.{Bool, true, false, cond}
 use mathlib.Core.List.{List, [], _∷_}
-use Prim.Native.Nat.{ℕ, zero, suc, _*_, _<_}
+use Prim.Native.Nat.{ℕ, zero, suc, _*_, _≤_, _<_}
 use native.Mathlib.Omega.{arith}
 use borrow.Author.Tests.{eq-eqb, eqb-true}
 use lib.Dec.{eqb}
 use lib.ListN.{length, getD, drop}
 use Rattle.shares.specs.Test.{is-true, of-true, and-left, and-right}
+use Rattle.shares.specs.Constant.{constantLevels}
 use Rattle.systems.specs.Questions.{Question}
 use Rattle.format.specs.Format.{Result, refused, accepted, read}
+use Rattle.format.specs.FormatLaws.{longest, refusal-number, refusal-place}
 use Rattle.rows.specs.Rows.{rowBytes, answerBytes}
 use Rattle.judging.specs.Judging.{turnedAway, judged, isZero, handedTo, judgedWith}
 
@@ -64,3 +66,21 @@ judged-read s rows q e = go (read s) refl e
     go (refused n place) h f = never n place f
     go (accepted p) h f =
         handed p (eqb (length rows) (answerBytes (p .constants .levels))) (isZero (drop (p .free * rowBytes (p .constants .levels)) rows)) h f
+
+-- the number and the place of a refusal are small
+pub turned-away-small : (s rows : List ℕ) (n place : ℕ) → judgedWith s rows ≡ turnedAway n place → (n ≤ 19) × (place ≤ longest constantLevels)
+unfolding judgedWith
+turned-away-small s rows n place e = go (read s) refl e
+  where
+    numbers : {a b c d : ℕ} → turnedAway a b ≡ turnedAway c d → (a ≡ c) × (b ≡ d)
+    numbers f = (cc, cc)
+
+    handed : (p : Question) → (a b : Bool) → cond a (cond b (judged p) (turnedAway 19 0)) (turnedAway 18 0) ≡ turnedAway n place → (n ≤ 19) × (place ≤ longest constantLevels)
+    handed p true true f = let z : _≡_ {A = ℕ} 0 1 = cc in absurd (omega arith)
+    handed p true false f = let g = numbers f in (omega (arith, g .0), omega (arith, g .1))
+    handed p false b f = let g = numbers f in (omega (arith, g .0), omega (arith, g .1))
+
+    go : (r : Result) → read s ≡ r → handedTo r rows ≡ turnedAway n place → (n ≤ 19) × (place ≤ longest constantLevels)
+    go (refused m at) h f = let g = numbers f in (omega (arith, g .0, refusal-number s m at h .1), omega (arith, g .1, refusal-place s m at h))
+    go (accepted p) h f =
+        handed p (eqb (length rows) (answerBytes (p .constants .levels))) (isZero (drop (p .free * rowBytes (p .constants .levels)) rows)) f

@@ -10,6 +10,8 @@ use Rattle.text.specs.Texts.{textLength, textRefusal}
 use Rattle.text.specs.declared.Written.{Written}
 use Rattle.constants.specs.FromText.{constantRefusal, constantGiven}
 use Rattle.constants.specs.declared.FromText.{FromText}
+use Rattle.judging.specs.declared.Judgement.{Judgement}
+use Rattle.judging.specs.declared.Judgement.the-variants as judgement
 
 -- a range's offset in the low 32 bits, its length in the high 32
 abbrev pub rangeNumber : Range → ℕ
@@ -34,3 +36,10 @@ numberJoin levels n = cond (eqb n (undefinedJoin levels)) none (some (numberTree
 -- a version's three numbers, a byte each, the last lowest
 abbrev pub versionNumber : ℕ → ℕ → ℕ → ℕ
 versionNumber major minor patch = 2 ^ 16 * major + 2 ^ 8 * minor + patch
+
+-- a judgement: 0 refused, with the number of the refusal in byte 1 and its place in bytes 2 and 3, low first; 1 accepted; 2 a clause is broken, with its number in byte 4; 3 the rows extend
+abbrev pub judgementNumber : Judgement → ℕ
+judgementNumber (judgement.Refused n place) = 0 + 2 ^ 8 * n + 2 ^ 16 * place
+judgementNumber judgement.Accepted = 1
+judgementNumber (judgement.Broken k) = 2 + 2 ^ 32 * k
+judgementNumber judgement.Extending = 3

@@ -5,3 +5,4 @@ pub mod FitLaws
 pub mod PackedRight
 pub mod Joins
 pub mod CallLaws
+pub mod JudgementLaws

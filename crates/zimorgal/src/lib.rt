@@ -16,11 +16,15 @@ ghost use Rattle.text.specs.Texts.{textAnswer, textAfter};
 ghost use Rattle.constants.specs.FromText.{fromText};
 ghost use Rattle.asking.specs.Asking.{answered, askedWith, outcomeOf, answerAfter, workAfter};
 ghost use Rattle.asking.specs.Exact.{Exact};
-ghost use Rattle.asking.specs.Demand3.{Demand3};
+ghost use Rattle.asking.specs.Demand3.{rowShares, Demand3};
+ghost use Rattle.judging.specs.Judging.{judged, judgedWith, judgementOf};
+ghost use Rattle.judging.specs.Exactly.{Exactly, AskingShows};
+ghost use Rattle.judging.specs.declared.Judgement.the-variants.{Accepted};
 ghost use Rattle.zimorgal.specs.Packing.{packed, unpacked};
 ghost use Rattle.zimorgal.specs.PackingLaws.{InBytes};
-ghost use Rattle.zimorgal.specs.Calls.{rangeNumber, textNumber, constantNumber, undefinedJoin, numberJoin, versionNumber};
+ghost use Rattle.zimorgal.specs.Calls.{rangeNumber, textNumber, constantNumber, undefinedJoin, numberJoin, versionNumber, judgementNumber};
 ghost use Rattle.zimorgal.specs.Joins.{joinNumber};
+ghost use Rattle.zimorgal.specs.JudgementLaws.{Small};
 
 // The result as one number: each field is multiplied to its bytes.
 fn pack(outcome: Outcome) -> u64
@@ -49,12 +53,19 @@ pub extern "C" fn zimorgal_ask(question: &[u8], answer: &mut [u8], work: &mut [u
 
 // Judging, its result as one number.
 #[no_mangle]
-pub extern "C" fn zimorgal_judge(question: &[u8], rows: &[u8]) -> u64 {
+pub extern "C" fn zimorgal_judge(question: &[u8], rows: &[u8]) -> u64
+    ensures result { λ r. ⌜ r ≡ judgementNumber (judgementOf (judgedWith (now (question .entry)) (now (rows .entry))) (now (rows .entry))) ⌝ }
+    ensures model { λ r. ⌜ ((q : model.Question) → judgedWith (now (question .entry)) (now (rows .entry)) ≡ judged q → Exactly q (rowShares (q .constants .levels) (now (rows .entry))) (λ j. r ≡ judgementNumber j)) ⌝ }
+    ensures shown { λ r. ⌜ (AskingShows (now (question .entry)) (now (rows .entry)) → r ≡ judgementNumber Accepted) ⌝ }
+{
     judgement_number(judging::judge(question, rows))
 }
 
 // The number of a judgement: what it is, the refusal's number, its place in two bytes, and the number of the broken clause.
-fn judgement_number(judgement: Judgement) -> u64 {
+fn judgement_number(judgement: Judgement) -> u64
+    requires { ⌜ Small judgement ⌝ }
+    ensures { λ r. ⌜ r ≡ judgementNumber judgement ⌝ }
+{
     match judgement {
         Judgement::Refused { number, place } => {
             256 * basics::wide(number) + 65536 * (place as u64)
