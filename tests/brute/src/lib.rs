@@ -28,8 +28,15 @@ pub mod due;
 pub mod every_byte;
 pub mod fixed;
 pub mod halves;
+pub mod handed;
+pub mod handed_by_hand;
+pub mod handed_places;
+pub mod handed_rows;
+pub mod handed_trees;
+pub mod handing;
 pub mod hidden;
 pub mod judge;
+pub mod judger;
 pub mod judging;
 pub mod least;
 pub mod lent;
@@ -84,6 +91,8 @@ pub const WITH_THE_LIBRARY: &[&[Family]] = &[
     numbers::FAMILIES,
     terms::FAMILIES,
     loose::FAMILIES,
+    handing::FAMILIES,
+    handed_places::FAMILIES,
 ];
 
 /// The families that have no part of the library in them.
