@@ -33,7 +33,7 @@ const SECOND_LEAF: &str = "((((((((((o*)o)o)o)o)o)o)o)o)o)";
 const FIRST_TWO: &str = "(((((((((*o)o)o)o)o)o)o)o)o)";
 const ALL_BUT_LAST: &str = "(*(*(*(*(*(*(*(*(*(*o))))))))))";
 
-const SPLIT: &str = "01 01 01 02 | E | 13 00 20 | 20 01 02 00 | 23 01 20 | 23 02 20 | 00";
+pub const SPLIT: &str = "01 01 01 02 | E | 13 00 20 | 20 01 02 00 | 23 01 20 | 23 02 20 | 00";
 const LEFT_JOIN: &str = "01 01 02 01 | E R L | 13 00 20 | 12 01 21 | 20 22 02 00 | 00";
 const NOT_LEFT: &str = "01 00 02 00 | F L E | 10 00 01 20 | 13 00 21 | 13 01 22 | 00";
 const ENTAILS_NOT_EMPTY: &str = "01 01 02 00 | F E | 10 00 01 20 | 23 00 21 | 00";

@@ -1,12 +1,13 @@
 //! Families of judging in which one clause, one leaf, one bit or one length decides, so that how rows were made tells what is due.
 
 use crate::damage::damaged;
-use crate::handed::{Judged, Judgement, FOREIGN_BIT, WRONG_LENGTH};
+use crate::handed::Judgement::{self, Accepted, Broken, Extends};
+use crate::handed::{Judged, FOREIGN_BIT, WRONG_LENGTH};
 use crate::handed_rows::{any, faulty, some};
 use crate::judge::{ANSWER_BYTES, ROW_BYTES};
 use crate::judger::Judger;
 use crate::library::{self, ASK_WORK_BYTES};
-use crate::make::{random_row, random_tree, shuffle};
+use crate::make::shuffle;
 use crate::question::{
     hex, read, Clause, Question, Refusal, Relation, Term, MOST_DISEQUATIONS, MOST_POSITIVE,
     MOST_VARIABLES, SORTS,
@@ -15,7 +16,7 @@ use crate::random::Random;
 use crate::refusals;
 use crate::report::{Family, Report};
 use crate::slips::some_question;
-use crate::tree::Tree;
+use crate::tree::tree_of_number;
 use crate::worked;
 
 pub const FAMILIES: &[Family] = &[
@@ -54,7 +55,7 @@ fn all_clauses(terms: &[Term]) -> Vec<Clause> {
 
 /// Whether a clause holds of leaves that are given as numbers, 32 to each term.
 fn holds(clause: &Clause, leaves: impl Fn(Term) -> u32) -> bool {
-    let plain = match clause.relation.with(|term| term) {
+    let plain = match clause.relation {
         Relation::Join(a, b, c) => {
             let (a, b) = (leaves(a), leaves(b));
             a & b == 0 && a | b == leaves(c)
@@ -101,10 +102,15 @@ impl Pools {
             question: Question {
                 entailment,
                 free: shares.len(),
-                constants: constants.map(crate::tree::tree_of_number).to_vec(),
+                constants: constants.map(tree_of_number).to_vec(),
                 ..Question::default()
             },
         }
+    }
+
+    /// Whether a clause holds of the rows.
+    fn has(&self, clause: &Clause) -> bool {
+        self.held[usize::from(clause.negated)].contains(clause)
     }
 
     /// As many clauses as a system may have, in any order. Those before number `lowest` hold, that one is broken, and some behind it are.
@@ -150,9 +156,9 @@ fn each_clause(report: &mut Report) {
             }
             let extends = entailment && question.second.iter().all(|c| pools.has(c));
             let due = match (lowest < CLAUSES, extends) {
-                (true, _) => Judgement::Broken(lowest),
-                (false, true) => Judgement::Extends,
-                (false, false) => Judgement::Accepted,
+                (true, _) => Broken(lowest),
+                (false, true) => Extends,
+                (false, false) => Accepted,
             };
             let bytes = judger.mixed(&question);
             judger.known(&bytes, &pools.rows, Ok(due));
@@ -160,17 +166,9 @@ fn each_clause(report: &mut Report) {
     }
 }
 
-impl Pools {
-    fn has(&self, clause: &Clause) -> bool {
-        self.held[usize::from(clause.negated)].contains(clause)
-    }
-}
-
 /// A question of variable vv, which is one of 12 or with own variable 0B one of 11; what fills its row and the others; and the number that is
 /// due once one leaf of vv is turned. Without that the judgement is the other one.
 type OneLeaf = (&'static str, u8, Judgement, Judgement);
-
-use Judgement::{Accepted, Broken, Extends};
 
 const ONE_LEAF: &[OneLeaf] = &[
     ("01 00 0C 00 | E | 12 vv 20 | 00", 0x00, Broken(0), Accepted),
@@ -206,7 +204,7 @@ const ONE_LEAF: &[OneLeaf] = &[
     ),
 ];
 
-/// Each of the 1,024 leaves alone makes the difference, in the row of some variable.
+/// Each of the 1,024 leaves alone makes the difference, in the row of some variable. For every eighth whole trees are tried too.
 fn each_leaf(report: &mut Report) {
     let mut judger = Judger::new(report);
     for leaf in 0..8 * ROW_BYTES {
@@ -221,7 +219,10 @@ fn each_leaf(report: &mut Report) {
                 judger.known(&bytes, &rows, Ok(*unturned));
             }
             rows[variable * ROW_BYTES + leaf / 8] ^= 1 << (leaf % 8);
-            judger.known(&bytes, &rows, Ok(*turned));
+            match leaf % 8 {
+                0 => judger.known(&bytes, &rows, Ok(*turned)),
+                _ => judger.known_by_leaf(&bytes, &rows, Ok(*turned)),
+            }
         }
     }
 }

@@ -69,11 +69,13 @@ pub fn mixture(random: &mut Random, question: &Question, height: u32) -> Option<
 
 /// Some rows for a question, mostly near to a solution of the first system.
 pub fn some(random: &mut Random, question: &Question) -> Vec<u8> {
-    let height = random.between(question.height() as usize, ROW_HEIGHT as usize) as u32;
-    let rows = match random.below(4) {
+    let lowest = question.height();
+    let height = random.between(lowest as usize, ROW_HEIGHT as usize) as u32;
+    let rows = match random.below(5) {
         0 => shown(question),
         1 => solution(question),
-        2 => mixture(random, question, height),
+        2 => mixture(random, question, lowest),
+        3 => mixture(random, question, height),
         _ => None,
     };
     rows.unwrap_or_else(|| {
@@ -82,8 +84,8 @@ pub fn some(random: &mut Random, question: &Question) -> Vec<u8> {
     })
 }
 
-/// Rows with one change of a free variable's row: a leaf turned, or a block of leaves; another row in its place, or any; its negation; two rows
-/// changed for each other. Now and then all are random.
+/// Rows with one change of a free variable's row: a leaf turned, the first or the last one turned, a block of leaves filled; another row in its place, or
+/// any; its negation; two rows changed for each other. Now and then all are random.
 pub fn changed(random: &mut Random, question: &Question, rows: &[u8]) -> Vec<u8> {
     let mut rows = rows.to_vec();
     if question.free == 0 {
@@ -93,7 +95,11 @@ pub fn changed(random: &mut Random, question: &Question, rows: &[u8]) -> Vec<u8>
     let (one, other) = (variable(), variable());
     let kept = rows[one..one + ROW_BYTES].to_vec();
     match random.below(8) {
-        0 | 1 => rows[one + random.below(ROW_BYTES)] ^= 1 << random.below(8),
+        0 => rows[one + random.below(ROW_BYTES)] ^= 1 << random.below(8),
+        1 => match random.once_in(2) {
+            true => rows[one] ^= 0x01,
+            false => rows[one + ROW_BYTES - 1] ^= 0x80,
+        },
         2 => {
             let bytes = 1 << random.below(8);
             let start = one + random.below(ROW_BYTES / bytes) * bytes;

@@ -63,9 +63,21 @@ impl Judger<'_> {
     /// The same where it is known beforehand what is due. That the leaves say so, and whole trees where they can be tried, is checked
     /// apart.
     pub fn known(&mut self, bytes: &[u8], rows: &[u8], due: Judged) {
-        let what = format!("{} with rows {}: leaf by leaf", hex(bytes), shown(rows));
-        self.report.same_apart(&what, judged(bytes, rows), due);
         self.compare_trees(bytes, rows, due);
+        self.known_by_leaf(bytes, rows, due);
+    }
+
+    /// The same without whole trees.
+    pub fn known_by_leaf(&mut self, bytes: &[u8], rows: &[u8], due: Judged) {
+        let by_leaf = judged(bytes, rows);
+        self.report.apart(match by_leaf == due {
+            true => Ok(()),
+            false => Err(told(
+                bytes,
+                rows,
+                &format!("leaf by leaf {by_leaf:?}, due {due:?}"),
+            )),
+        });
         self.told(bytes, rows, due);
     }
 
@@ -75,7 +87,7 @@ impl Judger<'_> {
         let fault = self.fault_of_call(bytes, rows, packed(due));
         self.report.case(match fault {
             None => Ok(()),
-            Some(fault) => Err(format!("{} with rows {}: {fault}", hex(bytes), shown(rows))),
+            Some(fault) => Err(told(bytes, rows, &fault)),
         });
     }
 
@@ -116,8 +128,14 @@ impl Judger<'_> {
             Judgement::Extends => 2,
         };
         self.given.by_trees[sort] += 1;
-        let what = format!("{} with rows {}: by whole trees", hex(bytes), shown(rows));
-        self.report.same_apart(&what, by_trees, due);
+        self.report.apart(match by_trees == due {
+            true => Ok(()),
+            false => Err(told(
+                bytes,
+                rows,
+                &format!("by whole trees {by_trees:?}, due {due:?}"),
+            )),
+        });
     }
 
     /// What is wrong with one call, if anything is.
@@ -166,11 +184,10 @@ pub fn fault(question: &Lent, rows: &Lent, length: usize, due: u64) -> Option<St
     None
 }
 
-/// Rows as they are printed: without the bytes 0 at their end.
-fn shown(rows: &[u8]) -> String {
-    let end = rows
-        .iter()
-        .rposition(|byte| *byte != 0)
-        .map_or(0, |at| at + 1);
-    format!("{} (of {} bytes)", hex(&rows[..end]), rows.len())
+/// A fault, with the question and the rows but for the bytes 0 at their end.
+fn told(bytes: &[u8], rows: &[u8], fault: &str) -> String {
+    let last = rows.iter().rposition(|byte| *byte != 0);
+    let shown = hex(&rows[..last.map_or(0, |at| at + 1)]);
+    let (bytes, length) = (hex(bytes), rows.len());
+    format!("{bytes} with {length} bytes of rows, {shown}: {fault}")
 }

@@ -68,6 +68,7 @@ pub mod typed;
 pub mod whole;
 pub mod worked;
 pub mod wrong_joins;
+pub mod wrong_judges;
 pub mod wrong_readers;
 
 use report::Family;
@@ -93,6 +94,7 @@ pub const WITH_THE_LIBRARY: &[&[Family]] = &[
     loose::FAMILIES,
     handing::FAMILIES,
     handed_places::FAMILIES,
+    wrong_judges::FAMILIES,
 ];
 
 /// The families that have no part of the library in them.
