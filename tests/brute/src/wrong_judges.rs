@@ -401,10 +401,15 @@ fn at_every_leaf(question: &Question, leaves: &[Leaf]) -> bool {
     })
 }
 
-/// A share that is full at one leaf of 1,024 and is to be split: own trees of height 11 are needed.
+/// A share that is full at one leaf of some height and is to be split: own trees one taller are needed, half of the time of height 11.
 fn one_leaf_to_split(random: &mut Random) -> (Vec<u8>, Vec<u8>) {
+    let lower = random.below(ROW_HEIGHT as usize) as u32;
+    let wide = LEAVES >> random.pick(&[ROW_HEIGHT, lower]);
+    let start = random.below(LEAVES / wide) * wide;
     let mut rows = vec![0; ANSWER_BYTES];
-    rows[random.below(ROW_BYTES)] = 1 << random.below(8);
+    for leaf in start..start + wide {
+        rows[leaf / 8] |= 1 << (leaf % 8);
+    }
     (worked::bytes(handed_by_hand::SPLIT), rows)
 }
 
@@ -421,7 +426,7 @@ const LOW: Size = Size {
 
 /// A question and rows for it; now and then one of them has a fault.
 fn some_case(random: &mut Random) -> (Vec<u8>, Vec<u8>) {
-    if random.once_in(32) {
+    if random.once_in(16) {
         return one_leaf_to_split(random);
     }
     let question = match random.once_in(4) {
