@@ -1,13 +1,19 @@
 //! Makes rows to hand over: solutions of the first system, the same with a change, and any rows.
 
+use crate::damage::damaged;
 use crate::fixed;
+use crate::handed_by_hand;
 use crate::judge::{ANSWER_BYTES, ROW_BYTES};
-use crate::make::random_row;
-use crate::question::{positive, Question};
+use crate::make::{random_question, random_row, Size};
+use crate::question::{positive, write, Question};
 use crate::random::Random;
 use crate::single::{choices, constants_by_leaf, decide, holds_at_leaf};
+use crate::slips::some_question;
 use crate::tree::{row_of_tree, Tree, ROW_HEIGHT};
+use crate::worked;
 use std::collections::HashMap;
+
+const ROW_LEAVES: usize = 1 << ROW_HEIGHT;
 
 /// The rows that asking shows, if it shows any.
 pub fn shown(question: &Question) -> Option<Vec<u8>> {
@@ -136,4 +142,50 @@ pub fn faulty(random: &mut Random, question: &Question, rows: &[u8]) -> Vec<u8> 
         rows.resize(length, random.byte());
     }
     rows
+}
+
+/// A share that is full at one leaf of some height and is to be split: own trees one taller are needed, half of the time of height 11.
+fn one_leaf_to_split(random: &mut Random) -> (Vec<u8>, Vec<u8>) {
+    let lower = random.below(ROW_HEIGHT as usize) as u32;
+    let wide = ROW_LEAVES >> random.pick(&[ROW_HEIGHT, lower]);
+    let start = random.below(ROW_LEAVES / wide) * wide;
+    let mut rows = vec![0; ANSWER_BYTES];
+    for leaf in start..start + wide {
+        rows[leaf / 8] |= 1 << (leaf % 8);
+    }
+    (worked::bytes(handed_by_hand::SPLIT), rows)
+}
+
+/// Questions for which own trees are soon taller than the rows.
+const LOW: Size = Size {
+    free: 2,
+    own: 2,
+    constants: 1,
+    height: 0,
+    positive: 1,
+    disequations: 4,
+    policies: true,
+};
+
+/// A question and rows for it; now and then one of them has a fault.
+pub fn some_case(random: &mut Random) -> (Vec<u8>, Vec<u8>) {
+    if random.once_in(16) {
+        return one_leaf_to_split(random);
+    }
+    let question = match random.once_in(4) {
+        true => random_question(random, &LOW),
+        false => some_question(random),
+    };
+    let mut bytes = write(&question, || random.once_in(2));
+    let mut rows = some(random, &question);
+    if random.once_in(2) {
+        rows = changed(random, &question, &rows);
+    }
+    if random.once_in(4) {
+        rows = faulty(random, &question, &rows);
+    }
+    if random.once_in(6) {
+        bytes = damaged(random, &bytes);
+    }
+    (bytes, rows)
 }

@@ -1,26 +1,21 @@
 //! Wrong judges of handed rows: one word of what judging is to give is misread at a time. On many questions and rows each gives another number, and the
 //! comparison with the library notices.
 
-use crate::damage::damaged;
 use crate::handed::Judgement::{self, Accepted, Broken, Extends};
 use crate::handed::{
     extends, judged, leaves, leaves_by, packed, Asked, Leaf, Words, AS_WRITTEN, FOREIGN_BIT,
     WRONG_LENGTH,
 };
-use crate::handed_by_hand;
-use crate::handed_rows::{changed, faulty, some};
+use crate::handed_rows::some_case;
 use crate::judge::{trees_of_rows, ANSWER_BYTES, ROW_BYTES};
 use crate::judger::Judger;
-use crate::make::{random_question, Size};
 use crate::question::{
-    operand_count, read, split, write, Clause, Question, Refusal, Relation, Split, SORTS,
+    operand_count, read, split, Clause, Question, Refusal, Relation, Split, SORTS,
 };
-use crate::random::Random;
 use crate::report::{Family, Report};
 use crate::single::{beside, choices, holds_at_leaf};
-use crate::slips::{enough, some_question};
+use crate::slips::enough;
 use crate::tree::{Tree, ROW_HEIGHT};
-use crate::worked;
 use std::collections::HashSet;
 use std::ops::Range;
 
@@ -401,52 +396,6 @@ fn at_every_leaf(question: &Question, leaves: &[Leaf]) -> bool {
     })
 }
 
-/// A share that is full at one leaf of some height and is to be split: own trees one taller are needed, half of the time of height 11.
-fn one_leaf_to_split(random: &mut Random) -> (Vec<u8>, Vec<u8>) {
-    let lower = random.below(ROW_HEIGHT as usize) as u32;
-    let wide = LEAVES >> random.pick(&[ROW_HEIGHT, lower]);
-    let start = random.below(LEAVES / wide) * wide;
-    let mut rows = vec![0; ANSWER_BYTES];
-    for leaf in start..start + wide {
-        rows[leaf / 8] |= 1 << (leaf % 8);
-    }
-    (worked::bytes(handed_by_hand::SPLIT), rows)
-}
-
-/// Questions for which own trees are soon taller than the rows.
-const LOW: Size = Size {
-    free: 2,
-    own: 2,
-    constants: 1,
-    height: 0,
-    positive: 1,
-    disequations: 4,
-    policies: true,
-};
-
-/// A question and rows for it; now and then one of them has a fault.
-fn some_case(random: &mut Random) -> (Vec<u8>, Vec<u8>) {
-    if random.once_in(16) {
-        return one_leaf_to_split(random);
-    }
-    let question = match random.once_in(4) {
-        true => random_question(random, &LOW),
-        false => some_question(random),
-    };
-    let mut bytes = write(&question, || random.once_in(2));
-    let mut rows = some(random, &question);
-    if random.once_in(2) {
-        rows = changed(random, &question, &rows);
-    }
-    if random.once_in(6) {
-        rows = faulty(random, &question, &rows);
-    }
-    if random.once_in(8) {
-        bytes = damaged(random, &bytes);
-    }
-    (bytes, rows)
-}
-
 /// The library judges each once for what is due, and once for each slip that gives another number, which must be found wrong.
 fn slips_noticed(report: &mut Report) {
     let mut judger = Judger::new(report);
@@ -464,6 +413,6 @@ fn slips_noticed(report: &mut Report) {
         }
     }
     let names = SLIPS.map(|(name, _)| name);
-    enough(judger.report, "judgements", names, changed, 20);
+    enough(judger.report, "judgements", names, changed, 10);
     judger.seen_all(50);
 }
