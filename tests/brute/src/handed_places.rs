@@ -166,8 +166,7 @@ fn each_clause(report: &mut Report) {
     }
 }
 
-/// A question of variable vv, which is one of 12 or with own variable 0B one of 11; what fills its row and the others; and the number that is
-/// due once one leaf of vv is turned. Without that the judgement is the other one.
+/// A question of variable vv, which is one of 11; what fills its row; and what is due once one leaf of that is turned, and without that.
 type OneLeaf = (&'static str, u8, Judgement, Judgement);
 
 const ONE_LEAF: &[OneLeaf] = &[
@@ -204,26 +203,36 @@ const ONE_LEAF: &[OneLeaf] = &[
     ),
 ];
 
-/// Each of the 1,024 leaves alone makes the difference, in the row of some variable. For every eighth whole trees are tried too.
+/// Each of the 1,024 leaves alone makes the difference, in the row of some variable; a leaf at an end of a word of 64 in the row of each.
 fn each_leaf(report: &mut Report) {
     let mut judger = Judger::new(report);
     for leaf in 0..8 * ROW_BYTES {
-        for (text, filling, turned, unturned) in ONE_LEAF {
-            let variable = judger.random.below(MOST_VARIABLES - 1);
-            let bytes = worked::bytes(&text.replace("vv", &format!("{variable:02X}")));
-            let question = read(&bytes).expect("an accepted question");
-            let mut rows = any(&mut judger.random, &question, 0);
-            let row = variable * ROW_BYTES..(variable + 1) * ROW_BYTES;
-            rows[row].fill(*filling);
-            if leaf < MOST_VARIABLES {
-                judger.known(&bytes, &rows, Ok(*unturned));
-            }
-            rows[variable * ROW_BYTES + leaf / 8] ^= 1 << (leaf % 8);
-            match leaf % 8 {
-                0 => judger.known(&bytes, &rows, Ok(*turned)),
-                _ => judger.known_by_leaf(&bytes, &rows, Ok(*turned)),
+        let some = judger.random.below(MOST_VARIABLES - 1);
+        let variables = match leaf % 64 {
+            0 | 63 => 0..MOST_VARIABLES - 1,
+            _ => some..some + 1,
+        };
+        for variable in variables {
+            for one in ONE_LEAF {
+                one_leaf(&mut judger, one, variable, leaf);
             }
         }
+    }
+}
+
+/// Two calls: with the leaf turned and without. For every eighth leaf whole trees are tried too.
+fn one_leaf(judger: &mut Judger, one: &OneLeaf, variable: usize, leaf: usize) {
+    let (text, filling, turned, unturned) = one;
+    let bytes = worked::bytes(&text.replace("vv", &format!("{variable:02X}")));
+    let question = read(&bytes).expect("an accepted question");
+    let mut rows = any(&mut judger.random, &question, 0);
+    let row = variable * ROW_BYTES..(variable + 1) * ROW_BYTES;
+    rows[row].fill(*filling);
+    judger.known_by_leaf(&bytes, &rows, Ok(*unturned));
+    rows[variable * ROW_BYTES + leaf / 8] ^= 1 << (leaf % 8);
+    match leaf % 8 {
+        0 => judger.known(&bytes, &rows, Ok(*turned)),
+        _ => judger.known_by_leaf(&bytes, &rows, Ok(*turned)),
     }
 }
 
