@@ -23,6 +23,7 @@ pub const FAMILIES: &[Family] = &[
     ("each clause of the first system broken", each_clause),
     ("each leaf of the rows", each_leaf),
     ("each leaf of a constant beside rows", each_constant_leaf),
+    ("each choice of 12 variables at one leaf", each_choice),
     ("faults of the question before those of the rows", faults),
     ("lengths of the rows", lengths),
     ("bits of rows of no free variable", foreign_bits),
@@ -264,6 +265,53 @@ fn each_constant_leaf(report: &mut Report) {
                 }
             }
         }
+    }
+}
+
+/// Each of the 4,096 choices of 12 variables, free and own, at one leaf of the constants, and all empty at the others.
+fn each_choice(report: &mut Report) {
+    let mut judger = Judger::new(report);
+    for choice in 0..1_u32 << MOST_VARIABLES {
+        let free = judger.random.below(MOST_VARIABLES + 1);
+        let full_at = 1 << judger.random.below(32);
+        let shares: Vec<u32> = (0..MOST_VARIABLES)
+            .map(|variable| (choice >> variable & 1) * full_at)
+            .collect();
+        one_choice(&mut judger, free, &shares);
+    }
+}
+
+/// The second system says of each variable that it is the share given here, so that no other choice will do, and of one that it is not empty. The rows of
+/// the free ones are these shares: they extend if that one is not empty. With a leaf turned they never do.
+fn one_choice(judger: &mut Judger, free: usize, shares: &[u32]) {
+    let wanted = judger.random.below(MOST_VARIABLES);
+    let term = Term::Variable(wanted);
+    let equal = |v| Relation::Equal(Term::Variable(v), Term::Constant(v));
+    let clause = |relation, negated| Clause { relation, negated };
+    let mut second: Vec<Clause> = (0..MOST_VARIABLES)
+        .map(|v| clause(equal(v), false))
+        .collect();
+    second.push(clause(Relation::Empty(term), true));
+    shuffle(&mut judger.random, &mut second);
+    let question = Question {
+        entailment: true,
+        free,
+        own: MOST_VARIABLES - free,
+        constants: shares.iter().map(|share| tree_of_number(*share)).collect(),
+        first: Vec::new(),
+        second,
+    };
+    let bytes = judger.mixed(&question);
+    let mut rows = rows_of_numbers(&shares[..free]);
+    let due = match shares[wanted] {
+        0 => Accepted,
+        _ => Extends,
+    };
+    judger.known_by_leaf(&bytes, &rows, Ok(due));
+    if free > 0 {
+        let at = judger.random.below(free * ROW_BYTES);
+        rows[at] ^= 1 << judger.random.below(8);
+        judger.known_by_leaf(&bytes, &rows, Ok(Accepted));
     }
 }
 
