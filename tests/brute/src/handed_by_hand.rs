@@ -439,3 +439,122 @@ const OF_WORDS: &[Handed] = &[
 pub fn all() -> impl Iterator<Item = &'static Handed> {
     OF_SPEC.iter().chain(OF_WORDS)
 }
+
+/// Name, question, how many bytes of rows, all zero but for one bit, the number of that, if any, and the number that judging is to give.
+pub type Refused = (&'static str, &'static str, usize, Option<usize>, u64);
+
+const ONE_AND_ONE: &str = "01 01 01 01 | 00";
+
+pub const REFUSED: &[Refused] = &[
+    ("18: no rows", ONE_AND_ONE, 0, None, 0x1200),
+    ("18: 1,535 bytes", ONE_AND_ONE, 1535, None, 0x1200),
+    ("18: 1,537 bytes", ONE_AND_ONE, 1537, None, 0x1200),
+    (
+        "18: all 12 variables are free",
+        "01 00 0C 00 | 00",
+        1535,
+        None,
+        0x1200,
+    ),
+    (
+        "18 before 19: a bit in the row of an own variable",
+        ONE_AND_ONE,
+        1535,
+        Some(1024),
+        0x1200,
+    ),
+    (
+        "18 before 19: a bit behind the rows",
+        ONE_AND_ONE,
+        1537,
+        Some(12_288),
+        0x1200,
+    ),
+    (
+        "19: the first bit of the row of an own variable",
+        ONE_AND_ONE,
+        1536,
+        Some(1024),
+        0x1300,
+    ),
+    (
+        "19: the last bit of the row of an own variable",
+        ONE_AND_ONE,
+        1536,
+        Some(2047),
+        0x1300,
+    ),
+    (
+        "19: the first bit of the row of an absent variable",
+        ONE_AND_ONE,
+        1536,
+        Some(2048),
+        0x1300,
+    ),
+    (
+        "19: the first bit of row 11",
+        "01 00 0B 00 | 00",
+        1536,
+        Some(11_264),
+        0x1300,
+    ),
+    (
+        "19: the last bit of all",
+        "01 00 0B 00 | 00",
+        1536,
+        Some(12_287),
+        0x1300,
+    ),
+    ("19: no variable", "01 00 00 00 | 00", 1536, Some(0), 0x1300),
+    (
+        "the last bit of the row of a free variable",
+        "01 00 01 00 | 00",
+        1536,
+        Some(1023),
+        ACCEPTED,
+    ),
+    (
+        "the last bit of all, of a free variable",
+        "01 00 0C 00 | 00",
+        1536,
+        Some(12_287),
+        ACCEPTED,
+    ),
+    ("1 before 18", "", 0, None, 0x0100),
+    ("2 before 18, at 4", "01 01 01 01", 1535, None, 0x0004_0200),
+    (
+        "3 before 19, at 4",
+        "01 01 01 01 | FF",
+        1536,
+        Some(1024),
+        0x0004_0300,
+    ),
+    (
+        "5 before 19",
+        "01 01 06 07 | 00",
+        1536,
+        Some(12_287),
+        0x0500,
+    ),
+    (
+        "8 before 18, at 4",
+        "01 00 01 00 | 12 00 01 | 00",
+        0,
+        None,
+        0x0004_0800,
+    ),
+    (
+        "9 before 19, at 7",
+        "01 00 01 00 | 12 00 00 | 22 00 00 | 00",
+        1536,
+        Some(1024),
+        0x0007_0900,
+    ),
+    (
+        "10 before 18, at 5",
+        "01 01 01 01 | 00 00",
+        0,
+        None,
+        0x0005_0A00,
+    ),
+];

@@ -6,6 +6,7 @@ use crate::handed_by_hand::{self, rows};
 use crate::handed_rows::{any, changed, faulty, mixture, some};
 use crate::judge::{ANSWER_BYTES, ROW_BYTES};
 use crate::judger::Judger;
+use crate::library;
 use crate::make::{entailment, random_question, Counts, Size, CHANGES};
 use crate::question::{read, Question, MOST_VARIABLES};
 use crate::report::{Family, Report};
@@ -39,6 +40,8 @@ fn worked_rows(report: &mut Report) {
         let question = worked::bytes(question);
         let rows = rows(texts);
         judger.known(&question, &rows, Ok(judgement(*number)));
+        let given = library::judge(&question, &rows);
+        judger.report.same(name, given, *number);
         let free = read(&question).map(|question| question.free);
         judger.report.same_apart(name, free, Ok(texts.len()));
     }
@@ -48,8 +51,23 @@ fn worked_rows(report: &mut Report) {
             judger.known(&question, &rows(texts), Ok(Judgement::Accepted));
         }
     }
+    refused_rows(&mut judger);
     judger.seen_all(8);
     judger.seen_by_trees(10);
+}
+
+/// Refusals worked by hand, and what is nearly refused.
+fn refused_rows(judger: &mut Judger) {
+    for (name, question, length, bit, number) in handed_by_hand::REFUSED {
+        let question = worked::bytes(question);
+        let mut rows = vec![0; *length];
+        if let Some(bit) = bit {
+            rows[bit / 8] = 1 << (bit % 8);
+        }
+        judger.bytes(&question, &rows);
+        let given = library::judge(&question, &rows);
+        judger.report.same(name, given, *number);
+    }
 }
 
 const SMALL: Size = Size {

@@ -13,7 +13,7 @@ pub struct Seen {
     /// How often the disequation number was above 0.
     pub higher_numbers: usize,
     /// How often each refusal number was given; 0 counts what was not refused.
-    pub refusals: [usize; 20],
+    pub refusals: [usize; 18],
 }
 
 /// Each of these was seen so often.
