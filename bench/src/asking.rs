@@ -1,6 +1,7 @@
 //! Calls the library with the inputs of a family, in rounds.
 
 use crate::families::Family;
+use crate::judged;
 use crate::lines::Call;
 use crate::numbers::numbers;
 use brute::judge::ANSWER_BYTES;
@@ -30,6 +31,10 @@ impl Buffers {
         let bytes = black_box(bytes);
         black_box(match call {
             Call::Ask => library::ask(bytes, &mut self.answer, &mut self.work),
+            Call::Judge => {
+                let (rows, question) = judged::parts(bytes);
+                library::judge(question, rows)
+            }
             Call::Constant => library::constant(bytes),
             Call::Join => {
                 let [a, b] = numbers(bytes);

@@ -22,7 +22,7 @@ use std::ops::Range;
 
 pub struct Family {
     pub name: String,
-    /// Questions, the tree texts of src/texts.rs, or the numbers of src/numbers.rs.
+    /// Questions, the rows and questions of src/judged.rs, the tree texts of src/texts.rs, or the numbers of src/numbers.rs.
     pub inputs: Vec<Vec<u8>>,
 }
 
@@ -185,11 +185,6 @@ const DIGITS: [u32; 5] = [
 /// through 2^6 words.
 fn split(own: usize, shape: Shape) -> Family {
     let free = MOST_VARIABLES - own;
-    let mut constants = vec![Tree::Empty, Tree::Full, tree_of_number(1 << 31)];
-    constants.extend(DIGITS.map(tree_of_number));
-    while constants.len() < MOST_CONSTANTS {
-        constants.push(tree_of_number(0x1234_5678 + constants.len() as u32));
-    }
     let shape_name = match shape {
         Shape::Any => "any values",
         Shape::OnlyLast => "only the last values",
@@ -203,7 +198,7 @@ fn split(own: usize, shape: Shape) -> Family {
         entailment: true,
         free,
         own,
-        constants,
+        constants: constants_of_split(),
         first: clauses_of_split(free, fixed(0..free)),
         second: clauses_of_split(MOST_VARIABLES, fixed(free..MOST_VARIABLES)),
     };
@@ -221,9 +216,19 @@ fn split(own: usize, shape: Shape) -> Family {
     }
 }
 
+/// The empty share, the full one, the last leaf alone, those by which all leaves differ, and as many more as there may be.
+pub fn constants_of_split() -> Vec<Tree> {
+    let mut constants = vec![Tree::Empty, Tree::Full, tree_of_number(1 << 31)];
+    constants.extend(DIGITS.map(tree_of_number));
+    while constants.len() < MOST_CONSTANTS {
+        constants.push(tree_of_number(0x1234_5678 + constants.len() as u32));
+    }
+    constants
+}
+
 /// 64 positive clauses that hold for every choice, but for the last ones, which make the variables `fixed` full; and
 /// 31 disequations that hold in the last leaf alone, for every choice.
-fn clauses_of_split(variables: usize, fixed: Range<usize>) -> Vec<Clause> {
+pub fn clauses_of_split(variables: usize, fixed: Range<usize>) -> Vec<Clause> {
     let (empty, full, last_leaf) = (Term::Constant(0), Term::Constant(1), Term::Constant(2));
     let clause = |relation, negated| Clause { relation, negated };
     let term = |number: usize| match variables {

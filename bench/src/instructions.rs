@@ -11,8 +11,9 @@ use std::process::Command;
 pub const ASK_ONCE: &str = "ask-once";
 
 /// The calls inside which instructions are counted.
-const CALLS: [&str; 4] = [
+const CALLS: [&str; 5] = [
     "zimorgal_ask",
+    "zimorgal_judge",
     "zimorgal_constant",
     "zimorgal_join",
     "zimorgal_height",
@@ -26,7 +27,10 @@ const NO_REPEATS: &str = "glibc.cpu.x86_rep_stosb_threshold=1000000000:\
 /// Calls once with each input, for callgrind. Prints of each family whether the library has its call; if not, nothing is counted.
 pub fn ask_once() {
     let mut buffers = Buffers::new();
-    for line in lines::all() {
+    let lines = lines::all();
+    // The rows to be judged were asked for. What was counted of that goes into a file of its own.
+    bench_family_ends();
+    for line in lines {
         let there = line.call.is_there();
         if there {
             for input in &line.family.inputs {
@@ -51,7 +55,7 @@ pub fn count(program: &Path) -> Result<Vec<u64>, String> {
     let counts = folder.0.join("counts");
     let printed = run_counted(program, &counts)?;
     let count = |(number, there): (usize, &str)| {
-        let file = counts.with_extension((number + 1).to_string());
+        let file = counts.with_extension((number + 2).to_string());
         match count_of_file(&file)? {
             0 if there.parse() != Ok(false) => Err("callgrind counted nothing".to_string()),
             count => Ok(count),
@@ -60,7 +64,7 @@ pub fn count(program: &Path) -> Result<Vec<u64>, String> {
     printed.lines().enumerate().map(count).collect()
 }
 
-/// Runs a program under callgrind, which writes a file for each family: `counts` and the family's number, from 1. Gives what the program
+/// Runs a program under callgrind, which writes a file for each family: `counts` and the family's number, from 2. Gives what the program
 /// prints.
 fn run_counted(program: &Path, counts: &Path) -> Result<String, String> {
     let run = Command::new("valgrind")

@@ -1,9 +1,9 @@
-//! The lines of the table: families of questions, which are asked, of tree texts, from which constants are read, and of constants,
-//! which are joined in pairs, or measured.
+//! The lines of the table: families of questions, which are asked, of rows, which are judged, of tree texts, from which constants are read, and of
+//! constants, which are joined in pairs, or measured.
 
 use crate::asking::{median_round, Buffers};
 use crate::families::{self, Family};
-use crate::{by_leaves, numbers, plain_reader, route_b, texts};
+use crate::{by_leaves, judged, numbers, plain_reader, route_b, texts};
 use brute::library;
 use std::time::Duration;
 
@@ -14,6 +14,7 @@ const LONG_ENOUGH: Duration = Duration::from_millis(150);
 #[derive(Clone, Copy)]
 pub enum Call {
     Ask,
+    Judge,
     Constant,
     Join,
     Height,
@@ -24,6 +25,7 @@ impl Call {
     pub fn is_there(self) -> bool {
         match self {
             Call::Ask | Call::Join | Call::Height => true,
+            Call::Judge => library::judges(),
             Call::Constant => library::reads_text(),
         }
     }
@@ -35,10 +37,12 @@ pub struct Line {
 }
 
 impl Line {
-    /// The library must say what it is compared with says: route B, the plain reader, or a loop over the leaves.
+    /// The library must say what it is compared with says: route B, the plain reader, or a loop over the leaves. Of judging it must say what tests/brute
+    /// says.
     pub fn must_agree(&self) {
         match self.call {
             Call::Ask => route_b::must_agree(&self.family),
+            Call::Judge => judged::must_agree(&self.family),
             Call::Constant => plain_reader::must_agree(&self.family),
             Call::Join => by_leaves::joins_must_agree(&self.family),
             Call::Height => by_leaves::heights_must_agree(&self.family),
@@ -49,7 +53,7 @@ impl Line {
     pub fn time(&self, long: Duration) -> f64 {
         let family = &self.family;
         match self.call {
-            Call::Ask | Call::Constant => {
+            Call::Ask | Call::Judge | Call::Constant => {
                 let mut buffers = Buffers::new();
                 median_round(family, long, |bytes| buffers.call(self.call, bytes))
             }
@@ -63,6 +67,7 @@ impl Line {
         let (family, long) = (&self.family, LONG_ENOUGH);
         match self.call {
             Call::Ask => route_b::time(family, long),
+            Call::Judge => Some(judged::time_asking(family, long)),
             Call::Constant => Some(plain_reader::time(family, long)),
             Call::Join => Some(numbers::time(family, long, |[a, b]| by_leaves::join(a, b))),
             Call::Height => Some(numbers::time(family, long, |[a]| {
@@ -75,8 +80,14 @@ impl Line {
 pub fn all() -> Vec<Line> {
     let line = |call| move |family| Line { call, family };
     let asked = families::all().into_iter().map(line(Call::Ask));
+    let judged = judged::all().into_iter().map(line(Call::Judge));
     let read = texts::all().into_iter().map(line(Call::Constant));
     let joined = numbers::pairs().into_iter().map(line(Call::Join));
     let measured = numbers::singles().into_iter().map(line(Call::Height));
-    asked.chain(read).chain(joined).chain(measured).collect()
+    asked
+        .chain(judged)
+        .chain(read)
+        .chain(joined)
+        .chain(measured)
+        .collect()
 }

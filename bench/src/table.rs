@@ -6,8 +6,8 @@ use crate::route_b::TOO_LONG;
 use crate::turns::{by_turns, Program};
 use std::path::Path;
 
-const LEGEND: &str = "ns and instructions: per question, tree text, join or height
-compared: route B of tests/brute, a plain reader of tree text, a loop over the 32 leaves";
+const LEGEND: &str = "ns and instructions: per question, judgement, tree text, join or height
+compared: route B of tests/brute, for judging the library's asking of the same questions, a plain reader of tree text, a loop over the 32 leaves";
 
 /// An archive that is measured.
 struct Archive {
@@ -63,7 +63,7 @@ pub fn print(other: Option<&Path>) {
 }
 
 fn print_line(family: &str, inputs: &str, cells: &[String]) {
-    print!("{family:<52} {inputs:>9}");
+    print!("{family:<60} {inputs:>9}");
     for cell in cells {
         print!(" {cell:>14}");
     }

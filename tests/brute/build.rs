@@ -1,9 +1,10 @@
-//! Links libzimorgal.a when ZIMORGAL_LIB_DIR names the folder that holds it, and says whether it reads tree text.
+//! Links libzimorgal.a when ZIMORGAL_LIB_DIR names the folder that holds it, and says whether it reads tree text and whether it judges
+//! rows.
 
 use std::path::Path;
 
 fn main() {
-    println!("cargo:rustc-check-cfg=cfg(linked, reads_text)");
+    println!("cargo:rustc-check-cfg=cfg(linked, reads_text, judges)");
     println!("cargo:rerun-if-env-changed=ZIMORGAL_LIB_DIR");
     println!("cargo:rerun-if-changed=build.rs");
     let Ok(folder) = std::env::var("ZIMORGAL_LIB_DIR") else {
@@ -19,6 +20,9 @@ fn main() {
     println!("cargo:rustc-cfg=linked");
     if names(&archive, b"zimorgal_constant") {
         println!("cargo:rustc-cfg=reads_text");
+    }
+    if names(&archive, b"zimorgal_judge") {
+        println!("cargo:rustc-cfg=judges");
     }
 }
 

@@ -1,8 +1,10 @@
 //! Asks the library and compares all that it gives with what is due: every field of the number, and every lent
-//! byte before and after.
+//! byte before and after. Rows that it shows are handed over to be judged, and must be accepted.
 
 use crate::due::{decided, due, Answered, Decided};
+use crate::handed::{packed, Judgement};
 use crate::judge::{judge, ANSWER_BYTES};
+use crate::judger;
 use crate::lent::{Lent, CONTENTS};
 use crate::library::{self, ASK_WORK_BYTES};
 use crate::question::{hex, write, write_in_order, Question};
@@ -124,9 +126,23 @@ impl Asker<'_> {
             Decided::Answered(one) => self.seen.note(&one.question, &one.outcome),
         }
         let fault = self.fault_of_call(bytes, lengths, decided);
+        let right = fault.is_none();
         self.report.case(match fault {
             None => Ok(()),
             Some(fault) => Err(format!("{} with {lengths:?}: {fault}", hex(bytes))),
+        });
+        if right && !due(decided, lengths.0, lengths.1).answer.is_empty() {
+            self.hand_over(bytes);
+        }
+    }
+
+    /// One case of judging: the rows that were shown are accepted, from the very buffer.
+    fn hand_over(&mut self, bytes: &[u8]) {
+        let accepted = packed(Ok(Judgement::Accepted));
+        let fault = judger::fault(&self.question, &self.answer, ANSWER_BYTES, accepted);
+        self.report.case(match fault {
+            None => Ok(()),
+            Some(fault) => Err(format!("{}: shown rows handed over: {fault}", hex(bytes))),
         });
     }
 

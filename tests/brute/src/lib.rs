@@ -8,13 +8,15 @@
 //! - `tree_text`, `typed`, `wrong_readers`: a reader of tree text, texts for it, and readers with one word misread;
 //! - `halves`, `wrong_joins`: join and height of constants by another route than `tree`, and with one word misread;
 //! - `judge`: whether shown rows are a solution, and do not extend for the reason given;
+//! - `handed`, `handed_trees`: what judging is to give of rows that are handed over, leaf by leaf and by whole trees;
+//! - `handed_rows`, `handed_by_hand`: rows to hand over; `judger`: hands them over;
 //! - `random`, `make`, `hidden`, `damage`, `worked`, `refusals`, `limits`, `every_byte`: questions and bytes;
 //! - `draft`, `pinned`: questions whose answer is told by how they were built;
 //! - `library`, `lent`, `due`, `asking`: the exported calls, what is lent to them and what they are to give;
 //! - `options`, `report`, `seen`: what a run is told, what it counts and what it must have seen;
 //! - `plain`, `routes`, `judging`: families of the solver alone;
 //! - `calls`, `constants`, `reading`, `documents`, `by_hand`, `before`, `made`, `misread`, `policies`, `splits`, `numbers`, `terms`,
-//!   `loose`: families of the library.
+//!   `loose`, `handing`, `handed_places`, `wrong_judges`: families of the library.
 
 pub mod asking;
 pub mod before;
@@ -28,8 +30,15 @@ pub mod due;
 pub mod every_byte;
 pub mod fixed;
 pub mod halves;
+pub mod handed;
+pub mod handed_by_hand;
+pub mod handed_places;
+pub mod handed_rows;
+pub mod handed_trees;
+pub mod handing;
 pub mod hidden;
 pub mod judge;
+pub mod judger;
 pub mod judging;
 pub mod least;
 pub mod lent;
@@ -61,6 +70,7 @@ pub mod typed;
 pub mod whole;
 pub mod worked;
 pub mod wrong_joins;
+pub mod wrong_judges;
 pub mod wrong_readers;
 
 use report::Family;
@@ -84,6 +94,9 @@ pub const WITH_THE_LIBRARY: &[&[Family]] = &[
     numbers::FAMILIES,
     terms::FAMILIES,
     loose::FAMILIES,
+    handing::FAMILIES,
+    handed_places::FAMILIES,
+    wrong_judges::FAMILIES,
 ];
 
 /// The families that have no part of the library in them.

@@ -37,6 +37,10 @@ exported! {
     linked: fn zimorgal_join(a: u32, b: u32) -> u64;
     linked: fn zimorgal_height(a: u32) -> u32;
     reads_text: fn zimorgal_constant(text: *const u8, text_bytes: usize) -> u64;
+    judges: fn zimorgal_judge(
+        question: *const u8, question_bytes: usize,
+        rows: *const u8, rows_bytes: usize
+    ) -> u64;
 }
 
 pub const fn linked() -> bool {
@@ -46,6 +50,11 @@ pub const fn linked() -> bool {
 /// Whether the library that is linked reads tree text; one from before that has no such call.
 pub const fn reads_text() -> bool {
     cfg!(reads_text)
+}
+
+/// Whether the library that is linked judges rows that are handed over; one from before that has no such call.
+pub const fn judges() -> bool {
+    cfg!(judges)
 }
 
 pub fn ask(question: &[u8], answer: &mut [u8], work: &mut [u8]) -> u64 {
@@ -85,4 +94,9 @@ pub fn height(a: u32) -> u32 {
 pub fn constant(text: &[u8]) -> u64 {
     // The pointer comes with the length of its slice.
     unsafe { bare::zimorgal_constant(text.as_ptr(), text.len()) }
+}
+
+pub fn judge(question: &[u8], rows: &[u8]) -> u64 {
+    // Each pointer comes with the length of its slice.
+    unsafe { bare::zimorgal_judge(question.as_ptr(), question.len(), rows.as_ptr(), rows.len()) }
 }

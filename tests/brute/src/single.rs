@@ -51,7 +51,7 @@ fn all_hold(clauses: &[Clause], choice: &[bool], constants: &[bool]) -> bool {
 }
 
 /// All choices of so many values.
-fn choices(count: usize) -> impl Iterator<Item = Choice> {
+pub fn choices(count: usize) -> impl Iterator<Item = Choice> {
     (0..1_usize << count).map(move |number| {
         (0..count)
             .map(|v| (number >> (count - 1 - v)) % 2 == 1)

@@ -163,7 +163,7 @@ const SMALL: Size = Size {
     policies: true,
 };
 
-fn some_question(random: &mut Random) -> Question {
+pub fn some_question(random: &mut Random) -> Question {
     let mut counts = || Counts {
         positive: random.below(4),
         disequations: random.below(6),

@@ -231,6 +231,14 @@ pub fn extension_of_trees(
     extension(trees, question, &numbers, own_height)
 }
 
+/// Whether own trees no taller than `own_height` extend a solution that is given as trees.
+pub fn extends(trees: &Trees, question: &Question, solution: &[Tree], own_height: u32) -> bool {
+    let numbers: Vec<usize> = solution.iter().map(|tree| trees.number(tree)).collect();
+    let mut heights = vec![own_height; question.variables()];
+    heights[..question.free].fill(0);
+    search(trees, question, question.second.clone(), heights).from(&numbers, &mut |_| true)
+}
+
 /// What the solutions of the first system up to a height say of an entailment.
 #[derive(Clone, Copy, Debug, PartialEq, Eq)]
 pub struct Verdict {

@@ -2,7 +2,9 @@
 //! printed if one of them crashes.
 
 use crate::memory::Memory;
-use brute::library::bare::{zimorgal_ask, zimorgal_constant, zimorgal_row, zimorgal_text};
+use brute::library::bare::{
+    zimorgal_ask, zimorgal_constant, zimorgal_judge, zimorgal_row, zimorgal_text,
+};
 use std::cell::Cell;
 use std::ffi::{c_int, c_void};
 
@@ -43,6 +45,19 @@ pub fn constant(text: &mut dyn Memory) -> u64 {
     note("constant", text);
     // The pointer comes with the length of its memory.
     unsafe { zimorgal_constant(text.pointer(), text.length()) }
+}
+
+pub fn judge(question: &mut dyn Memory, rows: &mut dyn Memory) -> u64 {
+    note("judge", question);
+    // Each pointer comes with the length of its memory, and the two share no byte.
+    unsafe {
+        zimorgal_judge(
+            question.pointer(),
+            question.length(),
+            rows.pointer(),
+            rows.length(),
+        )
+    }
 }
 
 /// How many bytes of what a call reads are printed if it crashes.

@@ -2,12 +2,14 @@
 //! memory is mapped and never reserved; of what a call touched every byte is looked at.
 
 use crate::asking::{ask, case};
+use crate::handed::judge_gives;
 use crate::mapping::{page_bytes, Access, Mapping};
 use crate::memory::{Heap, Memory};
 use crate::samples;
 use crate::texts::{constant_gives, row, text_gives};
 use brute::calls::text_due;
 use brute::due::decided;
+use brute::handed::{judged, packed as packed_judged};
 use brute::judge::{ANSWER_BYTES, ROW_BYTES};
 use brute::library::{ASK_WORK_BYTES, LONGEST_TEXT};
 use brute::make::random_row;
@@ -100,6 +102,7 @@ fn four_gigabytes(report: &mut Report) {
         questions(report, &mut random, &mut long, length);
         rows_and_texts(report, &mut random, &mut long, length);
         tree_texts(report, &mut random, &mut long, length);
+        handed_rows(report, &mut random, &mut long, length);
     }
 }
 
@@ -175,6 +178,24 @@ fn tree_texts(report: &mut Report, random: &mut Random, long: &mut Long, least: 
     for text in samples::few_tree_texts(random) {
         for more in [0, text.len()] {
             let given = constant_gives(long.lend(least + more, &text, random.byte()), due);
+            report.case(long.checked(given));
+        }
+    }
+}
+
+/// Long rows, then a long question. With as many bytes as are lent here their low bits say that they end where they should.
+fn handed_rows(report: &mut Report, random: &mut Random, long: &mut Long, least: usize) {
+    for (bytes, rows) in samples::few_handed() {
+        for more in [0, ANSWER_BYTES - 1, ANSWER_BYTES] {
+            let due = packed_judged(judged(&bytes, &[]));
+            let mut question = Heap::holding(random, 0, &bytes);
+            let given = judge_gives(&mut question, long.lend(least + more, &rows, 0), due);
+            report.case(long.checked(given));
+        }
+        for more in [0, bytes.len()] {
+            let due = packed_judged(judged(&[&bytes[..], &[0; 8]].concat(), &rows));
+            let mut heap = Heap::holding(random, 0, &rows);
+            let given = judge_gives(long.lend(least + more, &bytes, 0), &mut heap, due);
             report.case(long.checked(given));
         }
     }

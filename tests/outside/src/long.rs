@@ -1,6 +1,7 @@
 //! Buffers of 65,535 bytes to 2^20: lengths whose low 16 bits alone say that they are too short, or just right.
 
 use crate::asking::{ask, case};
+use crate::handed::judge;
 use crate::memory::Heap;
 use crate::samples;
 use crate::texts::{constant, row, text};
@@ -50,6 +51,7 @@ fn long_buffers(report: &mut Report) {
     questions(report, &mut random);
     rows_and_texts(report, &mut random);
     tree_texts(report, &mut random);
+    handed_rows(report, &mut random);
 }
 
 /// Questions with bytes 00 behind their end, so many that the low 16 bits of the length say that it ends there.
@@ -96,6 +98,24 @@ fn tree_texts(report: &mut Report, random: &mut Random) {
             let mut long = whole.clone();
             long.resize(length, b'o');
             report.case(constant(&mut Heap::holding(random, 0, &long)));
+        }
+    }
+}
+
+/// Rows with more behind them, so much that the low 16 bits of the length say that there are 1,536 bytes; and questions likewise.
+fn handed_rows(report: &mut Report, random: &mut Random) {
+    for (bytes, rows) in samples::few_handed() {
+        for length in lengths(ANSWER_BYTES) {
+            let mut long = rows.clone();
+            long.resize(length, 0x00);
+            let mut question = Heap::holding(random, 0, &bytes);
+            report.case(judge(&mut question, &mut Heap::holding(random, 0, &long)));
+        }
+        for length in lengths(bytes.len().max(1)) {
+            let mut long = bytes.clone();
+            long.resize(length, 0x00);
+            let mut question = Heap::holding(random, 0, &long);
+            report.case(judge(&mut question, &mut Heap::holding(random, 0, &rows)));
         }
     }
 }

@@ -9,6 +9,8 @@ mod commands;
 mod constants;
 mod edges;
 mod four_gigabytes;
+mod handed;
+mod handing;
 mod long;
 mod mapping;
 mod memory;
@@ -33,6 +35,7 @@ const FAMILIES: &[&[Family]] = &[
     reused::FAMILIES,
     constants::FAMILIES,
     threads::FAMILIES,
+    handing::FAMILIES,
     mutation::FAMILIES,
     &[("the table of tests/README.md", families_named)],
 ];

@@ -193,7 +193,7 @@ fn too_dear(random: &mut Random, bytes: &[u8]) -> bool {
 }
 
 /// One to four mutations of a question of the corpus.
-fn mutated(random: &mut Random, corpus: &[Vec<u8>]) -> Vec<u8> {
+pub fn mutated(random: &mut Random, corpus: &[Vec<u8>]) -> Vec<u8> {
     let mut bytes = corpus[random.below(corpus.len())].clone();
     for _ in 0..random.between(1, 4) {
         let other = &corpus[random.below(corpus.len())];

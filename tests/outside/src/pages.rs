@@ -25,15 +25,15 @@ pub const FAMILIES: &[Family] = &[
 ];
 
 #[derive(Clone, Copy, Debug, PartialEq, Eq)]
-enum Side {
+pub enum Side {
     Before,
     After,
 }
 
-const SIDES: [Side; 2] = [Side::Before, Side::After];
+pub const SIDES: [Side; 2] = [Side::Before, Side::After];
 
 /// Pages between two that are not accessible, with lent bytes at one end of them.
-struct Pages {
+pub struct Pages {
     mapping: Mapping,
     /// How many bytes are accessible.
     room: usize,
@@ -43,7 +43,7 @@ struct Pages {
 
 impl Pages {
     /// Room for so many lent bytes.
-    fn new(most: usize) -> Pages {
+    pub fn new(most: usize) -> Pages {
         let room = most.max(1).next_multiple_of(page_bytes());
         let mapping = Mapping::new(room + 2 * page_bytes(), Access::None);
         Pages {
@@ -76,7 +76,7 @@ impl Pages {
     }
 
     /// The same, but a write crashes.
-    fn lend_to_read(&mut self, random: &mut Random, side: Side, content: &[u8]) -> &mut Pages {
+    pub fn lend_to_read(&mut self, random: &mut Random, side: Side, content: &[u8]) -> &mut Pages {
         self.lend(random, side, content);
         self.protect(Access::Read);
         self
@@ -131,7 +131,7 @@ fn buffers() -> Buffers {
 }
 
 /// Some of the largest questions, with each change, by turns four without permission policies and four with them.
-fn large(random: &mut Random, count: usize) -> Vec<Vec<u8>> {
+pub fn large(random: &mut Random, count: usize) -> Vec<Vec<u8>> {
     let mut questions = Vec::new();
     for round in 0..count {
         let question = largest(random, round + 4, CHANGES[round % 4], round / 4 % 2 == 1);

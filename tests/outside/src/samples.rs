@@ -1,6 +1,9 @@
 //! Questions and tree texts that several families start from.
 
 use brute::due::{decided, Decided};
+use brute::handed::{judged, packed};
+use brute::handed_by_hand;
+use brute::handed_rows::some_case;
 use brute::make::{crowded, entailment, random_question, Counts, Size, CHANGES};
 use brute::question::write;
 use brute::random::Random;
@@ -84,4 +87,42 @@ pub fn tree_texts(random: &mut Random) -> Vec<Vec<u8>> {
         texts.extend([unfolded(random, &text), text]);
     }
     texts
+}
+
+/// Questions and the rows that are handed over for them.
+pub type Handed = (Vec<u8>, Vec<u8>);
+
+/// Those worked by hand; each fault of a question worked by hand, with no rows but zeros; and random ones, some of them refused.
+pub fn handed(random: &mut Random, count: usize) -> Vec<Handed> {
+    let worked = handed_by_hand::all()
+        .map(|(_, bytes, texts, _)| (worked::bytes(bytes), handed_by_hand::rows(texts)));
+    let refused = refusals::by_hand().into_iter();
+    let refused = refused.map(|fault| (fault.bytes, handed_by_hand::rows(&[])));
+    let mut handed: Vec<Handed> = worked.chain(refused).collect();
+    handed.extend((0..count).map(|_| some_case(random)));
+    handed
+}
+
+/// One for each thing that judging says: accepted of each kind, broken of each kind, extended, a fault of the question, and a bit where none may be.
+pub fn few_handed() -> Vec<Handed> {
+    let all = handed(&mut Random::new(0), 0);
+    let foreign = all.iter().map(|(bytes, rows)| {
+        let without_last = &rows[..rows.len() - 1];
+        (bytes.clone(), [without_last, &[0x80]].concat())
+    });
+    let mut sorts = Vec::new();
+    let mut found = Vec::new();
+    for (bytes, rows) in all.iter().cloned().chain(foreign) {
+        let [said, refusal, ..] = packed(judged(&bytes, &rows)).to_le_bytes();
+        let sort = match said {
+            0 => (0, 0, refusal.max(10)),
+            _ => (said, bytes[1], 0),
+        };
+        if !sorts.contains(&sort) {
+            sorts.push(sort);
+            found.push((bytes, rows));
+        }
+    }
+    assert_eq!(found.len(), 7, "one of each was worked by hand");
+    found
 }

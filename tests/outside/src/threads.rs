@@ -105,7 +105,7 @@ fn join_and_height(report: &mut Report) {
 
 /// For each thread and input, a question or a pair: none, or the number of the input where the thread got something else.
 /// Each thread begins at another input, so that at any moment the calls have different ones.
-fn at_once<Asked: Clone + Sync, Got: PartialEq + Sync>(
+pub fn at_once<Asked: Clone + Sync, Got: PartialEq + Sync>(
     inputs: &[Asked],
     all_due: &[Got],
     ask: impl Fn(&Asked) -> Got + Sync,

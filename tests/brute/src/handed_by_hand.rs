@@ -1,0 +1,560 @@
+//! Rows that are handed over, worked by hand: a question, the tree text of each free variable's row, and the number that judging is to give.
+//! Questions are written as in `worked`.
+
+use crate::judge::{ANSWER_BYTES, ROW_BYTES};
+use crate::tree::row_of_tree;
+use crate::tree_text::tree_of_text;
+use crate::worked::{FIVE_NOT_EMPTY, THREE_NOT_EMPTY, TWO_READERS};
+
+/// Name, question, the rows' tree texts, and the number.
+pub type Handed = (&'static str, &'static str, &'static [&'static str], u64);
+
+pub const ACCEPTED: u64 = 1;
+pub const EXTENDS: u64 = 3;
+
+/// The number for rows that break this clause and none before it.
+pub const fn broken(clause: u64) -> u64 {
+    2 + (clause << 32)
+}
+
+/// All 12 rows, of which the first have these tree texts.
+pub fn rows(texts: &[&str]) -> Vec<u8> {
+    let mut rows = vec![0; ANSWER_BYTES];
+    for (row, text) in rows.chunks_mut(ROW_BYTES).zip(texts) {
+        let tree = tree_of_text(text.as_bytes()).expect("a tree text");
+        row.copy_from_slice(&row_of_tree(&tree));
+    }
+    rows
+}
+
+/// One leaf of 1,024 is full, the first, or the second of them; all are but the last.
+const FIRST_LEAF: &str = "((((((((((*o)o)o)o)o)o)o)o)o)o)";
+const SECOND_LEAF: &str = "((((((((((o*)o)o)o)o)o)o)o)o)o)";
+const FIRST_TWO: &str = "(((((((((*o)o)o)o)o)o)o)o)o)";
+const ALL_BUT_LAST: &str = "(*(*(*(*(*(*(*(*(*(*o))))))))))";
+
+pub const SPLIT: &str = "01 01 01 02 | E | 13 00 20 | 20 01 02 00 | 23 01 20 | 23 02 20 | 00";
+const LEFT_JOIN: &str = "01 01 02 01 | E R L | 13 00 20 | 12 01 21 | 20 22 02 00 | 00";
+const NOT_LEFT: &str = "01 00 02 00 | F L E | 10 00 01 20 | 13 00 21 | 13 01 22 | 00";
+const ENTAILS_NOT_EMPTY: &str = "01 01 02 00 | F E | 10 00 01 20 | 23 00 21 | 00";
+const NOT_A_UNIT: &str = "01 00 02 00 | 11 00 01 00 | 00";
+const IN_ORDER: &str = "01 00 01 00 | E F | 13 00 20 | 12 00 21 | 13 00 21 | 00";
+/// The first system's clauses, from 0: v0 is full; v1 is not empty; v0 join v1 is full. Those of the second stand between them.
+const MIXED: &str = "01 01 02 00 | E F | 22 00 20 | 12 00 21 | 23 01 20 | 13 01 20 | 20 00 00 00 | 10 00 01 21 | 00";
+const WRITER_AND_READER: &str = "01 00 02 00 | 30 00 | 31 01 | 32 00 01 | 00";
+const READER_BESIDE: &str = "01 01 01 01 | F | 13 00 20 | 39 01 | 3A 00 01 | 00";
+const LAST_OF_32: &str = "01 00 01 00 | 03 00 00 00 80 | 12 00 20 | 00";
+
+/// The questions of SPEC 12.
+const OF_SPEC: &[Handed] = &[
+    ("no variable, no clause", "01 00 00 00 | 00", &[], ACCEPTED),
+    (
+        "v0 join v0 is full: empty",
+        "01 00 01 00 | F | 10 00 00 20 | 00",
+        &["o"],
+        broken(0),
+    ),
+    (
+        "v0 join v0 is full: undefined",
+        "01 00 01 00 | F | 10 00 00 20 | 00",
+        &["*"],
+        broken(0),
+    ),
+    (
+        "v0 join v0 is v1, not empty",
+        "01 00 02 00 | E | 10 00 00 01 | 13 01 20 | 00",
+        &["o", "o"],
+        broken(1),
+    ),
+    (
+        "v0 join v0 is v1, another",
+        "01 00 02 00 | E | 10 00 00 01 | 13 01 20 | 00",
+        &["o", "*"],
+        broken(0),
+    ),
+    (
+        "three not empty, at height 1",
+        THREE_NOT_EMPTY,
+        &["(*o)", "(o*)", "*"],
+        ACCEPTED,
+    ),
+    (
+        "three not empty, at height 10",
+        THREE_NOT_EMPTY,
+        &[FIRST_LEAF, SECOND_LEAF, FIRST_TWO],
+        ACCEPTED,
+    ),
+    (
+        "three not empty, v1 is",
+        THREE_NOT_EMPTY,
+        &["*", "o", "*"],
+        broken(2),
+    ),
+    (
+        "three not empty, v0 and v1 overlap",
+        THREE_NOT_EMPTY,
+        &["*", "*", "*"],
+        broken(0),
+    ),
+    (
+        "five not empty",
+        FIVE_NOT_EMPTY,
+        &["((*o)o)", "((o*)o)", "(*o)", "(o*)", "*"],
+        ACCEPTED,
+    ),
+    (
+        "five not empty, v3 is",
+        FIVE_NOT_EMPTY,
+        &["((*o)o)", "((o*)o)", "(*o)", "o", "(*o)"],
+        broken(5),
+    ),
+    ("v0 not L: R", NOT_LEFT, &["(o*)", "(*o)"], ACCEPTED),
+    ("v0 not L: L", NOT_LEFT, &["(*o)", "(o*)"], broken(1)),
+    ("v0 not L: full", NOT_LEFT, &["*", "o"], broken(2)),
+    (
+        "v0 not L: the join is not full",
+        NOT_LEFT,
+        &["(*o)", "o"],
+        broken(0),
+    ),
+    (
+        "not (full join full is full)",
+        "01 00 00 00 | F | 11 20 20 20 | 00",
+        &[],
+        ACCEPTED,
+    ),
+    (
+        "the first has no solution",
+        "01 01 01 00 | F E | 10 00 00 20 | 22 00 21 | 00",
+        &["o"],
+        broken(0),
+    ),
+    (
+        "L join own v2 is v0: R",
+        LEFT_JOIN,
+        &["(o*)", "(o*)"],
+        ACCEPTED,
+    ),
+    (
+        "L join own v2 is v0: full",
+        LEFT_JOIN,
+        &["*", "(o*)"],
+        EXTENDS,
+    ),
+    (
+        "L join own v2 is v0: L",
+        LEFT_JOIN,
+        &["(*o)", "(o*)"],
+        EXTENDS,
+    ),
+    (
+        "L join own v2 is v0: over L, and taller",
+        LEFT_JOIN,
+        &["(*(o(*o)))", "(o*)"],
+        EXTENDS,
+    ),
+    (
+        "L join own v2 is v0: less than L",
+        LEFT_JOIN,
+        &["((*o)*)", "(o*)"],
+        ACCEPTED,
+    ),
+    (
+        "L join own v2 is v0: one leaf less than L",
+        LEFT_JOIN,
+        &["((((((((((o*)*)*)*)*)*)*)*)*)o)", "(o*)"],
+        ACCEPTED,
+    ),
+    (
+        "L join own v2 is v0: empty",
+        LEFT_JOIN,
+        &["o", "(o*)"],
+        broken(0),
+    ),
+    (
+        "L join own v2 is v0: v1 is not R",
+        LEFT_JOIN,
+        &["*", "(*o)"],
+        broken(1),
+    ),
+    (
+        "v0 split: own shares of height 1 beside height 0",
+        SPLIT,
+        &["*"],
+        EXTENDS,
+    ),
+    (
+        "v0 split: own shares of height 2 beside height 1",
+        SPLIT,
+        &["(*o)"],
+        EXTENDS,
+    ),
+    (
+        "v0 split: own shares of height 11",
+        SPLIT,
+        &[FIRST_LEAF],
+        EXTENDS,
+    ),
+    ("v0 split: empty", SPLIT, &["o"], broken(0)),
+    (
+        "v0 join v1 is full entails v0 not empty: empty",
+        ENTAILS_NOT_EMPTY,
+        &["o", "*"],
+        ACCEPTED,
+    ),
+    (
+        "v0 join v1 is full entails v0 not empty: full",
+        ENTAILS_NOT_EMPTY,
+        &["*", "o"],
+        EXTENDS,
+    ),
+    (
+        "v0 join v1 is full entails v0 not empty: half",
+        ENTAILS_NOT_EMPTY,
+        &["(o*)", "(*o)"],
+        EXTENDS,
+    ),
+    (
+        "v0 join v1 is full entails v0 not empty: neither",
+        ENTAILS_NOT_EMPTY,
+        &["o", "o"],
+        broken(0),
+    ),
+    (
+        "v0 is L entails v0 not empty: L",
+        "01 01 01 00 | L E | 12 00 20 | 23 00 21 | 00",
+        &["(*o)"],
+        EXTENDS,
+    ),
+    (
+        "v0 is L entails v0 not empty: full",
+        "01 01 01 00 | L E | 12 00 20 | 23 00 21 | 00",
+        &["*"],
+        broken(0),
+    ),
+    (
+        "v0 is L entails v0 is full",
+        "01 01 01 00 | L F | 12 00 20 | 22 00 21 | 00",
+        &["(*o)"],
+        ACCEPTED,
+    ),
+    (
+        "the printing program's example",
+        "01 00 01 00 | L F | 10 00 20 21 | 00",
+        &["(o*)"],
+        ACCEPTED,
+    ),
+    (
+        "the printing program's example: L",
+        "01 00 01 00 | L F | 10 00 20 21 | 00",
+        &["(*o)"],
+        broken(0),
+    ),
+    (
+        "a writer and a reader held together",
+        WRITER_AND_READER,
+        &["*", "*"],
+        broken(2),
+    ),
+    (
+        "a writer and an empty share",
+        WRITER_AND_READER,
+        &["*", "o"],
+        broken(1),
+    ),
+    (
+        "half a writer",
+        WRITER_AND_READER,
+        &["(*o)", "(o*)"],
+        broken(0),
+    ),
+    ("two readers", TWO_READERS, &["(o*)", "(*o)"], ACCEPTED),
+    ("two writers", TWO_READERS, &["*", "*"], broken(2)),
+    (
+        "v0 may read entails v0 may write: half",
+        "01 01 01 00 | 31 00 | 38 00 | 00",
+        &["(o*)"],
+        ACCEPTED,
+    ),
+    (
+        "v0 may read entails v0 may write: full",
+        "01 01 01 00 | 31 00 | 38 00 | 00",
+        &["*"],
+        EXTENDS,
+    ),
+    (
+        "v0 may read entails v0 may write: empty",
+        "01 01 01 00 | 31 00 | 38 00 | 00",
+        &["o"],
+        broken(0),
+    ),
+    (
+        "v0 may write beside an own reader",
+        "01 01 01 01 | 30 00 | 39 01 | 3A 00 01 | 00",
+        &["*"],
+        ACCEPTED,
+    ),
+    (
+        "v0 is not full beside an own reader",
+        READER_BESIDE,
+        &["(*o)"],
+        EXTENDS,
+    ),
+    (
+        "v0 has one empty leaf beside an own reader",
+        READER_BESIDE,
+        &[ALL_BUT_LAST],
+        EXTENDS,
+    ),
+    (
+        "v0 is full beside an own reader",
+        READER_BESIDE,
+        &["*"],
+        broken(0),
+    ),
+];
+
+/// One for each word that is easily misread.
+const OF_WORDS: &[Handed] = &[
+    (
+        "a disequation holds at one leaf of 1,024",
+        "01 00 01 00 | F | 13 00 20 | 00",
+        &[ALL_BUT_LAST],
+        ACCEPTED,
+    ),
+    (
+        "a disequation holds at no leaf",
+        "01 00 01 00 | F | 13 00 20 | 00",
+        &["*"],
+        broken(0),
+    ),
+    (
+        "a positive clause fails at one leaf of 1,024",
+        "01 00 01 00 | F | 12 00 20 | 00",
+        &[ALL_BUT_LAST],
+        broken(0),
+    ),
+    (
+        "no leaf meets both disequations",
+        "01 00 01 00 | E F | 13 00 20 | 13 00 21 | 00",
+        &["(*o)"],
+        ACCEPTED,
+    ),
+    (
+        "a negated join that is undefined",
+        NOT_A_UNIT,
+        &["*", "*"],
+        ACCEPTED,
+    ),
+    (
+        "a negated join that is undefined at one leaf",
+        NOT_A_UNIT,
+        &[FIRST_LEAF, FIRST_LEAF],
+        ACCEPTED,
+    ),
+    (
+        "a negated join that is another share",
+        NOT_A_UNIT,
+        &["(*o)", "(o*)"],
+        ACCEPTED,
+    ),
+    (
+        "a negated join that is the share",
+        NOT_A_UNIT,
+        &["*", "o"],
+        broken(0),
+    ),
+    (
+        "two disequations of the second at two leaves",
+        "01 01 01 00 | L E F | 12 00 20 | 23 00 21 | 23 00 22 | 00",
+        &["(*o)"],
+        EXTENDS,
+    ),
+    (
+        "two disequations of the second, one cannot be had",
+        "01 01 01 00 | E F | 23 00 20 | 23 00 21 | 00",
+        &["*"],
+        ACCEPTED,
+    ),
+    (
+        "an own share beside no row",
+        "01 01 00 01 | E F | 23 00 20 | 23 00 21 | 00",
+        &[],
+        EXTENDS,
+    ),
+    (
+        "an own share differs from itself",
+        "01 01 00 01 | 23 00 00 | 00",
+        &[],
+        ACCEPTED,
+    ),
+    ("nothing to extend", "01 01 01 00 | 00", &["(o*)"], EXTENDS),
+    (
+        "own variables that no clause names",
+        "01 01 00 0C | 00",
+        &[],
+        EXTENDS,
+    ),
+    (
+        "in question order: the disequation before",
+        IN_ORDER,
+        &["o"],
+        broken(0),
+    ),
+    (
+        "in question order: the positive clause between",
+        IN_ORDER,
+        &["(*o)"],
+        broken(1),
+    ),
+    (
+        "in question order: the disequation behind",
+        IN_ORDER,
+        &["*"],
+        broken(2),
+    ),
+    ("two systems mixed: number 0", MIXED, &["o", "*"], broken(0)),
+    ("two systems mixed: number 1", MIXED, &["*", "o"], broken(1)),
+    ("two systems mixed: number 2", MIXED, &["*", "*"], broken(2)),
+    (
+        "the last of 32 leaves",
+        LAST_OF_32,
+        &["(o(o(o(o(o*)))))"],
+        ACCEPTED,
+    ),
+    (
+        "the first of 32 leaves for the last",
+        LAST_OF_32,
+        &["(((((*o)o)o)o)o)"],
+        broken(0),
+    ),
+    (
+        "half of the last of 32 leaves",
+        LAST_OF_32,
+        &["(o(o(o(o(o(*o))))))"],
+        broken(0),
+    ),
+];
+
+pub fn all() -> impl Iterator<Item = &'static Handed> {
+    OF_SPEC.iter().chain(OF_WORDS)
+}
+
+/// Name, question, how many bytes of rows, all zero but for one bit, the number of that, if any, and the number that judging is to give.
+pub type Refused = (&'static str, &'static str, usize, Option<usize>, u64);
+
+const ONE_AND_ONE: &str = "01 01 01 01 | 00";
+
+pub const REFUSED: &[Refused] = &[
+    ("18: no rows", ONE_AND_ONE, 0, None, 0x1200),
+    ("18: 1,535 bytes", ONE_AND_ONE, 1535, None, 0x1200),
+    ("18: 1,537 bytes", ONE_AND_ONE, 1537, None, 0x1200),
+    (
+        "18: all 12 variables are free",
+        "01 00 0C 00 | 00",
+        1535,
+        None,
+        0x1200,
+    ),
+    (
+        "18 before 19: a bit in the row of an own variable",
+        ONE_AND_ONE,
+        1535,
+        Some(1024),
+        0x1200,
+    ),
+    (
+        "18 before 19: a bit behind the rows",
+        ONE_AND_ONE,
+        1537,
+        Some(12_288),
+        0x1200,
+    ),
+    (
+        "19: the first bit of the row of an own variable",
+        ONE_AND_ONE,
+        1536,
+        Some(1024),
+        0x1300,
+    ),
+    (
+        "19: the last bit of the row of an own variable",
+        ONE_AND_ONE,
+        1536,
+        Some(2047),
+        0x1300,
+    ),
+    (
+        "19: the first bit of the row of an absent variable",
+        ONE_AND_ONE,
+        1536,
+        Some(2048),
+        0x1300,
+    ),
+    (
+        "19: the first bit of row 11",
+        "01 00 0B 00 | 00",
+        1536,
+        Some(11_264),
+        0x1300,
+    ),
+    (
+        "19: the last bit of all",
+        "01 00 0B 00 | 00",
+        1536,
+        Some(12_287),
+        0x1300,
+    ),
+    ("19: no variable", "01 00 00 00 | 00", 1536, Some(0), 0x1300),
+    (
+        "the last bit of the row of a free variable",
+        "01 00 01 00 | 00",
+        1536,
+        Some(1023),
+        ACCEPTED,
+    ),
+    (
+        "the last bit of all, of a free variable",
+        "01 00 0C 00 | 00",
+        1536,
+        Some(12_287),
+        ACCEPTED,
+    ),
+    ("1 before 18", "", 0, None, 0x0100),
+    ("2 before 18, at 4", "01 01 01 01", 1535, None, 0x0004_0200),
+    (
+        "3 before 19, at 4",
+        "01 01 01 01 | FF",
+        1536,
+        Some(1024),
+        0x0004_0300,
+    ),
+    (
+        "5 before 19",
+        "01 01 06 07 | 00",
+        1536,
+        Some(12_287),
+        0x0500,
+    ),
+    (
+        "8 before 18, at 4",
+        "01 00 01 00 | 12 00 01 | 00",
+        0,
+        None,
+        0x0004_0800,
+    ),
+    (
+        "9 before 19, at 7",
+        "01 00 01 00 | 12 00 00 | 22 00 00 | 00",
+        1536,
+        Some(1024),
+        0x0007_0900,
+    ),
+    (
+        "10 before 18, at 5",
+        "01 01 01 01 | 00 00",
+        0,
+        None,
+        0x0005_0A00,
+    ),
+];

@@ -1,0 +1,428 @@
+//! Families of judging in which one clause, one leaf, one bit or one length decides, so that how rows were made tells what is due.
+
+use crate::damage::damaged;
+use crate::handed::Judgement::{self, Accepted, Broken, Extends};
+use crate::handed::{Judged, FOREIGN_BIT, WRONG_LENGTH};
+use crate::handed_rows::{any, faulty, some};
+use crate::judge::{ANSWER_BYTES, ROW_BYTES};
+use crate::judger::Judger;
+use crate::library::{self, ASK_WORK_BYTES};
+use crate::make::shuffle;
+use crate::question::{
+    hex, read, Clause, Question, Refusal, Relation, Term, MOST_DISEQUATIONS, MOST_POSITIVE,
+    MOST_VARIABLES, SORTS,
+};
+use crate::random::Random;
+use crate::refusals;
+use crate::report::{Family, Report};
+use crate::slips::some_question;
+use crate::tree::tree_of_number;
+use crate::worked;
+
+pub const FAMILIES: &[Family] = &[
+    ("each clause of the first system broken", each_clause),
+    ("each leaf of the rows", each_leaf),
+    ("each leaf of a constant beside rows", each_constant_leaf),
+    ("each choice of 12 variables at one leaf", each_choice),
+    ("faults of the question before those of the rows", faults),
+    ("lengths of the rows", lengths),
+    ("bits of rows of no free variable", foreign_bits),
+];
+
+const CLAUSES: usize = MOST_POSITIVE + MOST_DISEQUATIONS;
+
+fn refused(number: u8) -> Judged {
+    Err(Refusal { number, place: 0 })
+}
+
+/// All clauses over some terms.
+fn all_clauses(terms: &[Term]) -> Vec<Clause> {
+    let mut clauses = Vec::new();
+    for sort in SORTS {
+        let count = sort.relation.terms().len() as u32;
+        for number in 0..terms.len().pow(count) {
+            let mut rest = number;
+            let relation = sort.relation.with(|_| {
+                let term = terms[rest % terms.len()];
+                rest /= terms.len();
+                term
+            });
+            let negated = sort.negated;
+            clauses.push(Clause { relation, negated });
+        }
+    }
+    clauses
+}
+
+/// Whether a clause holds of leaves that are given as numbers, 32 to each term.
+fn holds(clause: &Clause, leaves: impl Fn(Term) -> u32) -> bool {
+    let plain = match clause.relation {
+        Relation::Join(a, b, c) => {
+            let (a, b) = (leaves(a), leaves(b));
+            a & b == 0 && a | b == leaves(c)
+        }
+        Relation::Equal(a, b) => leaves(a) == leaves(b),
+        Relation::Full(a) => leaves(a) == u32::MAX,
+        Relation::Empty(a) => leaves(a) == 0,
+        Relation::Together(a, b) => leaves(a) & leaves(b) == 0,
+    };
+    plain != clause.negated
+}
+
+/// Clauses that hold of some rows and clauses that they break, the positive ones and the disequations.
+struct Pools {
+    question: Question,
+    rows: Vec<u8>,
+    held: [Vec<Clause>; 2],
+    broken: [Vec<Clause>; 2],
+}
+
+impl Pools {
+    /// The rows of four variables: any share, the rest of it, a part of it, and full. The constants are empty, full and any share.
+    fn new(random: &mut Random, entailment: bool) -> Pools {
+        let any = random.number() as u32;
+        let shares = [any, !any, any & random.number() as u32, u32::MAX];
+        let constants = [0, u32::MAX, random.number() as u32];
+        let leaves = |term| match term {
+            Term::Variable(v) => shares[v],
+            Term::Constant(c) => constants[c],
+        };
+        let variables = (0..shares.len()).map(Term::Variable);
+        let terms: Vec<Term> = variables
+            .chain((0..constants.len()).map(Term::Constant))
+            .collect();
+        let pool = |held: bool, negated: bool| {
+            let clauses = all_clauses(&terms).into_iter();
+            let wanted = |c: &Clause| c.negated == negated && holds(c, leaves) == held;
+            clauses.filter(wanted).collect::<Vec<Clause>>()
+        };
+        Pools {
+            held: [false, true].map(|negated| pool(true, negated)),
+            broken: [false, true].map(|negated| pool(false, negated)),
+            rows: rows_of_numbers(&shares),
+            question: Question {
+                entailment,
+                free: shares.len(),
+                constants: constants.map(tree_of_number).to_vec(),
+                ..Question::default()
+            },
+        }
+    }
+
+    /// Whether a clause holds of the rows.
+    fn has(&self, clause: &Clause) -> bool {
+        self.held[usize::from(clause.negated)].contains(clause)
+    }
+
+    /// As many clauses as a system may have, in any order. Those before number `lowest` hold, that one is broken, and some behind it are.
+    fn system(&self, random: &mut Random, lowest: usize) -> Vec<Clause> {
+        let mut signs = [vec![0; MOST_POSITIVE], vec![1; MOST_DISEQUATIONS]].concat();
+        shuffle(random, &mut signs);
+        let mut clauses = Vec::new();
+        for (number, sign) in signs.into_iter().enumerate() {
+            let behind = number > lowest && random.once_in(3);
+            let pools = match number == lowest || behind {
+                true => &self.broken,
+                false => &self.held,
+            };
+            clauses.push(random.pick(&pools[sign]));
+        }
+        clauses
+    }
+}
+
+/// The first rows, each with these 32 leaves; the others are zero.
+fn rows_of_numbers(shares: &[u32]) -> Vec<u8> {
+    let mut rows = vec![0; ANSWER_BYTES];
+    for (row, share) in rows.chunks_mut(ROW_BYTES).zip(shares) {
+        for (leaf, part) in row.chunks_mut(ROW_BYTES / 32).enumerate() {
+            part.fill(if share >> leaf & 1 == 1 { 0xFF } else { 0x00 });
+        }
+    }
+    rows
+}
+
+/// As many clauses as there may be, each in turn the lowest that is broken, and none. For an entailment as many of the second stand between
+/// them.
+fn each_clause(report: &mut Report) {
+    let mut judger = Judger::new(report);
+    for _ in 0..judger.report.rounds(4) {
+        for (lowest, entailment) in (0..=CLAUSES).flat_map(|k| [(k, false), (k, true)]) {
+            let pools = Pools::new(&mut judger.random, entailment);
+            let mut question = pools.question.clone();
+            question.first = pools.system(&mut judger.random, lowest);
+            if entailment {
+                let held = judger.random.below(2) * CLAUSES;
+                question.second = pools.system(&mut judger.random, held);
+            }
+            let extends = entailment && question.second.iter().all(|c| pools.has(c));
+            let due = match (lowest < CLAUSES, extends) {
+                (true, _) => Broken(lowest),
+                (false, true) => Extends,
+                (false, false) => Accepted,
+            };
+            let bytes = judger.mixed(&question);
+            judger.known(&bytes, &pools.rows, Ok(due));
+        }
+    }
+}
+
+/// A question of variable vv, which is one of 11; what fills its row; and what is due once one leaf of that is turned, and without that.
+type OneLeaf = (&'static str, u8, Judgement, Judgement);
+
+const ONE_LEAF: &[OneLeaf] = &[
+    ("01 00 0C 00 | E | 12 vv 20 | 00", 0x00, Broken(0), Accepted),
+    ("01 00 0C 00 | E | 13 vv 20 | 00", 0x00, Accepted, Broken(0)),
+    ("01 00 0C 00 | F | 12 20 vv | 00", 0xFF, Broken(0), Accepted),
+    ("01 00 0C 00 | F | 13 20 vv | 00", 0xFF, Accepted, Broken(0)),
+    ("01 00 0C 00 | 31 vv | 00", 0x00, Accepted, Broken(0)),
+    ("01 00 0C 00 | 30 vv | 00", 0xFF, Broken(0), Accepted),
+    ("01 00 0C 00 | 32 vv vv | 00", 0x00, Broken(0), Accepted),
+    ("01 00 0C 00 | 10 vv vv vv | 00", 0x00, Broken(0), Accepted),
+    ("01 00 0C 00 | 11 vv vv vv | 00", 0x00, Accepted, Broken(0)),
+    ("01 01 0C 00 | E | 22 vv 20 | 00", 0x00, Accepted, Extends),
+    ("01 01 0C 00 | E | 23 vv 20 | 00", 0x00, Extends, Accepted),
+    ("01 01 0C 00 | F | 22 vv 20 | 00", 0xFF, Accepted, Extends),
+    ("01 01 0C 00 | F | 23 vv 20 | 00", 0xFF, Extends, Accepted),
+    (
+        "01 01 0B 01 | 3A vv 0B | 39 0B | 00",
+        0xFF,
+        Extends,
+        Accepted,
+    ),
+    (
+        "01 01 0B 01 | 3A vv 0B | 38 0B | 00",
+        0x00,
+        Accepted,
+        Extends,
+    ),
+    (
+        "01 01 0B 01 | F | 20 vv 0B 20 | 39 0B | 23 0B 20 | 00",
+        0xFF,
+        Extends,
+        Accepted,
+    ),
+];
+
+/// Each of the 1,024 leaves alone makes the difference, in the row of some variable; a leaf at an end of a word of 64 in the row of each.
+fn each_leaf(report: &mut Report) {
+    let mut judger = Judger::new(report);
+    for leaf in 0..8 * ROW_BYTES {
+        let some = judger.random.below(MOST_VARIABLES - 1);
+        let variables = match leaf % 64 {
+            0 | 63 => 0..MOST_VARIABLES - 1,
+            _ => some..some + 1,
+        };
+        for variable in variables {
+            for one in ONE_LEAF {
+                one_leaf(&mut judger, one, variable, leaf);
+            }
+        }
+    }
+}
+
+/// Two calls: with the leaf turned and without. For every eighth leaf whole trees are tried too.
+fn one_leaf(judger: &mut Judger, one: &OneLeaf, variable: usize, leaf: usize) {
+    let (text, filling, turned, unturned) = one;
+    let bytes = worked::bytes(&text.replace("vv", &format!("{variable:02X}")));
+    let question = read(&bytes).expect("an accepted question");
+    let mut rows = any(&mut judger.random, &question, 0);
+    let row = variable * ROW_BYTES..(variable + 1) * ROW_BYTES;
+    rows[row].fill(*filling);
+    judger.known_by_leaf(&bytes, &rows, Ok(*unturned));
+    rows[variable * ROW_BYTES + leaf / 8] ^= 1 << (leaf % 8);
+    match leaf % 8 {
+        0 => judger.known(&bytes, &rows, Ok(*turned)),
+        _ => judger.known_by_leaf(&bytes, &rows, Ok(*turned)),
+    }
+}
+
+/// Each leaf of a constant, full or empty alone, beside a row that is the constant, or differs from it at an end of the leaf's 32.
+fn each_constant_leaf(report: &mut Report) {
+    let mut judger = Judger::new(report);
+    for leaf in 0..32_usize {
+        for share in [1 << leaf, !(1_u32 << leaf)] {
+            let c: Vec<String> = share.to_le_bytes().map(|b| format!("{b:02X}")).to_vec();
+            let with = |kind: &str, clause: &str| {
+                worked::bytes(&format!(
+                    "01 {kind} 01 00 | 03 {} | {clause} | 00",
+                    c.join(" ")
+                ))
+            };
+            let same = [
+                (with("00", "12 00 20"), Accepted, Broken(0)),
+                (with("00", "13 00 20"), Broken(0), Accepted),
+                (with("01", "22 00 20"), Extends, Accepted),
+                (with("01", "23 00 20"), Accepted, Extends),
+            ];
+            let rows = rows_of_numbers(&[share]);
+            for (bytes, due, due_turned) in same {
+                judger.known(&bytes, &rows, Ok(due));
+                for turned in [32 * leaf, 32 * leaf + 31, (32 * leaf + 1023) % 1024] {
+                    let mut rows = rows.clone();
+                    rows[turned / 8] ^= 1 << (turned % 8);
+                    judger.known(&bytes, &rows, Ok(due_turned));
+                }
+            }
+        }
+    }
+}
+
+/// Each of the 4,096 choices of 12 variables, free and own, at one leaf of the constants, and all empty at the others.
+fn each_choice(report: &mut Report) {
+    let mut judger = Judger::new(report);
+    for choice in 0..1_u32 << MOST_VARIABLES {
+        let free = judger.random.below(MOST_VARIABLES + 1);
+        let full_at = 1 << judger.random.below(32);
+        let shares: Vec<u32> = (0..MOST_VARIABLES)
+            .map(|variable| (choice >> variable & 1) * full_at)
+            .collect();
+        one_choice(&mut judger, free, &shares);
+    }
+}
+
+/// The second system says of each variable that it is the share given here, so that no other choice will do, and of one that it is not empty. The rows of
+/// the free ones are these shares: they extend if that one is not empty. With a leaf turned they never do.
+fn one_choice(judger: &mut Judger, free: usize, shares: &[u32]) {
+    let wanted = judger.random.below(MOST_VARIABLES);
+    let term = Term::Variable(wanted);
+    let equal = |v| Relation::Equal(Term::Variable(v), Term::Constant(v));
+    let clause = |relation, negated| Clause { relation, negated };
+    let mut second: Vec<Clause> = (0..MOST_VARIABLES)
+        .map(|v| clause(equal(v), false))
+        .collect();
+    second.push(clause(Relation::Empty(term), true));
+    shuffle(&mut judger.random, &mut second);
+    let question = Question {
+        entailment: true,
+        free,
+        own: MOST_VARIABLES - free,
+        constants: shares.iter().map(|share| tree_of_number(*share)).collect(),
+        first: Vec::new(),
+        second,
+    };
+    let bytes = judger.mixed(&question);
+    let mut rows = rows_of_numbers(&shares[..free]);
+    let due = match shares[wanted] {
+        0 => Accepted,
+        _ => Extends,
+    };
+    judger.known_by_leaf(&bytes, &rows, Ok(due));
+    if free > 0 {
+        let at = judger.random.below(free * ROW_BYTES);
+        rows[at] ^= 1 << judger.random.below(8);
+        judger.known_by_leaf(&bytes, &rows, Ok(Accepted));
+    }
+}
+
+/// The refusal that asking gives of these bytes with buffers that are long enough, as a number.
+fn asked(bytes: &[u8]) -> Option<u64> {
+    let (mut answer, mut work) = ([0; ANSWER_BYTES], [0; ASK_WORK_BYTES]);
+    let number = library::ask(bytes, &mut answer, &mut work);
+    (number as u8 == 0).then_some(number)
+}
+
+/// Each fault worked by hand, and bytes that are damaged, with rows of every sort: judging gives the number and the place that asking gives.
+fn faults(report: &mut Report) {
+    let mut judger = Judger::new(report);
+    let mut questions: Vec<Vec<u8>> = Vec::new();
+    for fault in refusals::by_hand() {
+        if let Some(refusal) = fault.refusal {
+            for rows in some_rows(&mut judger.random) {
+                judger.known(&fault.bytes, &rows, Err(refusal));
+            }
+        }
+        questions.push(fault.bytes);
+    }
+    for _ in 0..judger.report.rounds(6_000) {
+        let question = some_question(&mut judger.random);
+        let bytes = judger.mixed(&question);
+        questions.push(damaged(&mut judger.random, &bytes));
+    }
+    for bytes in questions {
+        for rows in some_rows(&mut judger.random) {
+            judger.bytes(&bytes, &rows);
+            if let Some(number) = asked(&bytes) {
+                let what = hex(&bytes);
+                let given = library::judge(&bytes, &rows);
+                judger.report.same(&what, given, number);
+            }
+        }
+    }
+    judger.seen_refusals(&(1..=10).collect::<Vec<usize>>(), 4);
+}
+
+/// All zero; a bit in the last row; one byte less, and none.
+fn some_rows(random: &mut Random) -> [Vec<u8>; 4] {
+    let mut last = vec![0; ANSWER_BYTES];
+    last[ANSWER_BYTES - 1 - random.below(ROW_BYTES)] = 1 << random.below(8);
+    [
+        vec![0; ANSWER_BYTES],
+        last,
+        random.bytes(ANSWER_BYTES - 1),
+        Vec::new(),
+    ]
+}
+
+/// Rows of another length than 1,536, whatever they hold: 18 comes before 19.
+fn lengths(report: &mut Report) {
+    let mut judger = Judger::new(report);
+    let near = (0..4).chain(ANSWER_BYTES - 8..ANSWER_BYTES + 9);
+    let far = [127, 128, 1024, 1408, 1664, 2048, 3072, 4096, 65_536, 67_072];
+    let lengths: Vec<usize> = near.chain(far).filter(|n| *n != ANSWER_BYTES).collect();
+    for worked in worked::all() {
+        let bytes = worked::bytes(worked.bytes);
+        for length in &lengths {
+            let random = judger.random.bytes(*length);
+            for rows in [random, vec![0; *length], vec![0xFF; *length]] {
+                judger.known(&bytes, &rows, refused(WRONG_LENGTH));
+            }
+        }
+    }
+}
+
+/// One bit set in a row, for every number of free and own variables: 19 if the row is of no free variable.
+fn foreign_bits(report: &mut Report) {
+    let mut judger = Judger::new(report);
+    for free in 0..=MOST_VARIABLES {
+        for own in 0..=MOST_VARIABLES - free {
+            let bytes = [0x01, 0x01, free as u8, own as u8, 0x00];
+            for row in 0..MOST_VARIABLES {
+                let leaves = [0, 1023, judger.random.below(1024)];
+                for leaf in leaves {
+                    one_bit(&mut judger, &bytes, free, 8 * ROW_BYTES * row + leaf);
+                }
+            }
+        }
+        // Each byte, with one of its bits.
+        let bytes = [0x01, 0x00, free as u8, 0x00, 0x00];
+        for byte in 0..ANSWER_BYTES {
+            let bit = 8 * byte + judger.random.below(8);
+            one_bit(&mut judger, &bytes, free, bit);
+        }
+    }
+    for _ in 0..judger.report.rounds(2_000) {
+        let question = some_question(&mut judger.random);
+        let bytes = judger.mixed(&question);
+        let rows = some(&mut judger.random, &question);
+        let rows = faulty(&mut judger.random, &question, &rows);
+        let number = match rows.len() == ANSWER_BYTES {
+            true => FOREIGN_BIT,
+            false => WRONG_LENGTH,
+        };
+        judger.known(&bytes, &rows, refused(number));
+    }
+    judger.seen_refusals(&[18, 19], 500);
+}
+
+/// A question without a clause, and rows with one bit set.
+fn one_bit(judger: &mut Judger, bytes: &[u8], free: usize, bit: usize) {
+    let mut rows = vec![0; ANSWER_BYTES];
+    rows[bit / 8] = 1 << (bit % 8);
+    let due = match (bit / 8 < free * ROW_BYTES, bytes[1]) {
+        (false, _) => refused(FOREIGN_BIT),
+        (true, 0) => Ok(Accepted),
+        (true, _) => Ok(Extends),
+    };
+    judger.known(bytes, &rows, due);
+}
