@@ -6,7 +6,8 @@ use lib.ListN.{getD}
 use Rattle.shares.specs.Below.{everyBelow, someBelow}
 use Rattle.shares.specs.Blocks.{blockOf}
 use Rattle.shares.specs.Constant.{constantLevels}
-use Rattle.leaves.specs.RowNumbers as numbers
+use Rattle.leaves.specs.Choices as rows
+use Rattle.leaves.specs.RowNumbers.{value}
 use Rattle.format.specs.Stored.{Stored}
 use Rattle.rows.specs.Rows.{rowLevels}
 use Rattle.steps.specs.Tests.{leafValues, secondMeets, secondDiffers}
@@ -14,7 +15,7 @@ use Rattle.unfolded.specs.Unfolded.{rowWords, leafOf}
 
 -- the choice of n free variables at leaf i of the rows of a table, as a number: variable 0 has the highest digit
 unfoldable pub choiceAt : List ℕ → ℕ → ℕ → ℕ
-choiceAt table n i = numbers.value (numbers.table n (λ v. leafOf (rowWords constantLevels) table v i))
+choiceAt table n i = value (rows.table n (λ v. leafOf (rowWords constantLevels) table v i))
 
 module _ (S : Stored) (table : List ℕ) where
   -- the values of the constants at leaf i of the rows

@@ -20,7 +20,8 @@ use Rattle.shares.specs.BelowLaws.{first-below}
 use Rattle.shares.specs.Constant.{bit, constantLevels}
 use Rattle.shares.specs.BitLaws.{bit-zero, bit-and, bit-or}
 use Rattle.shares.specs.BitParts.{bit-not}
-use Rattle.leaves.specs.RowNumbers as numbers
+use Rattle.leaves.specs.Choices as rows
+use Rattle.leaves.specs.RowNumbers.{value}
 use Rattle.leaves.specs.ChoiceLaws.{value-lt}
 use Rattle.words.specs.LowestLaws.{lowest-lt}
 use Rattle.words.specs.Shifts.{power-shift}
@@ -32,16 +33,16 @@ use Rattle.extending.specs.Looks.{inSet, Added, BitOf, SameAs, over, Ali
 -- ---- the choice at a leaf
 
 -- one leaf more, the lowest digit
-value-more : (n : ℕ) (f : ℕ → Bool) → numbers.value (numbers.table (suc n) f) ≡ 2 * numbers.value (numbers.table n f) + one (f n)
-unfolding numbers.value numbers.table
+value-more : (n : ℕ) (f : ℕ → Bool) → value (rows.table (suc n) f) ≡ 2 * value (rows.table n f) + one (f n)
+unfolding value rows.table
 value-more zero f = omega arith
 value-more (suc n) f =
     let ih = value-more n (λ i. f (suc i)) in
     go (f zero) ih
   where
-    go : (b : Bool) → numbers.value (numbers.table (suc n) (λ i. f (suc i))) ≡ 2 * numbers.value (numbers.table n (λ i. f (suc i))) + one (f (suc n))
-        → one b * 2 ^ suc n + numbers.value (numbers.table (suc n) (λ i. f (suc i)))
-        ≡ 2 * (one b * 2 ^ n + numbers.value (numbers.table n (λ i. f (suc i)))) + one (f (suc n))
+    go : (b : Bool) → value (rows.table (suc n) (λ i. f (suc i))) ≡ 2 * value (rows.table n (λ i. f (suc i))) + one (f (suc n))
+        → one b * 2 ^ suc n + value (rows.table (suc n) (λ i. f (suc i)))
+        ≡ 2 * (one b * 2 ^ n + value (rows.table n (λ i. f (suc i)))) + one (f (suc n))
     go true ih = omega (arith, pow-suc 2 n)
     go false ih = omega arith
 
@@ -52,10 +53,10 @@ module _ (table : List ℕ) where
 
   pub choice-lt : (n i : ℕ) → choiceAt table n i < 2 ^ n
   unfolding choiceAt
-  choice-lt n i = value-lt n (numbers.table n (λ v. leafOf (rowWords constantLevels) table v i))
+  choice-lt n i = value-lt n (rows.table n (λ v. leafOf (rowWords constantLevels) table v i))
 
   pub choice-none : (i : ℕ) → choiceAt table 0 i ≡ 0
-  unfolding choiceAt numbers.value numbers.table
+  unfolding choiceAt value rows.table
   choice-none i = refl
 
   -- leaf k of word w

@@ -9,11 +9,10 @@ use Rattle.shares.specs.Below.{everyBelow, someBelow}
 use Rattle.shares.specs.BelowLaws.{every-ext, some-ext}
 use Rattle.shares.specs.Blocks.{blockOf}
 use Rattle.shares.specs.Constant.{constantLevels}
-use Rattle.leaves.specs.Choices.{Row, at, least}
-use Rattle.leaves.specs.RowNumbers as numbers
+use Rattle.leaves.specs.Choices as choice
+use Rattle.leaves.specs.RowNumbers.{value}
 use Rattle.leaves.specs.ChoiceLaws.{at-table, row-path}
 use Rattle.leaves.specs.Problem.{plainAt, specialAt, solvable}
-use Rattle.leaves.specs.LeafExtensions.{beside}
 use Rattle.leaves.specs.Second as leaf
 use Rattle.systems.specs.Questions.{Question, secondCount}
 use Rattle.systems.specs.AtLeaves.{secondAt}
@@ -34,10 +33,10 @@ module _ {kind : ℕ} (x : Stored) (q : Question) (St : Stands kind x q) (rows c
   height = rowLevels constantLevels
 
   -- the free choice at a leaf, as a number
-  choice-number : (i : ℕ) → i < 2 ^ height → choiceAt table (q .free) i ≡ numbers.value (numbers.table (q .free) (rowAt constantLevels rows i))
+  choice-number : (i : ℕ) → i < 2 ^ height → choiceAt table (q .free) i ≡ value (choice.table (q .free) (rowAt constantLevels rows i))
   unfolding choiceAt
   choice-number i l =
-      ap numbers.value (row-path false (q .free) _ _ (λ v m.
+      ap value (row-path false (q .free) _ _ (λ v m.
       at-table false (q .free) (λ v. leafOf (rowWords constantLevels) table v i) v m ∙ U .variable v i (omega (arith, St .free, St .variables)) l
       ∙ sym (at-table false (q .free) (rowAt constantLevels rows i) v m)))
 
@@ -49,33 +48,33 @@ module _ {kind : ℕ} (x : Stored) (q : Question) (St : Stands kind x q) (rows c
   same-stored = ap₂ (withVariables x) (St .free) (St .own)
 
   meets-same : (i : ℕ) → i < 2 ^ height
-      → meetsOver S table i ≡ leaf.meets (least (q .own)) (secondAt constantLevels q) (blockOf constantLevels height i) (numbers.table (q .free) (rowAt constantLevels rows i))
+      → meetsOver S table i ≡ leaf.meets (choice.least (q .own)) (secondAt constantLevels q) (blockOf constantLevels height i) (choice.table (q .free) (rowAt constantLevels rows i))
   meets-same i l =
       ap (secondMeets S (leafValues S constantLevels (blockOf constantLevels height i))) (choice-number i l)
-      ∙ sym (second-meets x q St constantLevels (blockOf constantLevels height i) (numbers.table (q .free) (rowAt constantLevels rows i)))
+      ∙ sym (second-meets x q St constantLevels (blockOf constantLevels height i) (choice.table (q .free) (rowAt constantLevels rows i)))
 
   differs-same : (j : ℕ) → j < getD (x .counts) 3 0 → (i : ℕ) → i < 2 ^ height
       → differsOver S table j i
-      ≡ leaf.meetsWith (least (q .own)) (secondAt constantLevels q) j (blockOf constantLevels height i) (numbers.table (q .free) (rowAt constantLevels rows i))
+      ≡ leaf.meetsWith (choice.least (q .own)) (secondAt constantLevels q) j (blockOf constantLevels height i) (choice.table (q .free) (rowAt constantLevels rows i))
   differs-same j m i l =
       ap (secondDiffers S (leafValues S constantLevels (blockOf constantLevels height i)) j) (choice-number i l)
-      ∙ sym (second-with x q St constantLevels (blockOf constantLevels height i) (numbers.table (q .free) (rowAt constantLevels rows i)) j m)
+      ∙ sym (second-with x q St constantLevels (blockOf constantLevels height i) (choice.table (q .free) (rowAt constantLevels rows i)) j m)
 
   at-levels : extendsIn S table
-      ≡ (everyBelow (2 ^ height) (λ i. leaf.meets (least (q .own)) (secondAt constantLevels q) (blockOf constantLevels height i) (numbers.table (q .free) (rowAt constantLevels rows i)))
+      ≡ (everyBelow (2 ^ height) (λ i. leaf.meets (choice.least (q .own)) (secondAt constantLevels q) (blockOf constantLevels height i) (choice.table (q .free) (rowAt constantLevels rows i)))
       && everyBelow (secondCount q) (λ j. someBelow (2 ^ height) (λ i.
-      leaf.meetsWith (least (q .own)) (secondAt constantLevels q) j (blockOf constantLevels height i) (numbers.table (q .free) (rowAt constantLevels rows i)))))
+      leaf.meetsWith (choice.least (q .own)) (secondAt constantLevels q) j (blockOf constantLevels height i) (choice.table (q .free) (rowAt constantLevels rows i)))))
   at-levels =
       ap₂ _&&_ (every-ext (2 ^ height) _ _ meets-same)
       (every-ext (getD (x .counts) 3 0) _ _ (λ j m. some-ext (2 ^ height) _ _ (differs-same j m))
       ∙ ap (λ n. everyBelow n (λ j. someBelow (2 ^ height) (λ i.
-      leaf.meetsWith (least (q .own)) (secondAt constantLevels q) j (blockOf constantLevels height i) (numbers.table (q .free) (rowAt constantLevels rows i)))))
+      leaf.meetsWith (choice.least (q .own)) (secondAt constantLevels q) j (blockOf constantLevels height i) (choice.table (q .free) (rowAt constantLevels rows i)))))
       (sym (section-count x q St SecondDisequation)))
 
   -- where constants have so many levels
   abbrev extendsWith : ℕ → Bool
   extendsWith levels =
-      solvable (least (q .own)) (rowLevels levels) (beside levels (secondAt levels q) (rowLevels levels) (λ i. numbers.table (q .free) (rowAt levels rows i)))
+      solvable (choice.least (q .own)) (rowLevels levels) (leaf.beside levels (secondAt levels q) (rowLevels levels) (λ i. choice.table (q .free) (rowAt levels rows i)))
 
   pub extends-same : extendsIn x table ≡ extendsAt q rows
   unfolding solvable plainAt specialAt leaf.meets leaf.meetsWith

@@ -6,10 +6,9 @@ use lib.Dec.{eqb, ltb}
 use lib.ListN.{length, getD, drop}
 use Rattle.shares.specs.Below.{everyBelow, firstBelow}
 use Rattle.shares.specs.Blocks.{blockOf}
-use Rattle.leaves.specs.Choices.{Row, least}
-use Rattle.leaves.specs.RowNumbers.{table}
+use Rattle.leaves.specs.Choices.{Row, table, least}
 use Rattle.leaves.specs.Problem.{solvable}
-use Rattle.leaves.specs.LeafExtensions.{beside}
+use Rattle.leaves.specs.Second.{beside}
 use Rattle.systems.specs.Clauses.{Constants, variable, Atom, equal, Clause, positive, negated, System}
 use Rattle.systems.specs.Questions.{Kind, satisfiability, entailment, Question}
 use Rattle.systems.specs.AtLeaves.{atomAt, secondAt}

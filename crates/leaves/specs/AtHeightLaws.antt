@@ -7,8 +7,7 @@ use Rattle.shares.specs.Test.{and-intro}
 use Rattle.shares.specs.Below.{everyBelow}
 use Rattle.shares.specs.BelowLaws.{every-intro, some-intro}
 use Rattle.shares.specs.Blocks.{blockOf}
-use Rattle.leaves.specs.Choices.{Picker, at, rowPicker}
-use Rattle.leaves.specs.RowNumbers.{table}
+use Rattle.leaves.specs.Choices.{Picker, at, table, rowPicker}
 use Rattle.leaves.specs.ChoiceLaws.{choice-intro, at-table}
 use Rattle.leaves.specs.Problem.{Problem}
 use Rattle.leaves.specs.LeafSolutions.{SolvesLeaves}

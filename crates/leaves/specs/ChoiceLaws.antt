@@ -9,8 +9,8 @@ use lib.Dec.{T, T-not, leb, leb→le, le→leb, nleb→lt}
 use Rattle.shares.specs.Test.{same-test, and-intro, and-left, and-right}
 use Rattle.shares.specs.Below.{someBelow, firstBelow, one}
 use Rattle.shares.specs.BelowLaws.{some-intro, some-found, some-ext, first-passes, first-min, first-ext}
-use Rattle.leaves.specs.Choices.{Picker, someChoice, Row, nil, cons, at, leafPicker, pickRow, least}
-use Rattle.leaves.specs.RowNumbers.{table, value, digits}
+use Rattle.leaves.specs.Choices.{Picker, someChoice, Row, nil, cons, at, table, leafPicker, pickRow, least}
+use Rattle.leaves.specs.RowNumbers.{value, digits}
 
 pub choice-intro : {X : Type 0} (C : Picker X) (p : X → Bool) (x : X) → T (p x) → T (someChoice C p)
 unfolding someChoice

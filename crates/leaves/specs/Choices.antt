@@ -24,6 +24,11 @@ at d nil i = d
 at d (cons x v) zero = x
 at d (cons x v) (suc i) = at d v i
 
+-- the row of f 0, f 1, ..
+unfoldable pub table : {X : Type 0} (n : ℕ) → (ℕ → X) → Row X n
+table zero f = nil
+table (suc n) f = cons (f zero) (table n (λ i. f (suc i)))
+
 -- of the two leaves: empty before full
 abbrev pub pickLeaf : (Bool → Bool) → Bool
 pickLeaf p = not (p false)

@@ -4,8 +4,7 @@ use mathlib.Core.Bool.{Bool, true, false, not, cond, _&&_, _||_}
 use Prim.Native.Nat.{ℕ, zero, suc}
 use lib.Dec.{eqb}
 use Rattle.shares.specs.Below.{everyBelow, someBelow, firstBelow, countBelow}
-use Rattle.leaves.specs.Choices.{someChoice, Row, nil, cons, at, pickRow, least}
-use Rattle.leaves.specs.RowNumbers.{table}
+use Rattle.leaves.specs.Choices.{someChoice, Row, nil, cons, at, table, pickRow, least}
 use Rattle.leaves.specs.Problem.{Problem, plainAt, specialAt, solvable}
 use Rattle.leaves.specs.Second.{Second, meets, meetsWith}
 use Rattle.leaves.specs.Fixed.{leafOf, rankOf, heldAt, carriedAt, fixedAt, withUnmet, withMissed}

@@ -28,10 +28,6 @@ positivesOnly Q = record { pos = Q .pos; count = 0; dis = Q .dis }
 abbrev pub only : {X Y : Type 0} → ℕ → Second X Y → Second X Y
 only j Q = record { pos = Q .pos; count = 1; dis = λ _. Q .dis j }
 
--- what the second system asks at the leaves of s: a problem with these leaves for its own
-abbrev pub beside : {X Y : Type 0} → ℕ → Second X Y → ℕ → (ℕ → X) → Problem Y
-beside h Q w s = record { pos = λ i. Q .pos (blockOf h w i) (s i); count = Q .count; dis = λ j i. Q .dis j (blockOf h w i) (s i) }
-
 -- every solution of the first system extends to the second
 abbrev pub EntailsLeaves : {X Y : Type 0} → (ℕ → Type 0) → ℕ → Problem X → Second X Y → Type 0
 EntailsLeaves A h P Q = (S : LeafSolution A h P) → LeafExtension anyHeight h Q (S .height) (S .leaves)

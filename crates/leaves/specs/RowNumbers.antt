@@ -1,14 +1,9 @@
--- Rows of values by number: the row of f 0, f 1, .., and rows of leaves as numbers, the first leaf the highest digit. Assumes nothing.
+-- Rows of leaves as numbers, the first leaf the highest digit. Assumes nothing.
 use mathlib.Core.Bool.{Bool}
 use Prim.Native.Nat.{ℕ, zero, suc, _+_, _-_, _*_, _^_}
 use lib.Dec.{leb}
 use Rattle.shares.specs.Below.{one}
 use Rattle.leaves.specs.Choices.{Row, nil, cons}
-
--- the row of f 0, f 1, ..
-unfoldable pub table : {X : Type 0} (n : ℕ) → (ℕ → X) → Row X n
-table zero f = nil
-table (suc n) f = cons (f zero) (table n (λ i. f (suc i)))
 
 -- the number of a row of leaves
 unfoldable pub value : {n : ℕ} → Row Bool n → ℕ

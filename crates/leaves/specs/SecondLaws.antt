@@ -18,10 +18,10 @@ use Rattle.leaves.specs.ChoiceLaws.{choice-intro, choice-found, both-int
 use Rattle.leaves.specs.Problem.{Problem, plainAt, specialAt, solvable}
 use Rattle.leaves.specs.LeafSolutions.{SolvesLeaves, LeafSolution, Leafwise}
 use Rattle.leaves.specs.ProblemLaws.{cut, solvable-intro, cut-solvable, fixed-solves, solution-glued}
-use Rattle.leaves.specs.Second.{Second, meets, meetsWith}
+use Rattle.leaves.specs.Second.{Second, meets, meetsWith, beside}
 use Rattle.leaves.specs.Fixed.{withUnmet, withMissed}
 use Rattle.leaves.specs.Entailment.{canBeUnmet, canBeMissed, firstMissed}
-use Rattle.leaves.specs.LeafExtensions.{ExtendsLeaves, LeafExtension, positivesOnly, only, beside, EntailsLeaves, LeafCounterexample}
+use Rattle.leaves.specs.LeafExtensions.{ExtendsLeaves, LeafExtension, positivesOnly, only, EntailsLeaves, LeafCounterexample}
 
 -- ---- an example, computed: two leaves and one variable, full at leaf 0 and empty at leaf 1; the second system: it is not empty
 

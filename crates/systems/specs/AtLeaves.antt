@@ -1,9 +1,10 @@
 -- A question at the leaves: how an atom reads there as a join, and the problems that the two systems pose. Assumes nothing.
 use mathlib.Core.Bool.{Bool, true, false, not, cond, _&&_}
 use mathlib.Core.List.{List, [], _∷_}
-use Prim.Native.Nat.{ℕ, _-_, _*_, _^_}
+use Prim.Native.Nat.{ℕ, _-_}
 use lib.Dec.{ltb}
 use lib.ListN.{length, getD}
+use Rattle.shares.specs.Blocks.{firstOf}
 use Rattle.shares.specs.Constant.{bit}
 use Rattle.shares.specs.Tree.{joins}
 use Rattle.leaves.specs.Choices.{Row, at}
@@ -37,7 +38,7 @@ readAs (together a b) = apart (of a) (of b)
 -- a term at leaf b of 2 ^ h, where variable v is x v; a constant has there the first of its own leaves below it
 unfoldable pub termAt : ℕ → Constants → ℕ → (ℕ → Bool) → Term → Bool
 termAt h cs b x (variable v) = x v
-termAt h cs b x (constant i) = bit (getD (cs .numbers) i 0) (b * 2 ^ (cs .levels - h))
+termAt h cs b x (constant i) = bit (getD (cs .numbers) i 0) (firstOf h (cs .levels) b)
 
 -- a part there
 unfoldable pub partAt : ℕ → Constants → ℕ → (ℕ → Bool) → Part → Bool

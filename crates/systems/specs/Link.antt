@@ -16,8 +16,7 @@ use Rattle.shares.specs.BlockLaws.{block-lt}
 use Rattle.shares.specs.Tree.{leaf, pair, twins, fold, Share, height, half, full, leafAt, treeOf, joinLeaf, treeIf, joinAt, join}
 use Rattle.shares.specs.TreeLaws.{share-path, treeOf-height, treeOf-ext, treeOf-leafAt, leafAt-treeOf, blocks}
 use Rattle.leaves.specs.Heights.{anyHeight, atMost, exactly}
-use Rattle.leaves.specs.Choices.{Row, at}
-use Rattle.leaves.specs.RowNumbers.{table}
+use Rattle.leaves.specs.Choices.{Row, at, table}
 use Rattle.leaves.specs.ChoiceLaws.{at-table, row-path}
 use Rattle.leaves.specs.LeafSolutions.{SolvesLeaves}
 use Rattle.leaves.specs.Second.{Second}
