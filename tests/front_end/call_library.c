@@ -6,8 +6,6 @@
 
 #include "zimorgal.h"
 
-uint64_t zimorgal_judge(const uint8_t *question, size_t question_length, const uint8_t *rows, size_t rows_length);
-
 static uint8_t text[1 << 20], rows[1 << 20];
 
 /* Reads so many bytes, and says whether they were there and had room. */
