@@ -69,8 +69,8 @@ add-count c =
     let turn = told .before .before in
     let start = turn .before .before .before in
     let F =
-        gone-fits _ _ (turn .before .loop .inv) (sym (turn .read-at .ensures) ∙ told .r .given .1) (sym (ended .before .is-end .ensures) ∙ ended .if1 .left)
-        (sym (first .before .is-first .ensures) ∙ first .if2 .taken) (start .pre .0) (start .pre .1) in
+    gone-fits _ _ (turn .before .loop .inv) (sym (turn .read-at .ensures) ∙ told .r .given .1) (sym (ended .before .is-end .ensures) ∙ ended .if1 .left)
+    (sym (first .before .is-first .ensures) ∙ first .if2 .taken) (start .pre .0) (start .pre .1) in
     omega (arith, F .1, first-few _ (start .pre .0) (start .pre .1))
 
 loop-less : tie.Need-loop-less Inv-loop μ-loop
