@@ -1,4 +1,4 @@
--- Laws of tables of words, for every number of levels from 1 on: how a table is filled, and the test of a join a word at a time. Assumes nothing.
+-- Laws of tables of words, for every number of levels from 1 on: how a table is filled, the bytes of a word, and the test of a join a word at a time. Assumes nothing.
 use mathlib.Core.Path.{_≡_, sym, ap, ap₂, _∙_}
 use mathlib.Core.Bool.{Bool, true, false}
 use mathlib.Core.List.{List}
@@ -73,12 +73,12 @@ bytes-leaf rows byte n at i l =
 
 -- ---- the bytes of a word
 
--- nothing is set in two numbers together if it is in neither
+-- where no bit is set in two numbers together, none is in either
 or-none : (a b : ℕ) → bitOr a b ≡ 0 → (a ≡ 0) × (b ≡ 0)
 or-none a b e = (omega (arith, or-add-and a b, and-le-r a b), omega (arith, or-add-and a b, and-le-l a b))
 
 module _ (rows : List ℕ) (w x : ℕ) (bits : WordOf (rowLeaf rows) w x) where
-  -- those of a word that is 0 are 0
+  -- the bytes of a word that is 0 are 0
   word-zero : ((j : ℕ) → getD rows j 0 < 2 ^ 8) → x ≡ 0 → ZeroBytes rows (8 * w) (8 * (w + 1))
   unfolding rowLeaf
   word-zero byte e i l m =
@@ -93,7 +93,7 @@ module _ (rows : List ℕ) (w x : ℕ) (bits : WordOf (rowLeaf rows) w x) where
       bits-zero 64 x fits
       (λ b n. bits b n ∙ ap (λ y. bit y ((64 * w + b) % 8)) (none ((64 * w + b) / 8) (omega arith) (omega arith)) ∙ bit-zero ((64 * w + b) % 8))
 
-  -- where a number is 0 exactly if the bytes before the word are, it is so with the word
+  -- a number that is 0 exactly if the bytes before the word are 0 is so with the word too
   pub zero-more : ((j : ℕ) → getD rows j 0 < 2 ^ 8) → x < 2 ^ 64 → (start all : ℕ) → start ≤ 8 * w
       → all ≡ 0 ↔ ZeroBytes rows start (8 * w) → bitOr all x ≡ 0 ↔ ZeroBytes rows start (8 * (w + 1))
   zero-more byte fits start all h E = (

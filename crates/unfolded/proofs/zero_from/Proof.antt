@@ -1,7 +1,7 @@
 -- `unfolded::zero_from` meets its contract. The loop's invariant: no bit of the words passed is set exactly if their bytes are 0. Assumes nothing.
 use mathlib.Core.Path.{_≡_, refl}
 use mathlib.Core.Logic.{_↔_}
-use Prim.Native.Nat.{ℕ, _*_, _-_, _≤_, _<_}
+use Prim.Native.Nat.{_*_, _-_, _≤_}
 use native.Mathlib.Omega.{arith}
 use borrow.Author.Tests.{eq-eqb, eqb-true}
 use Rattle.shares.specs.Test.{is-true, of-true}
