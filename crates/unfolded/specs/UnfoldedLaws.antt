@@ -1,4 +1,4 @@
--- Laws of tables of words, for every number of levels from 1 on: how a table is filled, the bytes of a word, and the test of a join a word at a time. Assumes nothing.
+-- Laws of tables of words, for every number of levels from 1 on: filling a table, the bytes of a word, and the test of a join a word at a time. Assumes nothing.
 use mathlib.Core.Path.{_≡_, sym, ap, ap₂, _∙_}
 use mathlib.Core.Bool.{Bool, true, false}
 use mathlib.Core.List.{List}
