@@ -30,7 +30,7 @@ fn word_at(rows: &[u8], w: usize) -> u64
     high * 0x1_0000_0000 + low
 }
 
-// Whether the rows are zero from word `start` on: all words are looked at, which is quicker than stopping at the first that is not.
+// Whether the rows are zero from word `start` on. It stops at none: where all are zero, that is quicker than a test of each word.
 pub fn zero_from(rows: &[u8], start: usize) -> bool
     requires { ⌜ length (now rows) ≡ answerBytes constantLevels ⌝ }
     ensures { λ r. ⌜ T r ↔ ZeroBytes (now (rows .entry)) (8 * start) (length (now (rows .entry))) ⌝ }
