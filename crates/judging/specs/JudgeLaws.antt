@@ -3,12 +3,12 @@ use mathlib.Core.Path.{_≡_, refl, sym, ap, _∙_, subst}
 use mathlib.Core.Bool.{Bool, true, false, cond}
 use mathlib.Core.List.{List}
 use mathlib.Core.Logic.{_↔_}
-use Prim.Native.Nat.{ℕ, _+_, _-_, _≤_, _<_}
+use Prim.Native.Nat.{ℕ, _+_, _-_, _*_, _≤_, _<_}
 use native.Mathlib.Omega.{arith}
 use borrow.Author.Tests.{lt-ltb, le-ltb}
 use lib.Dec.{T}
-use lib.ListN.{length, getD, take, drop, length-drop}
-use lib.Seq.{take-all}
+use lib.ListN.{length, getD, drop, length-drop}
+use lib.Seq.{getD-drop}
 use Rattle.shares.specs.Constant.{constantLevels}
 use Rattle.shares.specs.Test.{same-test, is-true, of-true}
 use Rattle.systems.specs.Questions.{satisfiability, entailment, Question}
@@ -24,7 +24,7 @@ use Rattle.beside.specs.Beside.{Readable}
 use Rattle.steps.specs.Steps.{storedBy}
 use Rattle.decide.specs.Decision.{sizesOf}
 use Rattle.decide.specs.ReadableLaws.{readable}
-use Rattle.unfolded.specs.Unfolded.{Unfolded}
+use Rattle.unfolded.specs.Unfolded.{Unfolded, ZeroBytes}
 use Rattle.extending.specs.Extending.{extendsIn}
 use Rattle.asking.specs.Demand3.{rowShares}
 use Rattle.judging.specs.Judging.{turnedAway, judged, isZero, judgedWith, lowestBroken, extendsAt, judgementOf}
@@ -76,15 +76,14 @@ module _ (x : stored.Question) (clauses rows : List ℕ) (q : Question) (St : St
 
 -- ---- every question and all rows
 
--- whether the rows of no free variable are zero, by a part of them
-pub others-are : (part rows : List ℕ) (start total : ℕ) (r : Bool) → length rows ≡ total → part ≡ take (total - start) (drop start rows)
-    → T r ↔ ((i : ℕ) → i < length part → getD part i 0 ≡ 0) → r ≡ isZero (drop start rows)
-others-are part rows start total r len is E =
-    same-test r (isZero (drop start rows)) (λ t. of-true (zero-part (drop start rows) (λ i l. subst (λ p. (i : ℕ) → i < length p → getD p i 0 ≡ 0) whole (E .0 t) i l)))
-    (λ t. E .1 (subst (λ p. (i : ℕ) → i < length p → getD p i 0 ≡ 0) (sym whole) (zero-bytes (drop start rows) (is-true _ t))))
-  where
-    whole : part ≡ drop start rows
-    whole = is ∙ take-all (total - start) (drop start rows) (omega (arith, length-drop start rows))
+-- whether the rows of no free variable are zero, by their bytes from a word on
+pub others-are : (rows : List ℕ) (word start : ℕ) (r : Bool) → 8 * word ≡ start → T r ↔ ZeroBytes rows (8 * word) (length rows) → r ≡ isZero (drop start rows)
+others-are rows word start r e E =
+    same-test r (isZero (drop start rows))
+    (λ t. of-true (zero-part (drop start rows) (λ i l. getD-drop start rows i 0 ∙ E .0 t (start + i) (omega arith) (omega (arith, length-drop start rows)))))
+    (λ t. E .1 (λ i l m. let at : i ≡ start + (i - start) = omega arith in
+    ap (λ k. getD rows k 0) at ∙ sym (getD-drop start rows (i - start) 0)
+    ∙ zero-bytes (drop start rows) (is-true _ t) (i - start) (omega (arith, length-drop start rows))))
 
 module _ (s rows : List ℕ) where
   -- the result, what it means, and that what asking shows is accepted

@@ -8,8 +8,7 @@ use format::Question;
 use format::Section;
 use format::Step;
 use rows::ANSWER_BYTES;
-use rows::ROW_BYTES;
-use rows::blocks;
+use unfolded::ROW_WORDS;
 use unfolded::TABLE_WORDS;
 ghost use mathlib.Core.Path.{_≡_};
 ghost use lib.ListN.{length};
@@ -159,8 +158,7 @@ pub fn judge(question: &[u8], rows: &[u8]) -> Judgement
             place: 0,
         };
     }
-    let start = reading.question.free * ROW_BYTES;
-    if !blocks::is_filled(&rows[start..ANSWER_BYTES], 0) {
+    if !unfolded::zero_from(rows, reading.question.free * ROW_WORDS) {
         return Judgement::Refused {
             number: 19,
             place: 0,

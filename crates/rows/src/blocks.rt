@@ -43,7 +43,7 @@ fn is_block(byte: u8, height: usize, a: usize, full: bool) -> bool
 }
 
 // Whether every byte is the one given.
-pub fn is_filled(part: &[u8], byte: u8) -> bool
+fn is_filled(part: &[u8], byte: u8) -> bool
     ensures { λ r. ⌜ T r ↔ ((i : ℕ) → i < length (now (part .entry)) → getD (now (part .entry)) i 0 ≡ byte) ⌝ }
 {
     let mut i: usize = 0;

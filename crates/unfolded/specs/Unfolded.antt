@@ -2,7 +2,7 @@
 use mathlib.Core.Path.{_≡_}
 use mathlib.Core.Bool.{Bool, true, false}
 use mathlib.Core.List.{List}
-use Prim.Native.Nat.{ℕ, _+_, _-_, _*_, _/_, _%_, _^_, _<_}
+use Prim.Native.Nat.{ℕ, _+_, _-_, _*_, _/_, _%_, _^_, _≤_, _<_}
 use lib.ListN.{getD}
 use Rattle.shares.specs.Below.{everyBelow}
 use Rattle.shares.specs.Blocks.{blockOf}
@@ -38,3 +38,7 @@ joinEverywhere levels table j = everyBelow (2 ^ rowLevels levels) (joinAt (rowWo
 -- the parts of a join have a place in a table of 64 parts
 abbrev pub PartsIn : LeafJoin → Type 0
 PartsIn j = (j .first < 64) × (j .second < 64) × (j .sum < 64)
+
+-- the bytes of the rows from byte `start` up to byte `end` are 0
+abbrev pub ZeroBytes : List ℕ → ℕ → ℕ → Type 0
+ZeroBytes rows start end = (i : ℕ) → start ≤ i → i < end → getD rows i 0 ≡ 0

@@ -1,12 +1,14 @@
--- Laws of tables of words, for every number of levels from 1 on: how a table is filled, and the test of a join a word at a time. Assumes nothing.
+-- Laws of tables of words, for every number of levels from 1 on: filling a table, the bytes of a word, and the test of a join a word at a time. Assumes nothing.
 use mathlib.Core.Path.{_≡_, sym, ap, ap₂, _∙_}
 use mathlib.Core.Bool.{Bool, true, false}
 use mathlib.Core.List.{List}
+use mathlib.Core.Logic.{_↔_}
 use Prim.Native.Nat.{ℕ, _+_, _-_, _*_, _/_, _%_, _^_, _≤_, _<_}
 use native.Mathlib.Nat.{mul-add, mul-assoc, mul-comm, mul-suc, mul-le-mul-left}
 use native.Mathlib.Decide.{decLt}
 use native.Mathlib.Omega.{arith}
 use lib.Arith.{digits-div, digits-mod, mod-mul}
+use lib.Bits.{bitOr, or-add-and, or-zero-l, and-le-l, and-le-r}
 use lib.Dec.{T, not-T, lit<}
 use lib.ListN.{length, getD, take, drop, length-take, List·getD-eq-default}
 use lib.Pow.{pow-add, pow-pos, shr-shr, ones-lt}
@@ -14,7 +16,7 @@ use lib.Seq.{getD-take, getD-drop}
 use Rattle.shares.specs.Below.{everyBelow}
 use Rattle.shares.specs.BelowLaws.{every-at, every-intro}
 use Rattle.shares.specs.Constant.{bit, bytesAt, number}
-use Rattle.shares.specs.BitLaws.{bit-zero, bits-same}
+use Rattle.shares.specs.BitLaws.{bit-zero, bits-same, bits-zero}
 use Rattle.shares.specs.BitParts.{bit-low, bit-high, bit-ones, bit-bytes}
 use Rattle.shares.specs.Parts.{emptyPart, fullPart}
 use Rattle.shares.specs.Test.{is-true, is-false, of-true}
@@ -22,7 +24,7 @@ use Rattle.format.specs.declared.LeafJoin.{LeafJoin}
 use Rattle.words.specs.Clause.{testValue}
 use Rattle.rows.specs.Rows.{rowLevels, rowCount, rowLeaf, rowPart, answerBytes}
 use Rattle.rows.specs.RowLaws.{eight, part-some}
-use Rattle.unfolded.specs.Unfolded.{rowWords, leafOf, Unfolded, joinAt}
+use Rattle.unfolded.specs.Unfolded.{rowWords, leafOf, Unfolded, joinAt, ZeroBytes}
 use Rattle.unfolded.specs.Filling.{WordOf, Filled, constantLeaf, constantLeaves}
 
 -- ---- a row of an answer
@@ -68,6 +70,48 @@ bytes-leaf rows byte n at i l =
     small j (no m) =
         let past : length (take n (drop at rows)) ≤ j = omega (arith, length-take n (drop at rows)) in
         rw (List·getD-eq-default (take n (drop at rows)) 0 past) (lit< tt)
+
+-- ---- the bytes of a word
+
+-- where no bit is set in two numbers together, none is in either
+or-none : (a b : ℕ) → bitOr a b ≡ 0 → (a ≡ 0) × (b ≡ 0)
+or-none a b e = (omega (arith, or-add-and a b, and-le-r a b), omega (arith, or-add-and a b, and-le-l a b))
+
+module _ (rows : List ℕ) (w x : ℕ) (bits : WordOf (rowLeaf rows) w x) where
+  -- the bytes of a word that is 0 are 0
+  word-zero : ((j : ℕ) → getD rows j 0 < 2 ^ 8) → x ≡ 0 → ZeroBytes rows (8 * w) (8 * (w + 1))
+  unfolding rowLeaf
+  word-zero byte e i l m =
+      bits-zero 8 (getD rows i 0) (byte i)
+      (λ b n. ap₂ (λ q r. bit (getD rows q 0) r) (omega arith) (omega arith) ∙ sym (bits (8 * (i - 8 * w) + b) (omega arith))
+      ∙ ap (λ y. bit y (8 * (i - 8 * w) + b)) e ∙ bit-zero (8 * (i - 8 * w) + b))
+
+  -- where they are 0, so is the word
+  zero-word : x < 2 ^ 64 → ZeroBytes rows (8 * w) (8 * (w + 1)) → x ≡ 0
+  unfolding rowLeaf
+  zero-word fits none =
+      bits-zero 64 x fits
+      (λ b n. bits b n ∙ ap (λ y. bit y ((64 * w + b) % 8)) (none ((64 * w + b) / 8) (omega arith) (omega arith)) ∙ bit-zero ((64 * w + b) % 8))
+
+  -- a number that is 0 exactly if the bytes before the word are 0 is so with the word too
+  pub zero-more : ((j : ℕ) → getD rows j 0 < 2 ^ 8) → x < 2 ^ 64 → (start all : ℕ) → start ≤ 8 * w
+      → all ≡ 0 ↔ ZeroBytes rows start (8 * w) → bitOr all x ≡ 0 ↔ ZeroBytes rows start (8 * (w + 1))
+  zero-more byte fits start all h E = (
+    λ e i l m. go (or-none all x e) i l m (decLt i (8 * w)),
+    λ none. ap₂ bitOr (E .1 (λ i l m. none i l (omega arith))) (zero-word fits (λ i l m. none i (omega arith) m)) ∙ or-zero-l 0,
+  )
+    where
+      go : (all ≡ 0) × (x ≡ 0) → (i : ℕ) → start ≤ i → i < 8 * (w + 1) → Dec (i < 8 * w) → getD rows i 0 ≡ 0
+      go z i l m (yes u) = E .0 (z .0) i l u
+      go z i l m (no u) = word-zero byte (z .1) i (omega arith) m
+
+-- rows that are 0 to their end are so past it
+pub zero-past : (rows : List ℕ) (start end : ℕ) → ZeroBytes rows start (length rows) → ZeroBytes rows start end
+zero-past rows start end none i l m = go (decLt i (length rows))
+  where
+    go : Dec (i < length rows) → getD rows i 0 ≡ 0
+    go (yes u) = none i l u
+    go (no u) = let past : length rows ≤ i = omega arith in List·getD-eq-default rows 0 past
 
 -- ---- words of a part
 

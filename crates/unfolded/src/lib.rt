@@ -4,12 +4,14 @@ use basics::FULL_PART;
 use format::LeafJoin;
 ghost use mathlib.Core.Path.{_≡_};
 ghost use mathlib.Core.Bool.{true};
+ghost use mathlib.Core.Logic.{_↔_};
 ghost use Prim.Native.Nat.{ℕ, _+_, _*_, _^_, _≤_, _<_};
+ghost use lib.Dec.{T};
 ghost use lib.ListN.{length, getD};
 ghost use Rattle.shares.specs.Constant.{constantLevels, bit};
 ghost use Rattle.shares.specs.Parts.{fullPart};
 ghost use Rattle.rows.specs.Rows.{rowCount, rowLeaf, answerBytes};
-ghost use Rattle.unfolded.specs.Unfolded.{rowWords, Unfolded, joinAt, PartsIn, joinEverywhere};
+ghost use Rattle.unfolded.specs.Unfolded.{rowWords, Unfolded, joinAt, PartsIn, joinEverywhere, ZeroBytes};
 ghost use Rattle.unfolded.specs.Filling.{WordOf, Filled, constantLeaf, constantLeaves};
 
 // A row has this many words.
@@ -26,6 +28,20 @@ fn word_at(rows: &[u8], w: usize) -> u64
     let low = basics::four_bytes(rows, 8 * w);
     let high = basics::four_bytes(rows, 8 * w + 4);
     high * 0x1_0000_0000 + low
+}
+
+// Whether the rows are zero from word `start` on. It stops at none: where all are zero, that is quicker than a test of each word.
+pub fn zero_from(rows: &[u8], start: usize) -> bool
+    requires { ⌜ length (now rows) ≡ answerBytes constantLevels ⌝ }
+    ensures { λ r. ⌜ T r ↔ ZeroBytes (now (rows .entry)) (8 * start) (length (now (rows .entry))) ⌝ }
+{
+    let mut all: u64 = 0;
+    let mut w = start;
+    while w < 192 {
+        all = all | word_at(rows, w);
+        w += 1;
+    }
+    all == 0
 }
 
 // Puts the rows into the table, each as it lies.

@@ -1,16 +1,17 @@
 -- `judging::judge` meets its contract: each refusal by what was read and the rows, a judgement by what was found. Assumes nothing.
-use mathlib.Core.Path.{_≡_, refl, sym, _∙_}
+use mathlib.Core.Path.{_≡_, sym, _∙_}
 use mathlib.Core.Bool.{Bool}
 use mathlib.Core.Logic.{_↔_}
-use Prim.Native.Nat.{ℕ, _-_, _*_, _<_}
+use Prim.Native.Nat.{_*_}
 use native.Mathlib.Omega.{arith}
 use borrow.Author.Needs.{needs}
 use borrow.Author.Tests.{ne-eqb}
 use lib.Dec.{T}
-use lib.ListN.{length, getD, take, drop}
+use lib.ListN.{length, drop}
 use Rattle.rows.specs.Rows.{rowBytes, answerBytes}
 use Rattle.format.specs.Callers.{Taken, answer-taken, answer-refused, levels-are}
 use Rattle.decide.specs.DecideLaws.{flip}
+use Rattle.unfolded.specs.Unfolded.{ZeroBytes}
 use Rattle.judging.specs.Judging.{isZero}
 use Rattle.judging.specs.CaseLaws.{judged-refused, judged-18, judged-19, judged-on}
 use Rattle.judging.specs.JudgeLaws.{others-are, judges-refused, judges-rows}
@@ -50,51 +51,41 @@ long c = rw (levels-are _ _ (taken c .stands)) (c .before .if2 .left)
 -- whether those of no free variable are zero
 zero-others : (c : tie.After-struct-known2) (r : Bool) → (
     let start = c .before .before .before .before .before .before .before .before .args in
-    let from = c .before .before .before .before .read .result .question .free * 128 in
-    let part = take (1536 - from) (drop from (start .rows .now)) in
-    T r ↔ ((i : ℕ) → i < length part → getD part i 0 ≡ 0) → r ≡ isZero (drop (taken c .question .free * rowBytes (taken c .question .constants .levels)) (start .rows .now)))
+    T r ↔ ZeroBytes (start .rows .now) (8 * (c .before .before .before .before .read .result .question .free * 16)) (length (start .rows .now))
+    → r ≡ isZero (drop (taken c .question .free * rowBytes (taken c .question .constants .levels)) (start .rows .now)))
 zero-others c r E =
     let rows = c .before .before .before .before .before .before .before .before .args .rows .now in
-    let from = c .before .before .before .before .read .result .question .free * 128 in
-    rw (levels-are _ _ (taken c .stands), ← (taken c .stands .free)) (others-are (take (1536 - from) (drop from rows)) rows from 1536 r (c .before .if2 .left) refl E)
+    let free = c .before .before .before .before .read .result .question .free in
+    rw (levels-are _ _ (taken c .stands), ← (taken c .stands .free)) (others-are rows (free * 16) (free * 128) r (omega arith) E)
 
-mul-start : tie.Need-mul-start
-mul-start c = omega (arith, taken c .stands .variables)
+mul-zero-from : tie.Need-mul-zero-from
+mul-zero-from c = omega (arith, taken c .stands .variables)
 
-sub-is-filled : tie.Need-sub-is-filled
-sub-is-filled c = omega (arith, taken c .stands .variables)
-
-part-is-filled-start : tie.Need-part-is-filled-start
-part-is-filled-start c = omega (arith, taken c .stands .variables)
-
-part-is-filled-end : tie.Need-part-is-filled-end
-part-is-filled-end c = search needs
-
-is-filled-requires : tie.Need-is-filled-requires
-is-filled-requires c κs = search needs
+zero-from-requires : tie.Need-zero-from-requires
+zero-from-requires c κs = search needs
 
 returns-3 : tie.Need-returns-3
 returns-3 c =
-    let known = c .before .before .before in
+    let known = c .before .before in
     let start = known .before .before .before .before .before .before .before .before .args in
     let T = taken known in
     judges-refused _ _ 19 0 (judged-19 _ (start .rows .now) (T .question) (T .read) (long known)
-    (sym (zero-others known (c .before .is-filled .result) (c .before .is-filled .ensures)) ∙ flip _ (c .if3 .taken)))
+    (sym (zero-others known (c .before .zero-from .result) (c .before .zero-from .ensures)) ∙ flip _ (c .if3 .taken)))
 
 judge-rows-requires : tie.Need-judge-rows-requires
 judge-rows-requires c κs =
-    let known = c .before .before .before .before in
+    let known = c .before .before .before in
     let T = taken known in
     (known .before .if2 .left, (T .question, T .read, T .stands))
 
 returns-4 : tie.Need-returns-4
 returns-4 c =
-    let known = c .before .before .before .before .before in
+    let known = c .before .before .before .before in
     let start = known .before .before .before .before .before .before .before .before .args in
     let T = taken known in
     judges-rows _ (start .rows .now) (T .question)
     (judged-on _ _ (T .question) (T .read) (long known)
-    (sym (zero-others known (c .before .before .before .is-filled .result) (c .before .before .before .is-filled .ensures)) ∙ flip _ (c .before .before .if3 .left)))
+    (sym (zero-others known (c .before .before .before .zero-from .result) (c .before .before .before .zero-from .ensures)) ∙ flip _ (c .before .before .if3 .left)))
     _ (c .judge-rows .ensures (T .question) (T .read) (T .stands))
 
 pub judge-spec : {M : Type 1} → statement M
@@ -104,11 +95,8 @@ judge-spec =
     read-requires
     returns
     returns-2
-    mul-start
-    sub-is-filled
-    part-is-filled-start
-    part-is-filled-end
-    is-filled-requires
+    mul-zero-from
+    zero-from-requires
     returns-3
     judge-rows-requires
     returns-4)
