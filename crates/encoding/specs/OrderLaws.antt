@@ -2,7 +2,7 @@
 use mathlib.Core.Path.{_≡_, refl, sym, ap, _∙_}
 use mathlib.Core.Bool.{Bool, true, false, cond}
 use mathlib.Core.List.{List, [], _∷_, _++_, append-nil, append-assoc}
-use Prim.Native.Nat.{ℕ, zero, suc, _+_, _≤_, _<_}
+use Prim.Native.Nat.{ℕ, zero, suc}
 use native.Mathlib.Omega.{arith}
 use lib.Dec.{eqb}
 use lib.ListN.{length}
@@ -16,24 +16,7 @@ use Rattle.format.specs.declared.Head.the-variants.{Opens, Wrong}
 use Rattle.format.specs.declared.Step.{Step}
 use Rattle.format.specs.declared.Step.the-variants.{Take, Refused}
 use Rattle.format.specs.Format.{refused, accepted, readAt, atomOf, fault, judged, withClause, taken, ended, onward, turn, following, run, opened, headOf, afterHead, read}
-use Rattle.format.specs.FormatLaws.{Whole, read-whole}
 use Rattle.encoding.specs.Order.{readOn, commandsFrom, commandsOf, firstSaid, secondSaid, firstClause, secondClause, firstClauses, secondClauses}
-
--- ---- the bound on the commands does not matter, where it is more than the bytes left
-
-pub commands-enough : (s : List ℕ) (f g at : ℕ) → at ≤ length s → length s < at + f → length s < at + g → commandsFrom f s at ≡ commandsFrom g s at
-unfolding commandsFrom
-commands-enough s zero g at w a b = absurd (omega arith)
-commands-enough s (suc f) zero at w a b = absurd (omega arith)
-commands-enough s (suc f) (suc g) at w a b = pick (readAt s at) (read-whole s at) (commands-enough s f g)
-  where
-    pick : (r : Step) → Whole s at r → ((at′ : ℕ) → at′ ≤ length s → length s < at′ + f → length s < at′ + g → commandsFrom f s at′ ≡ commandsFrom g s at′)
-        → readOn (commandsFrom f s) r ≡ readOn (commandsFrom g s) r
-    pick (Refused n) h again = refl
-    pick (Take Command.End next) h again = refl
-    pick (Take Command.Head next) h again = ap (λ l. Command.Head ∷ l) (again next (h .1) (omega arith) (omega arith))
-    pick (Take (Command.Constant x) next) h again = ap (λ l. Command.Constant x ∷ l) (again next (h .1) (omega arith) (omega arith))
-    pick (Take (Command.Clause σ t x y z) next) h again = ap (λ l. Command.Clause σ t x y z ∷ l) (again next (h .1) (omega arith) (omega arith))
 
 -- ---- what a command adds to each system
 
@@ -53,7 +36,7 @@ adds q (Command.Clause σ t a b c) = said q σ (atomOf t a b c)
 -- ---- what reading adds to a question: the clauses of the commands, in order
 
 -- q′ has the clauses of q and then those of some commands
-pub record Grown (q q′ : Question) (l : List Command) : Type 0 where
+record Grown (q q′ : Question) (l : List Command) : Type 0 where
   pub first : q′ .first ≡ q .first ++ firstClauses l
   pub second : q′ .second ≡ q .second ++ secondClauses l
 
@@ -78,7 +61,7 @@ ended-same s next q q′ e = pick (eqb next (length s)) e
     pick true f = cc
     pick false f = let z : _≡_ {A = ℕ} 0 1 = cc in absurd (omega arith)
 
-pub run-grown : (s : List ℕ) (k at : ℕ) (q q′ : Question) → run k s at q ≡ accepted q′ → Grown q q′ (commandsFrom k s at)
+run-grown : (s : List ℕ) (k at : ℕ) (q q′ : Question) → run k s at q ≡ accepted q′ → Grown q q′ (commandsFrom k s at)
 unfolding run commandsFrom turn
 run-grown s zero at q q′ e = let z : _≡_ {A = ℕ} 0 1 = cc in absurd (omega arith)
 run-grown s (suc k) at q q′ e = step (readAt s at) (run-grown s k) e

@@ -1,8 +1,8 @@
 -- What a table and a stored question say of extending is what the rows and the question say. Assumes nothing.
-use mathlib.Core.Path.{_≡_, refl, sym, ap, ap₂, _∙_, fun-ext}
+use mathlib.Core.Path.{_≡_, sym, ap, ap₂, _∙_}
 use mathlib.Core.Bool.{Bool, false, _&&_}
 use mathlib.Core.List.{List}
-use Prim.Native.Nat.{ℕ, _^_, _≤_, _<_}
+use Prim.Native.Nat.{ℕ, _^_, _<_}
 use native.Mathlib.Omega.{arith}
 use lib.ListN.{getD}
 use Rattle.shares.specs.Below.{everyBelow, someBelow}
@@ -22,10 +22,10 @@ use Rattle.format.specs.KeepingLaws.{section-count}
 use Rattle.format.specs.Callers.{levels-are}
 use Rattle.steps.specs.Tests.{leafValues, secondMeets, secondDiffers}
 use Rattle.decide.specs.StandsLaws.{withVariables, second-meets, second-with}
-use Rattle.rows.specs.Rows.{rowLevels, rowCount}
+use Rattle.rows.specs.Rows.{rowLevels}
 use Rattle.unfolded.specs.Unfolded.{rowWords, leafOf, Unfolded}
 use Rattle.extending.specs.Extending.{choiceAt, meetsOver, differsOver, extendsIn}
-use Rattle.judging.specs.Judging.{rowAt, choices, extendsAt}
+use Rattle.judging.specs.Judging.{rowAt, extendsAt}
 
 module _ {kind : ℕ} (x : Stored) (q : Question) (St : Stands kind x q) (rows constants table : List ℕ) (count : ℕ)
     (U : Unfolded constantLevels rows constants count table) where

@@ -1,17 +1,16 @@
 -- What the code finds of the rows is the judgement. Assumes nothing.
-use mathlib.Core.Path.{_≡_, refl, sym, ap, _∙_, subst}
-use mathlib.Core.Bool.{Bool, true, false, cond}
+use mathlib.Core.Path.{_≡_, sym, ap, ap₂, _∙_, subst}
+use mathlib.Core.Bool.{Bool, true, false}
 use mathlib.Core.List.{List}
 use mathlib.Core.Logic.{_↔_}
 use Prim.Native.Nat.{ℕ, _+_, _-_, _*_, _≤_, _<_}
 use native.Mathlib.Omega.{arith}
-use borrow.Author.Tests.{lt-ltb, le-ltb}
 use lib.Dec.{T}
 use lib.ListN.{length, getD, drop, length-drop}
 use lib.Seq.{getD-drop}
 use Rattle.shares.specs.Constant.{constantLevels}
 use Rattle.shares.specs.Test.{same-test, is-true, of-true}
-use Rattle.systems.specs.Questions.{satisfiability, entailment, Question}
+use Rattle.systems.specs.Questions.{entailment, Question, WellFormed}
 use Rattle.format.specs.declared.Section.the-variants.{FirstPositive, FirstDisequation}
 use Rattle.format.specs.declared.Question as stored
 use Rattle.format.specs.FormatLaws.{accepted-formed}
@@ -27,12 +26,12 @@ use Rattle.decide.specs.ReadableLaws.{readable}
 use Rattle.unfolded.specs.Unfolded.{Unfolded, ZeroBytes}
 use Rattle.extending.specs.Extending.{extendsIn}
 use Rattle.asking.specs.Demand3.{rowShares}
-use Rattle.judging.specs.Judging.{turnedAway, judged, isZero, judgedWith, lowestBroken, extendsAt, judgementOf}
+use Rattle.judging.specs.Judging.{turnedAway, judged, isZero, judgedWith, lowestBroken, extendsAt, unbroken, judgementOf}
 use Rattle.judging.specs.Exactly.{Exactly, AskingShows}
 use Rattle.judging.specs.Walk.{Laid}
 use Rattle.judging.specs.ExtendLaws.{extends-same}
 use Rattle.judging.specs.CaseLaws.{zero-part, zero-bytes, judged-read}
-use Rattle.judging.specs.ModelLaws.{judged-exactly}
+use Rattle.judging.specs.ModelLaws.{given-broken, given-unbroken, judged-exactly}
 use Rattle.judging.specs.ShownAccepted.{shown-accepted}
 use Rattle.judging.specs.declared.Judgement.{Judgement}
 use Rattle.judging.specs.declared.Judgement.the-variants.{Refused, Accepted, Broken, Extending}
@@ -45,7 +44,7 @@ module _ (x : stored.Question) (clauses rows : List ℕ) (q : Question) (St : St
   laid table U = record { constants-are = St .constants; unfolded = U }
 
   -- how many clauses the first system has
-  pub count-first : length (q .first) ≡ getD (x .counts) 0 0 + getD (x .counts) 1 0
+  count-first : length (q .first) ≡ getD (x .counts) 0 0 + getD (x .counts) 1 0
   count-first =
       omega (arith, both-counts (q .first), section-count (storedOf x clauses) q St FirstPositive, section-count (storedOf x clauses) q St FirstDisequation)
 
@@ -59,20 +58,27 @@ module _ (x : stored.Question) (clauses rows : List ℕ) (q : Question) (St : St
     extends-found table U b e =
         e ∙ ap (λ z. extendsIn (storedBy z clauses (x .constants)) table) sized ∙ extends-same (storedOf x clauses) q St rows (x .constants) table (x .defined) U
 
-  module _ (k : ℕ) (found : k ≡ lowestBroken q rows) where
-    pub given-broken : k < getD (x .counts) 0 0 + getD (x .counts) 1 0 → Broken k ≡ judgementOf (judged q) rows
-    given-broken l = rw (← found, lt-ltb k (length (q .first)) (omega (arith, count-first))) refl
+  module _ (F : WellFormed q) (k : ℕ) (found : k ≡ lowestBroken q rows) where
+    pub rows-broken : k < getD (x .counts) 0 0 + getD (x .counts) 1 0 → Broken k ≡ judgementOf (judged q) rows
+    rows-broken l = ap Broken found ∙ sym (given-broken q F rows (omega (arith, found, count-first)))
 
     module _ (m : getD (x .counts) 0 0 + getD (x .counts) 1 0 ≤ k) where
-      pub given-satisfied : x .kind ≡ 0 → Accepted ≡ judgementOf (judged q) rows
-      given-satisfied z = rw (← found, le-ltb k (length (q .first)) (omega (arith, count-first)), kind-satisfiability (storedOf x clauses) q St z) refl
+      -- no clause is broken
+      unbroken-here : judgementOf (judged q) rows ≡ unbroken (q .kind) (extendsAt q rows)
+      unbroken-here = given-unbroken q F rows (omega (arith, found, count-first))
+
+      pub rows-satisfied : x .kind ≡ 0 → Accepted ≡ judgementOf (judged q) rows
+      rows-satisfied z = sym (unbroken-here ∙ ap (λ k. unbroken k (extendsAt q rows)) (kind-satisfiability (storedOf x clauses) q St z))
 
       module _ (n : x .kind ≡ 0 → ⊥) (b : Bool) (extends : b ≡ extendsAt q rows) where
-        pub given-extending : b ≡ true → Extending ≡ judgementOf (judged q) rows
-        given-extending e = rw (← found, le-ltb k (length (q .first)) (omega (arith, count-first)), kind-entailment (storedOf x clauses) q St n, ← extends, e) refl
+        entailed : judgementOf (judged q) rows ≡ unbroken entailment b
+        entailed = unbroken-here ∙ ap₂ unbroken (kind-entailment (storedOf x clauses) q St n) (sym extends)
 
-        pub given-accepted : b ≡ false → Accepted ≡ judgementOf (judged q) rows
-        given-accepted e = rw (← found, le-ltb k (length (q .first)) (omega (arith, count-first)), kind-entailment (storedOf x clauses) q St n, ← extends, e) refl
+        pub rows-extending : b ≡ true → Extending ≡ judgementOf (judged q) rows
+        rows-extending e = sym (entailed ∙ ap (unbroken entailment) e)
+
+        pub rows-accepted : b ≡ false → Accepted ≡ judgementOf (judged q) rows
+        rows-accepted e = sym (entailed ∙ ap (unbroken entailment) e)
 
 -- ---- every question and all rows
 
@@ -92,7 +98,7 @@ module _ (s rows : List ℕ) where
       × (((q : Question) → judgedWith s rows ≡ judged q → Exactly q (rowShares (q .constants .levels) rows) (λ j. r ≡ j)) × (AskingShows s rows → r ≡ Accepted))
 
   -- the rest follows from the result
-  pub judges : (r : Judgement) → r ≡ judgementOf (judgedWith s rows) rows → Judges r
+  judges : (r : Judgement) → r ≡ judgementOf (judgedWith s rows) rows → Judges r
   judges r e = (
     e,
     (

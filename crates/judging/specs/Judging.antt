@@ -52,6 +52,10 @@ unfoldable pub everywhere : Constants → List ℕ → Atom → Bool
 everywhere cs rows a =
     everyBelow (2 ^ rowLevels (cs .levels)) (λ i. atomAt (cs .levels) cs (blockOf (cs .levels) (rowLevels (cs .levels)) i) (rowAt (cs .levels) rows i) a)
 
+-- a clause that stands for none
+abbrev pub noClause : Clause
+noClause = positive (equal (variable 0) (variable 0))
+
 -- a positive clause holds at every leaf; a disequation if its atom does not, which is at one leaf
 abbrev pub clauseMet : Constants → List ℕ → Clause → Bool
 clauseMet cs rows (positive a) = everywhere cs rows a
@@ -59,7 +63,7 @@ clauseMet cs rows (negated a) = not (everywhere cs rows a)
 
 -- clause number k of a system, from 0, positive clauses and disequations together (past the last: a clause that nothing rests on)
 abbrev pub clauseOf : System → ℕ → Clause
-clauseOf s k = getD s k (positive (equal (variable 0) (variable 0)))
+clauseOf s k = getD s k noClause
 
 -- the lowest clause of the first system that the rows break; their count if there is none
 abbrev pub lowestBroken : Question → List ℕ → ℕ

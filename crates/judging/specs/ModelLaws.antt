@@ -1,37 +1,34 @@
 -- Judging by leaves is right of the trees of the rows, for every number of levels. Assumes nothing.
 use mathlib.Core.Path.{_≡_, refl, sym, ap, _∙_}
-use mathlib.Core.Bool.{Bool, true, false, not, cond}
+use mathlib.Core.Bool.{Bool, true, false, not}
 use mathlib.Core.List.{List, [], _∷_}
-use mathlib.Core.Logic.{_↔_, _⊎_, inl, inr}
-use Prim.Native.Nat.{ℕ, zero, suc, _+_, _^_, _≤_, _<_}
+use mathlib.Core.Logic.{_↔_}
+use Prim.Native.Nat.{ℕ, zero, suc, _≤_, _<_}
 use native.Mathlib.Nat.{le-refl, not-suc-le-zero, le-of-suc-le-suc}
 use native.Mathlib.Decide.{decLt}
 use native.Mathlib.Omega.{arith}
 use borrow.Author.Tests.{lt-ltb, le-ltb}
-use lib.Dec.{T, T-not, not-T, ltb}
+use lib.Dec.{T, T-not, not-T}
 use lib.ListN.{length, getD}
-use Rattle.shares.specs.Test.{is-true, is-false, of-true, of-false, holds, passes}
-use Rattle.shares.specs.Below.{everyBelow, firstBelow}
-use Rattle.shares.specs.BelowLaws.{every-intro, every-at, first-le, first-below, first-least, first-is}
-use Rattle.shares.specs.Blocks.{blockOf}
-use Rattle.shares.specs.Tree.{leafAt}
+use Rattle.shares.specs.Test.{is-true, is-false, holds}
+use Rattle.shares.specs.BelowLaws.{every-intro, every-at, first-below, first-least, first-is}
 use Rattle.shares.specs.TreeLaws.{treeOf-height, leafAt-treeOf}
 use Rattle.leaves.specs.Heights.{anyHeight}
-use Rattle.leaves.specs.Choices.{Row, at, least}
+use Rattle.leaves.specs.Choices.{at, least}
 use Rattle.leaves.specs.ChoiceLaws.{at-table}
 use Rattle.leaves.specs.SecondLaws.{extension-solvable}
-use Rattle.systems.specs.Clauses.{Term, variable, Constants, Assignment, Atom, equal, Clause, positive, negated, System, Holds, ClauseHolds, SystemHolds}
+use Rattle.systems.specs.Clauses.{Term, Constants, Assignment, Atom, Clause, positive, negated, System, Holds, ClauseHolds, SystemHolds}
 use Rattle.systems.specs.Questions.{Kind, satisfiability, entailment, Question, Defined, InAtom, InSystem, WellFormed}
-use Rattle.systems.specs.Bounds.{Within, Bounds}
+use Rattle.systems.specs.Bounds.{Within}
 use Rattle.systems.specs.Solutions.{SolvesFirst, Extends}
-use Rattle.systems.specs.AtLeaves.{atomAt, secondAt}
+use Rattle.systems.specs.AtLeaves.{secondAt}
 use Rattle.systems.specs.SystemLaws.{in-system}
 use Rattle.systems.specs.AtomLaws.{Good, Reads, atom-iff}
 use Rattle.systems.specs.Heights.{levels-bounds}
 use Rattle.systems.specs.Link.{read-any, extension-iff}
 use Rattle.rows.specs.Rows.{rowLevels, rowLeaf, rowPart}
 use Rattle.asking.specs.Demand3.{rowShares}
-use Rattle.judging.specs.Judging.{Judged, judged, rowAt, everywhere, clauseMet, clauseOf, lowestBroken, choices, extendsAt, unbroken, judgementOf}
+use Rattle.judging.specs.Judging.{judged, rowAt, everywhere, clauseMet, noClause, clauseOf, lowestBroken, choices, extendsAt, unbroken, judgementOf}
 use Rattle.judging.specs.Exactly.{BrokenAt, ExtendsToo, Exactly}
 use Rattle.judging.specs.declared.Judgement.{Judgement}
 use Rattle.judging.specs.declared.Judgement.the-variants.{Refused, Accepted, Broken, Extending}
@@ -99,7 +96,7 @@ module _ (q : Question) (F : WellFormed q) (rows : List ℕ) where
   -- clause number k
   number-met : (k : ℕ) → k < length (q .first)
       → T (clauseMet (q .constants) rows (clauseOf (q .first) k)) ↔ ClauseHolds (q .constants) shares (clauseOf (q .first) k)
-  number-met k l = clause-met (clauseOf (q .first) k) (in-clause (Good (q .free) levels (q .constants)) (q .first) (positive (equal (variable 0) (variable 0))) good k l)
+  number-met k l = clause-met (clauseOf (q .first) k) (in-clause (Good (q .free) levels (q .constants)) (q .first) noClause good k l)
     where
       good : InSystem (Good (q .free) levels (q .constants)) (q .first)
       good =
@@ -114,7 +111,7 @@ module _ (q : Question) (F : WellFormed q) (rows : List ℕ) where
   below-holds k l m =
       number-met k l .0 (holds (clauseMet (q .constants) rows (clauseOf (q .first) k)) (λ t. T-not (breaks k) (first-least (length (q .first)) breaks k m) t))
 
-  pub broken-found : lowestBroken q rows < length (q .first) → BrokenAt q shares (lowestBroken q rows)
+  broken-found : lowestBroken q rows < length (q .first) → BrokenAt q shares (lowestBroken q rows)
   broken-found l = record {
     there = l;
     broken = λ h. T-not (clauseMet (q .constants) rows (clauseOf (q .first) (lowestBroken q rows))) (first-below (length (q .first)) breaks l) (number-met _ l .1 h);
@@ -130,13 +127,13 @@ module _ (q : Question) (F : WellFormed q) (rows : List ℕ) where
   -- none is
   solves-found : length (q .first) ≤ lowestBroken q rows → SolvesFirst q shares
   solves-found g =
-      system-all (q .constants) shares (q .first) (positive (equal (variable 0) (variable 0))) (λ k l. below-holds k l (omega arith))
+      system-all (q .constants) shares (q .first) noClause (λ k l. below-holds k l (omega arith))
 
   solves-only : SolvesFirst q shares → length (q .first) ≤ lowestBroken q rows
   solves-only h = go (decLt (lowestBroken q rows) (length (q .first)))
     where
       go : Dec (lowestBroken q rows < length (q .first)) → length (q .first) ≤ lowestBroken q rows
-      go (yes l) = absurd (broken-found l .broken (system-each (q .constants) shares (q .first) (positive (equal (variable 0) (variable 0))) h _ l))
+      go (yes l) = absurd (broken-found l .broken (system-each (q .constants) shares (q .first) noClause h _ l))
       go (no n) = omega arith
 
   -- ---- the second system
@@ -162,10 +159,10 @@ module _ (q : Question) (F : WellFormed q) (rows : List ℕ) where
   abbrev Gives : Judgement → Type 0
   Gives j = judgementOf (judged q) rows ≡ j
 
-  given-broken : lowestBroken q rows < length (q .first) → judgementOf (judged q) rows ≡ Broken (lowestBroken q rows)
+  pub given-broken : lowestBroken q rows < length (q .first) → judgementOf (judged q) rows ≡ Broken (lowestBroken q rows)
   given-broken l = rw (lt-ltb (lowestBroken q rows) (length (q .first)) l)
 
-  given-unbroken : length (q .first) ≤ lowestBroken q rows → judgementOf (judged q) rows ≡ unbroken (q .kind) (extendsAt q rows)
+  pub given-unbroken : length (q .first) ≤ lowestBroken q rows → judgementOf (judged q) rows ≡ unbroken (q .kind) (extendsAt q rows)
   given-unbroken g = rw (le-ltb (lowestBroken q rows) (length (q .first)) g)
 
   -- where none is broken: accepted or extending

@@ -1,18 +1,16 @@
 -- The joins of a table are the readings of atoms at the leaves of the rows. Assumes nothing.
-use mathlib.Core.Path.{_≡_, refl, sym, ap, _∙_, subst}
-use mathlib.Core.Bool.{Bool, true, false}
+use mathlib.Core.Path.{_≡_, refl, _∙_}
+use mathlib.Core.Bool.{true, false}
 use mathlib.Core.List.{List}
-use Prim.Native.Nat.{ℕ, _+_, _-_, _*_, _^_, _≤_, _<_}
+use Prim.Native.Nat.{ℕ, _-_, _^_, _≤_, _<_}
 use native.Mathlib.Nat.{mul-one}
 use native.Mathlib.Omega.{arith}
-use lib.ListN.{length, getD, take, length-take}
+use lib.ListN.{length, take, length-take}
 use lib.Seq.{getD-take}
 use Rattle.shares.specs.BelowLaws.{every-ext}
 use Rattle.shares.specs.Blocks.{blockOf}
-use Rattle.shares.specs.Constant.{constantLevels, bit}
-use Rattle.shares.specs.Tree.{joins}
 use Rattle.systems.specs.Clauses.{variable, constant, Constants, Atom}
-use Rattle.systems.specs.Questions.{Question, Defined, InAtom}
+use Rattle.systems.specs.Questions.{Defined, InAtom}
 use Rattle.systems.specs.AtLeaves.{Part, of, always, LeafReading, joinsTo, apart, readAs, termAt, partAt, readingAt}
 use Rattle.systems.specs.AtomLaws.{InPart, InReading, in-reading}
 use Rattle.format.specs.Stored.{partByte, fourOf}

@@ -1,34 +1,29 @@
 -- Going over the commands of an accepted question meets the clauses of its first system one by one. Assumes nothing.
-use mathlib.Core.Path.{_≡_, refl, sym, ap, ap₂, _∙_, subst}
-use mathlib.Core.Bool.{Bool, true, false, not, Bool·not-not}
+use mathlib.Core.Path.{_≡_, refl, sym, ap, _∙_, subst}
+use mathlib.Core.Bool.{true, false, not, Bool·not-not}
 use mathlib.Core.List.{List, [], _∷_, _++_, append-nil, append-assoc}
 use mathlib.Core.Logic.{_⊎_, inl, inr}
 use Prim.Native.Nat.{ℕ, zero, suc, _+_, _≤_, _<_}
 use native.Mathlib.Nat.{eq-or-lt-of-le, le-of-suc-le-suc, not-suc-le-zero}
 use native.Mathlib.Omega.{arith}
-use lib.Dec.{T, not-T}
-use lib.ListN.{length, getD, take, length-append}
+use lib.ListN.{length, length-append}
 use lib.Seq.{getD-at}
-use Rattle.shares.specs.Test.{is-false}
 use Rattle.shares.specs.Constant.{constantLevels}
 use Rattle.shares.specs.BelowLaws.{first-is, first-none}
-use Rattle.systems.specs.Clauses.{variable, Atom, equal, Clause, positive, negated, System, Constants}
+use Rattle.systems.specs.Clauses.{Atom, Clause, positive, negated, Constants}
 use Rattle.systems.specs.Questions.{Question, Defined, InAtom, WellFormed}
 use Rattle.format.specs.declared.Section.{Section}
 use Rattle.format.specs.declared.Section.the-variants.{FirstPositive, FirstDisequation, SecondPositive, SecondDisequation}
 use Rattle.format.specs.declared.Command.{Command}
-use Rattle.format.specs.declared.Step.{Step}
 use Rattle.format.specs.declared.Step.the-variants.{Take, Refused}
 use Rattle.format.specs.Format.{mostPositive, mostDisequations, accepted, read, readAt, atomOf}
 use Rattle.format.specs.SectionLaws.{both-counts}
 use Rattle.format.specs.FormatLaws.{size-some, Whole, read-whole, Limited, accepted-formed, accepted-limited}
-use Rattle.format.specs.Stored.{joinFor}
 use Rattle.format.specs.Keeping.{isEnd}
 use Rattle.encoding.specs.Order.{readOn, commandsFrom, firstSaid, firstClause, firstClauses}
 use Rattle.encoding.specs.OrderLaws.{in-order}
 use Rattle.rows.specs.Rows.{rowCount}
-use Rattle.unfolded.specs.Unfolded.{joinEverywhere, PartsIn}
-use Rattle.judging.specs.Judging.{everywhere, clauseMet, clauseOf, lowestBroken}
+use Rattle.judging.specs.Judging.{everywhere, clauseMet, noClause, clauseOf, lowestBroken}
 use Rattle.judging.specs.Walk.{breaksIn, CommandFits, commandBreaks, saysFirst, Laid, Lowest, Walk}
 use Rattle.judging.specs.ModelLaws.{InClause, in-clause}
 use Rattle.judging.specs.TableLaws.{join-everywhere, parts-in}
@@ -95,7 +90,7 @@ said-nothing (Command.Clause SecondDisequation t a b c) e = refl
 
 module _ (s : List ℕ) (q : Question) where
   -- after the head
-  pub walk-start : read s ≡ accepted q → Walk s q 4 0
+  walk-start : read s ≡ accepted q → Walk s q 4 0
   walk-start e = record { bound = length s; enough = omega arith; met = []; count = refl; rest = in-order s q e .0 }
 
   module _ {at n : ℕ} (w : Walk s q at n) where
@@ -104,11 +99,11 @@ module _ (s : List ℕ) (q : Question) where
     unfolding firstClauses
     all-met e = ap length (w .rest ∙ ap (λ l. w .met ++ firstClauses l) e ∙ append-nil (w .met)) ∙ w .count
 
-    pub walk-none : (m : ℕ) → readAt s at ≡ Refused m → length (q .first) ≡ n
+    walk-none : (m : ℕ) → readAt s at ≡ Refused m → length (q .first) ≡ n
     walk-none m e = all-met (commands-none s at m e (w .bound))
 
     module _ (c : Command) (next : ℕ) (e : readAt s at ≡ Take c next) where
-      pub walk-end : isEnd c ≡ true → length (q .first) ≡ n
+      walk-end : isEnd c ≡ true → length (q .first) ≡ n
       walk-end d = all-met (commands-end s at c next e d (w .bound))
 
       module _ (d : isEnd c ≡ false) where
@@ -123,14 +118,14 @@ module _ (s : List ℕ) (q : Question) where
             go (suc k) l r = (k, omega (arith, moves s at e .0), r ∙ ap (λ l. w .met ++ firstClauses l) (commands-more s at c next e d k))
 
         -- no clause of the first system
-        pub walk-other : saysFirst c ≡ false → Walk s q next n
+        walk-other : saysFirst c ≡ false → Walk s q next n
         walk-other f =
             let (k, l, r) = onward in
             record { bound = k; enough = l; met = w .met; count = w .count; rest = r ∙ ap (λ x. w .met ++ (x ++ firstClauses (commandsFrom k s next))) (said-nothing c f) }
 
         -- one: it is the one with that number
         module _ (f : saysFirst c ≡ true) where
-          pub walk-first : Walk s q next (n + 1)
+          walk-first : Walk s q next (n + 1)
           walk-first =
               let (k, l, r) = onward in
               let (x, g) = said-first c f in
@@ -142,7 +137,7 @@ module _ (s : List ℕ) (q : Question) where
                 rest = r ∙ ap (λ y. w .met ++ (y ++ firstClauses (commandsFrom k s next))) g ∙ sym (append-assoc (w .met) (x ∷ []) (firstClauses (commandsFrom k s next)));
               }
 
-          pub walk-clause : (n < length (q .first)) × (firstClause c ≡ clauseOf (q .first) n ∷ [])
+          walk-clause : (n < length (q .first)) × (firstClause c ≡ clauseOf (q .first) n ∷ [])
           walk-clause =
               let (k, l, r) = onward in
               let (x, g) = said-first c f in
@@ -195,12 +190,12 @@ module _ (s : List ℕ) (q : Question) (e : read s ≡ accepted q) where
     defined : InCommand (q .free) (q .constants) c
     defined =
         in-command (q .free) (q .constants) (clauseOf (q .first) n)
-        (in-clause (Defined (q .free) (q .constants)) (q .first) (positive (equal (variable 0) (variable 0))) (F .first) n l) c f
+        (in-clause (Defined (q .free) (q .constants)) (q .first) noClause (F .first) n l) c f
 
-    pub clause-fits : CommandFits c
+    clause-fits : CommandFits c
     clause-fits = command-fits (q .free) (q .constants) (omega (arith, L .variables)) (L .constants) c defined
 
-    pub clause-breaks : (rows constants : List ℕ) (count : ℕ) (table : List ℕ) → Laid q rows constants count table
+    clause-breaks : (rows constants : List ℕ) (count : ℕ) (table : List ℕ) → Laid q rows constants count table
         → commandBreaks constantLevels table c ≡ not (clauseMet (q .constants) rows (clauseOf (q .first) n))
     clause-breaks rows constants count table laid = go c f defined
       where
@@ -221,17 +216,17 @@ module _ (s : List ℕ) (q : Question) (e : read s ≡ accepted q) where
 -- ---- the lowest clause that is broken
 
 -- the first n clauses hold
-abbrev pub HeldBelow : Question → List ℕ → ℕ → Type 0
+abbrev HeldBelow : Question → List ℕ → ℕ → Type 0
 HeldBelow q rows n = (k : ℕ) → k < n → not (clauseMet (q .constants) rows (clauseOf (q .first) k)) ≡ false
 
-pub lowest-there : (q : Question) (rows : List ℕ) (n : ℕ) → HeldBelow q rows n → n < length (q .first)
+lowest-there : (q : Question) (rows : List ℕ) (n : ℕ) → HeldBelow q rows n → n < length (q .first)
     → not (clauseMet (q .constants) rows (clauseOf (q .first) n)) ≡ true → lowestBroken q rows ≡ n
 lowest-there q rows n held l broken = first-is (length (q .first)) _ n l held broken
 
-pub lowest-none : (q : Question) (rows : List ℕ) (n : ℕ) → HeldBelow q rows n → length (q .first) ≡ n → lowestBroken q rows ≡ n
+lowest-none : (q : Question) (rows : List ℕ) (n : ℕ) → HeldBelow q rows n → length (q .first) ≡ n → lowestBroken q rows ≡ n
 lowest-none q rows n held e = first-none (length (q .first)) _ (λ k l. held k (omega arith)) ∙ e
 
-pub held-more : (q : Question) (rows : List ℕ) (n : ℕ) → HeldBelow q rows n → not (clauseMet (q .constants) rows (clauseOf (q .first) n)) ≡ false → HeldBelow q rows (n + 1)
+held-more : (q : Question) (rows : List ℕ) (n : ℕ) → HeldBelow q rows n → not (clauseMet (q .constants) rows (clauseOf (q .first) n)) ≡ false → HeldBelow q rows (n + 1)
 held-more q rows n held e k l = go (eq-or-lt-of-le (le-of-suc-le-suc (omega arith)))
   where
     go : (k ≡ n) ⊎ (k < n) → not (clauseMet (q .constants) rows (clauseOf (q .first) k)) ≡ false

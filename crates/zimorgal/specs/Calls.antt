@@ -39,7 +39,7 @@ versionNumber major minor patch = 2 ^ 16 * major + 2 ^ 8 * minor + patch
 
 -- a judgement: 0 refused, with the number of the refusal in byte 1 and its place in bytes 2 and 3, low first; 1 accepted; 2 a clause is broken, with its number in byte 4; 3 the rows extend
 abbrev pub judgementNumber : Judgement → ℕ
-judgementNumber (judgement.Refused n place) = 0 + 2 ^ 8 * n + 2 ^ 16 * place
+judgementNumber (judgement.Refused n place) = 2 ^ 8 * n + 2 ^ 16 * place
 judgementNumber judgement.Accepted = 1
 judgementNumber (judgement.Broken k) = 2 + 2 ^ 32 * k
 judgementNumber judgement.Extending = 3

@@ -1,17 +1,15 @@
--- Laws of the number of a judgement: it fits its bytes, and stands for no other. Assumes nothing.
+-- Laws of the number of a judgement: it fits its bytes; a refusal is read back from it, and of no other judgement are there two with one number. Assumes nothing.
 use mathlib.Core.Path.{_≡_, refl, sym, ap, _∙_, subst}
 use mathlib.Core.Bool.{Bool, true, false, cond}
 use mathlib.Core.List.{List}
-use mathlib.Core.Logic.{_↔_}
-use Prim.Native.Nat.{ℕ, _+_, _*_, _^_, _≤_, _<_}
+use Prim.Native.Nat.{ℕ, _/_, _%_, _^_, _<_}
 use native.Mathlib.Omega.{arith}
 use borrow.Author.Tests.{ltb-true}
 use lib.Dec.{ltb}
 use lib.ListN.{length}
 use Rattle.systems.specs.Clauses.{Assignment}
 use Rattle.systems.specs.Questions.{Kind, satisfiability, entailment, Question}
-use Rattle.format.specs.Format.{Result, refused, accepted, read}
-use Rattle.format.specs.FormatLaws.{refusal-number, refusal-place}
+use Rattle.format.specs.Format.{accepted, read}
 use Rattle.asking.specs.Demand3.{rowShares}
 use Rattle.judging.specs.Judging.{Judged, turnedAway, judged, judgedWith, lowestBroken, extendsAt, unbroken, judgementOf}
 use Rattle.judging.specs.Exactly.{Exactly, AskingShows}
@@ -46,6 +44,11 @@ judgement-small s rows = go (judgedWith s rows) refl
     go : (j : Judged) → judgedWith s rows ≡ j → Small (judgementOf j rows)
     go (turnedAway n place) e = let T = turned-away-small s rows n place e in (omega (arith, T .0), omega (arith, T .1))
     go (judged q) e = rows-small q (judged-read s rows q e) _ refl
+
+-- a refusal is read back from its number
+pub refusal-reads-back : (n place : ℕ) → Small (Refused n place)
+    → (judgementNumber (Refused n place) % 2 ^ 8 ≡ 0) × (judgementNumber (Refused n place) / 2 ^ 8 % 2 ^ 8 ≡ n) × (judgementNumber (Refused n place) / 2 ^ 16 % 2 ^ 16 ≡ place)
+refusal-reads-back n place (l, m) = (omega arith, omega arith, omega arith)
 
 -- no two judgements have one number, where one of them is no refusal
 same-number : (i j : Judgement) → ((n place : ℕ) → ¬ (i ≡ Refused n place)) → judgementNumber i ≡ judgementNumber j → i ≡ j

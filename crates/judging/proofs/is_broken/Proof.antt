@@ -1,7 +1,6 @@
 -- `judging::is_broken` meets its contract: only a clause is broken. Assumes nothing.
 use mathlib.Core.Path.{refl}
 use borrow.Author.Needs.{needs}
-use Rattle.judging.specs.Walk.{breaksIn, CommandFits}
 use Rattle.judging.proofs.is_broken.Statement.{statement}
 use Rattle.judging.proofs.is_broken.Tie as tie
 

@@ -3,7 +3,8 @@ use native.Mathlib.Omega.{arith}
 use borrow.Author.Needs.{needs}
 use Rattle.shares.specs.NumberLaws.{zero-at}
 use Rattle.format.specs.declared.Section.the-variants.{FirstPositive, FirstDisequation}
-use Rattle.judging.specs.JudgeLaws.{laid, sizes-readable, extends-found, given-broken, given-satisfied, given-extending, given-accepted}
+use Rattle.format.specs.FormatLaws.{accepted-formed}
+use Rattle.judging.specs.JudgeLaws.{laid, sizes-readable, extends-found, rows-broken, rows-satisfied, rows-extending, rows-accepted}
 use Rattle.judging.proofs.judge_rows.Statement.{statement}
 use Rattle.judging.proofs.judge_rows.Tie as tie
 
@@ -30,12 +31,12 @@ add-if1 c =
 returns : tie.Need-returns
 returns c q e St =
     let walked = c .before .before .before in
-    given-broken _ _ _ q St _ (walked .lowest-broken .ensures q _ _ _ e (laid _ _ _ q St _ (walked .before .before .«unfold» .ensures))) (c .if1 .taken)
+    rows-broken _ _ _ q St (accepted-formed _ q e) _ (walked .lowest-broken .ensures q _ _ _ e (laid _ _ _ q St _ (walked .before .before .«unfold» .ensures))) (c .if1 .taken)
 
 returns-2 : tie.Need-returns-2
 returns-2 c q e St =
     let walked = c .before .before .before .before in
-    given-satisfied _ _ _ q St _ (walked .lowest-broken .ensures q _ _ _ e (laid _ _ _ q St _ (walked .before .before .«unfold» .ensures))) (c .before .if1 .left) (c .if2 .taken)
+    rows-satisfied _ _ _ q St (accepted-formed _ q e) _ (walked .lowest-broken .ensures q _ _ _ e (laid _ _ _ q St _ (walked .before .before .«unfold» .ensures))) (c .before .if1 .left) (c .if2 .taken)
 
 sizes-of-requires : tie.Need-sizes-of-requires
 sizes-of-requires c κs =
@@ -52,7 +53,7 @@ returns-3 c q e St =
     let sized = c .before .before .before .before .before in
     let walked = sized .before .before .before .before .before in
     let U = walked .before .before .«unfold» .ensures in
-    given-extending _ _ _ q St _ (walked .lowest-broken .ensures q _ _ _ e (laid _ _ _ q St _ U)) (sized .before .before .if1 .left) (sized .before .if2 .left) _
+    rows-extending _ _ _ q St (accepted-formed _ q e) _ (walked .lowest-broken .ensures q _ _ _ e (laid _ _ _ q St _ U)) (sized .before .before .if1 .left) (sized .before .if2 .left) _
     (extends-found _ _ _ q St _ (sized .sizes-of .ensures) _ U _ (c .before .extends .ensures)) (c .if3 .taken)
 
 returns-4 : tie.Need-returns-4
@@ -60,7 +61,7 @@ returns-4 c q e St =
     let sized = c .before .before .before .before .before in
     let walked = sized .before .before .before .before .before in
     let U = walked .before .before .«unfold» .ensures in
-    given-accepted _ _ _ q St _ (walked .lowest-broken .ensures q _ _ _ e (laid _ _ _ q St _ U)) (sized .before .before .if1 .left) (sized .before .if2 .left) _
+    rows-accepted _ _ _ q St (accepted-formed _ q e) _ (walked .lowest-broken .ensures q _ _ _ e (laid _ _ _ q St _ U)) (sized .before .before .if1 .left) (sized .before .if2 .left) _
     (extends-found _ _ _ q St _ (sized .sizes-of .ensures) _ U _ (c .before .extends .ensures)) (c .if3 .left)
 
 pub judge-rows-spec : {M : Type 1} → statement M
