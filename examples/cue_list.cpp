@@ -97,12 +97,9 @@ void other_prover() {
     report_judged("And these parts?", question, {"(*o)", "(o(*o))", "(*(*o))"});
 }
 
-}  // namespace
-
-int main() {
-    zimorgal::Workspace workspace;
+// May threads hold such parts at once?
+void at_once(zimorgal::Workspace& workspace) {
     Question question;
-
     take(question.start_satisfiability(4));
     two_threads(question);
     third_thread(question);
@@ -120,7 +117,11 @@ int main() {
     take(question.first(together(lights, sound)));
     report("The lights may write the list, and the sound may read it. May their parts be held together?", question,
            workspace);
+}
 
+// What follows from the parts that the two threads hold?
+void what_follows(zimorgal::Workspace& workspace) {
+    Question question;
     take(question.start_entailment(3, 0));
     two_threads(question);
     take(question.second(may_write(both)));
@@ -142,6 +143,13 @@ int main() {
     take(question.second(together(both, rest)));
     take(question.second(may_read(rest)));
     report("Is there always a part left with which one thread more may read?", question, workspace);
+}
 
+}  // namespace
+
+int main() {
+    zimorgal::Workspace workspace;
+    at_once(workspace);
+    what_follows(workspace);
     other_prover();
 }

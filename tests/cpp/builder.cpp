@@ -1316,6 +1316,7 @@ void judged_as_shown() {
     check(bool(solution) && result.verdict == Verdict::no, "a solution is shown");
     check(solution.bytes().data == workspace.answer.data() && solution.bytes().size == 1536, "the bytes of a solution");
     const String rows(workspace.answer.begin(), workspace.answer.end());
+    const String asked = copy(question);
     check(judge(question, solution).judgement == Judgement::accepted &&
               judge(question, Bytes{rows.data(), rows.size()}).judgement == Judgement::accepted &&
               judge(question.bytes(), solution.bytes()).judgement == Judgement::accepted,
@@ -1323,8 +1324,7 @@ void judged_as_shown() {
     Rows again;
     for (std::size_t i = 0; i < solution.variables(); ++i) take(again.set(Free{i}, solution.text(Free{i}).str()));
     check(copy(again) == rows && judge(question, again).judgement == Judgement::accepted, "and by its texts");
-    check(copy(question) == String(question.bytes().begin(), question.bytes().end()) &&
-              String(workspace.answer.begin(), workspace.answer.end()) == rows,
+    check(copy(question) == asked && String(workspace.answer.begin(), workspace.answer.end()) == rows,
           "and nothing changed");
 
     question = satisfiability(1);
@@ -1334,7 +1334,7 @@ void judged_as_shown() {
           "no solution has no rows");
 }
 
-// A question for each refusal, with its place; the bytes of the constants and clauses are put in behind the head.
+// Questions that are refused, with the place; those of 6 and 7 are made in judging_refused.
 const struct {
     Refusal refusal;
     std::uint16_t place;

@@ -1,5 +1,6 @@
-// A judge of rows, written from docs/SPEC.md, section 2, alone. It shares no code with the headers and the library, which
-// it is to be compared with.
+// A judge of rows, written from docs/SPEC.md alone: section 2 for what clauses mean, 6.8 for what is accepted, rejected and
+// named, and section 7 for 18 and 19; refusals 1 to 10 are those of reader.hpp. It shares no code with the headers and the
+// library, which it is to be compared with.
 #ifndef ZIMORGAL_TESTS_JUDGE_HPP
 #define ZIMORGAL_TESTS_JUDGE_HPP
 

@@ -376,12 +376,12 @@ def broken_part(clause, shares):
 
 def meant(meaning, shares):
     """What is to be said of shares, by the definitions; the own ones are gone through."""
-    lines, number = meaning.text().split("\n"), 0
+    number = 0
     for system, clause in meaning.clauses:
         if system == 0 and not clause.holds(shares):
             return f"broken: clause {number + broken_part(clause, shares)}, line {{}}: {clause}"
         number += parts(clause) if system == 0 else 0
-    check(f"the clauses of {lines}", number >= len(meaning.first), True)
+    check(f"how many clauses the first system of {meaning.text()!r} is in bytes", len(read_text(meaning.text()).first_clauses()), number)
     if meaning.kind == 0:
         return "accepted"
     return EXTENDS if any(all(had) for had in meaning.beside(shares)) else "accepted"

@@ -9,11 +9,11 @@ use crate::worked::{FIVE_NOT_EMPTY, THREE_NOT_EMPTY, TWO_READERS};
 /// Name, question, the rows' tree texts, and the number.
 pub type Handed = (&'static str, &'static str, &'static [&'static str], u64);
 
-pub const ACCEPTED: u64 = 1;
-pub const EXTENDS: u64 = 3;
+const ACCEPTED: u64 = 1;
+const EXTENDS: u64 = 3;
 
 /// The number for rows that break this clause and none before it.
-pub const fn broken(clause: u64) -> u64 {
+const fn broken(clause: u64) -> u64 {
     2 + (clause << 32)
 }
 

@@ -15,6 +15,7 @@ use crate::question::{
 use crate::random::Random;
 use crate::refusals;
 use crate::report::{Family, Report};
+use crate::seen::enough;
 use crate::slips::some_question;
 use crate::tree::tree_of_number;
 use crate::worked;
@@ -143,19 +144,19 @@ fn rows_of_numbers(shares: &[u32]) -> Vec<u8> {
 }
 
 /// As many clauses as there may be, each in turn the lowest that is broken, and none. For an entailment as many of the second stand between
-/// them.
+/// them: once the first of these is broken, once none.
 fn each_clause(report: &mut Report) {
     let mut judger = Judger::new(report);
+    let seconds = [None, Some(0), Some(CLAUSES)];
     for _ in 0..judger.report.rounds(4) {
-        for (lowest, entailment) in (0..=CLAUSES).flat_map(|k| [(k, false), (k, true)]) {
-            let pools = Pools::new(&mut judger.random, entailment);
+        for (lowest, second) in (0..=CLAUSES).flat_map(|k| seconds.map(|second| (k, second))) {
+            let pools = Pools::new(&mut judger.random, second.is_some());
             let mut question = pools.question.clone();
             question.first = pools.system(&mut judger.random, lowest);
-            if entailment {
-                let held = judger.random.below(2) * CLAUSES;
-                question.second = pools.system(&mut judger.random, held);
+            if let Some(broken) = second {
+                question.second = pools.system(&mut judger.random, broken);
             }
-            let extends = entailment && question.second.iter().all(|c| pools.has(c));
+            let extends = second.is_some() && question.second.iter().all(|c| pools.has(c));
             let due = match (lowest < CLAUSES, extends) {
                 (true, _) => Broken(lowest),
                 (false, true) => Extends,
@@ -165,6 +166,7 @@ fn each_clause(report: &mut Report) {
             judger.known(&bytes, &pools.rows, Ok(due));
         }
     }
+    judger.seen_all(4);
 }
 
 /// A question of variable vv, which is one of 11; what fills its row; and what is due once one leaf of that is turned, and without that.
@@ -271,14 +273,19 @@ fn each_constant_leaf(report: &mut Report) {
 /// Each of the 4,096 choices of 12 variables, free and own, at one leaf of the constants, and all empty at the others.
 fn each_choice(report: &mut Report) {
     let mut judger = Judger::new(report);
+    let mut splits = [0; MOST_VARIABLES + 1];
     for choice in 0..1_u32 << MOST_VARIABLES {
         let free = judger.random.below(MOST_VARIABLES + 1);
+        splits[free] += 1;
         let full_at = 1 << judger.random.below(32);
         let shares: Vec<u32> = (0..MOST_VARIABLES)
             .map(|variable| (choice >> variable & 1) * full_at)
             .collect();
         one_choice(&mut judger, free, &shares);
     }
+    let given = [judger.given.accepted[1], judger.given.extends];
+    enough(judger.report, "judgements", &given, 1_000);
+    enough(judger.report, "splits", &splits, 200);
 }
 
 /// The second system says of each variable that it is the share given here, so that no other choice will do, and of one that it is not empty. The rows of

@@ -42,7 +42,7 @@ fn nulls(report: &mut Report) {
     }
 }
 
-/// Rows of every length, zero, full and cut; those that were cut off stand behind the lent ones.
+/// Rows of every length: the first bytes of those at hand, with zeros put behind them, and of full ones. What is cut off stands behind the lent bytes.
 fn lengths(report: &mut Report) {
     let random = &mut report.random();
     for (bytes, mut rows) in few_handed() {
