@@ -203,7 +203,7 @@ fn look_words(
     rest
 }
 
-// What is left to find once the free choices below all leaves with the constants' values of leaf b are looked at: nothing new if an earlier leaf has these too.
+// What is left to find once the free choices below all leaves with the constants' values of leaf b are looked at; they are already if an earlier leaf has these.
 fn look_leaf(
     table: &[u64; TABLE_WORDS],
     clauses: &[u8; CLAUSE_BYTES],
