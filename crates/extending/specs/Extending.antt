@@ -17,10 +17,14 @@ use Rattle.unfolded.specs.Unfolded.{rowWords, leafOf}
 unfoldable pub choiceAt : List ℕ → ℕ → ℕ → ℕ
 choiceAt table n i = value (rows.table n (λ v. leafOf (rowWords constantLevels) table v i))
 
+-- the leaf of the constants that leaf i of the rows lies below
+abbrev pub over : ℕ → ℕ
+over i = blockOf constantLevels (rowLevels constantLevels) i
+
 module _ (S : Stored) (table : List ℕ) where
   -- the values of the constants at leaf i of the rows
-  abbrev pub valuesOver : ℕ → ℕ
-  valuesOver i = leafValues S constantLevels (blockOf constantLevels (rowLevels constantLevels) i)
+  abbrev valuesOver : ℕ → ℕ
+  valuesOver i = leafValues S constantLevels (over i)
 
   -- beside the choice there some own choice meets the second system's positive clauses
   abbrev pub meetsOver : ℕ → Bool

@@ -25,8 +25,8 @@ use Rattle.words.specs.Choices.{wordCount, someOwn}
 use Rattle.beside.specs.Beside.{Merged, SameFree, Left, positivesPass, disequationPasses, Missing}
 use Rattle.beside.specs.GatherLaws.{same-free, choices-le}
 use Rattle.steps.specs.Tests.{leafValues, secondMeets, secondDiffers}
-use Rattle.extending.specs.Extending.{choiceAt, meetsOver, differsOver, extendsIn}
-use Rattle.extending.specs.Looks.{inSet, Added, over, Alike, alike, Looked, allMet, ChoicesLooked, SeenBy, LeavesLooked, InWord, InWords, KeysOf}
+use Rattle.extending.specs.Extending.{choiceAt, over, meetsOver, differsOver, extendsIn}
+use Rattle.extending.specs.Looks.{inSet, Added, Alike, alike, Looked, allMet, ChoicesLooked, SeenBy, LeavesLooked, InWord, InWords, KeysOf}
 use Rattle.extending.specs.MarkLaws.{choice-lt, empty-set}
 use Rattle.extending.specs.declared.Rest.{Rest}
 
@@ -44,7 +44,7 @@ module _ (count : ℕ) (meets : ℕ → Bool) (differs : ℕ → ℕ → Bool) w
   }
 
   -- some, none of which fails, and then others
-  pub looked-more : (A B C : ℕ → Type 0) (wanted : ℕ) (r s : Rest) → count ≤ 64 → T (r .met)
+  looked-more : (A B C : ℕ → Type 0) (wanted : ℕ) (r s : Rest) → count ≤ 64 → T (r .met)
       → ((c : ℕ) → C c → A c ⊎ B c) → ((c : ℕ) → A c → C c) → ((c : ℕ) → B c → C c)
       → Looked count meets differs A wanted r → Looked count meets differs B (r .wanted) s → Looked count meets differs C wanted s
   looked-more A B C wanted r s few met parts first second L M = record {
@@ -91,7 +91,7 @@ module _ (count : ℕ) (meets : ℕ → Bool) (differs : ℕ → ℕ → Bool) w
   }
 
   -- other numbers, each of which has the tests of one of these, and each of these those of one of them
-  pub looked-as : (meets′ : ℕ → Bool) (differs′ : ℕ → ℕ → Bool) (A B : ℕ → Type 0) (wanted : ℕ) (r : Rest)
+  looked-as : (meets′ : ℕ → Bool) (differs′ : ℕ → ℕ → Bool) (A B : ℕ → Type 0) (wanted : ℕ) (r : Rest)
       → ((c : ℕ) → A c → (i : ℕ) × B i × (meets c ≡ meets′ i) × ((j : ℕ) → differs j c ≡ differs′ j i))
       → ((i : ℕ) → B i → (c : ℕ) × A c × (meets c ≡ meets′ i) × ((j : ℕ) → differs j c ≡ differs′ j i))
       → Looked count meets differs A wanted r → Looked count meets′ differs′ B wanted r
@@ -106,7 +106,7 @@ module _ (count : ℕ) (meets : ℕ → Bool) (differs : ℕ → ℕ → Bool) w
   -- all numbers below N are looked at
   module _ (N : ℕ) (A : ℕ → Type 0) (wanted : ℕ) (r : Rest) (within : (c : ℕ) → A c → c < N) (L : Looked count meets differs A wanted r) where
     -- one fails
-    pub looked-unmet : T (not (r .met)) → (everyBelow N meets && everyBelow count (λ j. someBelow N (differs j))) ≡ false
+    looked-unmet : T (not (r .met)) → (everyBelow N meets && everyBelow count (λ j. someBelow N (differs j))) ≡ false
     looked-unmet t =
         let (c, a, u) = L .unmet t in
         let rest = everyBelow count (λ j. someBelow N (differs j)) in
@@ -114,7 +114,7 @@ module _ (count : ℕ) (meets : ℕ → Bool) (differs : ℕ → ℕ → Bool) w
         (not-T (everyBelow N meets && rest) (λ v. T-not (meets c) u (every-at N meets (and-left (everyBelow N meets) rest v) c (within c a))))
 
     -- none fails: all have what was wanted exactly if nothing is wanted any more
-    pub looked-all : ((c : ℕ) → c < N → A c) → T (r .met) → wanted ≡ 2 ^ count - 1 → count ≤ 64 → r .wanted < 2 ^ 64
+    looked-all : ((c : ℕ) → c < N → A c) → T (r .met) → wanted ≡ 2 ^ count - 1 → count ≤ 64 → r .wanted < 2 ^ 64
         → eqb (r .wanted) 0 ≡ (everyBelow N meets && everyBelow count (λ j. someBelow N (differs j)))
     looked-all every t start few small =
         same-test (eqb (r .wanted) 0) (everyBelow N meets && everyBelow count (λ j. someBelow N (differs j)))
@@ -169,7 +169,7 @@ module _ (n w choices x r : ℕ) (p : ℕ → Bool) (hw : w < wordCount n) (merg
       (64 * w + j, (q, subst (λ k. T (bit choices k)) m u), same-free n w w i j hw l h .1 (mod-eq-of-lt hw, e))
 
   -- nothing is left: all pass
-  pub left-nothing : r ≡ 0 → (c : ℕ) → InWord w choices c → T (p (c % 2 ^ n))
+  left-nothing : r ≡ 0 → (c : ℕ) → InWord w choices c → T (p (c % 2 ^ n))
   left-nothing e c a =
       let l : c % 64 < 64 = mod-lt c (omega arith) in
       let (t, q) = here c a in
@@ -178,7 +178,7 @@ module _ (n w choices x r : ℕ) (p : ℕ → Bool) (hw : w < wordCount n) (merg
       subst T (sym (left (c % 64) l) ∙ ap (λ y. bit y (c % 64)) e ∙ bit-zero (c % 64)) (and-intro (bit x (c % 64)) (not (p ((64 * w + c % 64) % 2 ^ n))) t u)))
 
   -- something is left: one fails
-  pub left-something : r < 2 ^ 64 → (r ≡ 0 → ⊥) → (c : ℕ) × InWord w choices c × T (not (p (c % 2 ^ n)))
+  left-something : r < 2 ^ 64 → (r ≡ 0 → ⊥) → (c : ℕ) × InWord w choices c × T (not (p (c % 2 ^ n)))
   left-something small set = go (some-or 64 (bit r))
     where
       go : ((i : ℕ) × (i < 64) × T (bit r i)) ⊎ ((i : ℕ) → i < 64 → T (not (bit r i))) → (c : ℕ) × InWord w choices c × T (not (p (c % 2 ^ n)))
@@ -189,7 +189,7 @@ module _ (n w choices x r : ℕ) (p : ℕ → Bool) (hw : w < wordCount n) (merg
           (c, a, subst (λ z. T (not (p z))) (sym e) (and-right (bit x i) (not (p ((64 * w + i) % 2 ^ n))) u))
 
   -- all is left: all fail
-  pub left-all : T (alike x r) → (c : ℕ) → InWord w choices c → T (not (p (c % 2 ^ n)))
+  left-all : T (alike x r) → (c : ℕ) → InWord w choices c → T (not (p (c % 2 ^ n)))
   unfolding alike
   left-all t c a =
       let l : c % 64 < 64 = mod-lt c (omega arith) in
@@ -198,7 +198,7 @@ module _ (n w choices x r : ℕ) (p : ℕ → Bool) (hw : w < wordCount n) (merg
       subst (λ z. T (not (p z))) q (and-right (bit x (c % 64)) (not (p ((64 * w + c % 64) % 2 ^ n))) (subst T (e ∙ left (c % 64) l) u))
 
   -- not all is left: one passes
-  pub left-part : T (not (alike x r)) → (c : ℕ) × InWord w choices c × T (p (c % 2 ^ n))
+  left-part : T (not (alike x r)) → (c : ℕ) × InWord w choices c × T (p (c % 2 ^ n))
   unfolding alike
   left-part t = go (every-or 64 (λ i. Bool·beq (bit x i) (bit r i)))
     where
@@ -280,19 +280,17 @@ module _ (count : ℕ) (meets : ℕ → Bool) (differs : ℕ → ℕ → Bool) (
 module _ (S : Stored) (table keys : List ℕ) (b start wanted : ℕ) (room : b < 2 ^ constantLevels) (K : KeysOf S keys)
     (L : LeavesLooked S table b start (allMet wanted)) where
   -- leaf b has the values of an earlier leaf
-  pub leaf-known : T (someBelow b (λ a. eqb (getD keys a 0) (getD keys b 0))) → LeavesLooked S table (b + 1) start (allMet wanted)
-  leaf-known t =
-      let (a, l, u) = some-found b (λ a. eqb (getD keys a 0) (getD keys b 0)) t in
-      let e : leafValues S constantLevels a ≡ leafValues S constantLevels b =
-      sym (K a (omega arith)) ∙ eqb→eq (getD keys a 0) (getD keys b 0) u ∙ K b room in
+  pub leaf-known : (a : ℕ) → a < b → getD keys a 0 ≡ getD keys b 0 → LeavesLooked S table (b + 1) start (allMet wanted)
+  leaf-known a l u =
+      let e : leafValues S constantLevels a ≡ leafValues S constantLevels b = sym (K a (omega arith)) ∙ u ∙ K b room in
       looked-as (getD (S .counts) 3 0) (meetsOver S table) (differsOver S table) (meetsOver S table) (differsOver S table) (SeenBy S b) (SeenBy S (b + 1))
       start (allMet wanted) (λ i (d, m, h, q). (i, (d, omega arith, h, q), refl, λ j. refl))
-      (λ i (d, m, h, q). (i, earlier a l e i d m h q (decLt d b), refl, λ j. refl)) L
+      (λ i (d, m, h, q). (i, earlier e i d m h q (decLt d b), refl, λ j. refl)) L
     where
-      earlier : (a : ℕ) → a < b → leafValues S constantLevels a ≡ leafValues S constantLevels b → (i d : ℕ) → d < b + 1
+      earlier : leafValues S constantLevels a ≡ leafValues S constantLevels b → (i d : ℕ) → d < b + 1
           → i < 2 ^ rowLevels constantLevels → leafValues S constantLevels d ≡ leafValues S constantLevels (over i) → Dec (d < b) → SeenBy S b i
-      earlier a l e i d m h q (yes k) = (d, k, h, q)
-      earlier a l e i d m h q (no n) = let f : b ≡ d = omega arith in (a, l, h, e ∙ ap (leafValues S constantLevels) f ∙ q)
+      earlier e i d m h q (yes k) = (d, k, h, q)
+      earlier e i d m h q (no n) = let f : b ≡ d = omega arith in (a, l, h, e ∙ ap (leafValues S constantLevels) f ∙ q)
 
   -- the leaves that look like it are looked at
   pub leaf-looked : (words : ℕ) (present : List ℕ) (r : Rest) → getD (S .counts) 3 0 ≤ 64

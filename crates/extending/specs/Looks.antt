@@ -7,12 +7,11 @@ use Prim.Native.Nat.{ℕ, _+_, _*_, _/_, _%_, _^_, _≤_, _<_}
 use lib.Dec.{T}
 use lib.ListN.{getD}
 use Rattle.shares.specs.Below.{everyBelow}
-use Rattle.shares.specs.Blocks.{blockOf}
 use Rattle.shares.specs.Constant.{bit, constantLevels}
 use Rattle.format.specs.Stored.{Stored}
 use Rattle.rows.specs.Rows.{rowLevels}
 use Rattle.steps.specs.Tests.{leafValues, secondMeets, secondDiffers}
-use Rattle.extending.specs.Extending.{choiceAt, meetsOver, differsOver}
+use Rattle.extending.specs.Extending.{choiceAt, over, meetsOver, differsOver}
 use Rattle.extending.specs.declared.Rest.{Rest}
 use Rattle.extending.specs.declared.Same.{Same}
 
@@ -37,10 +36,6 @@ pub record SameAs (table : List ℕ) (n w i leaves : ℕ) (r : Same) : Type 0 wh
   pub choice : r .choice ≡ choiceAt table n (64 * w + i)
   pub same : (k : ℕ) → BitOf (r .leaves) k → choiceAt table n (64 * w + k) ≡ choiceAt table n (64 * w + i)
   pub itself : BitOf leaves i → BitOf (r .leaves) i
-
--- the leaf of the constants that leaf i of the rows lies below
-abbrev pub over : ℕ → ℕ
-over i = blockOf constantLevels (rowLevels constantLevels) i
 
 -- leaf i of the rows lies below a leaf of the constants from b on, where they have the values that they have at b
 abbrev pub Alike : List ℕ → ℕ → ℕ → Type 0

@@ -20,6 +20,7 @@ use Rattle.shares.specs.BelowLaws.{first-below}
 use Rattle.shares.specs.Constant.{bit, constantLevels}
 use Rattle.shares.specs.BitLaws.{bit-zero, bit-and, bit-or}
 use Rattle.shares.specs.BitParts.{bit-not}
+use Rattle.shares.specs.NumberLaws.{zero-at}
 use Rattle.leaves.specs.Choices as rows
 use Rattle.leaves.specs.RowNumbers.{value}
 use Rattle.leaves.specs.ChoiceLaws.{value-lt}
@@ -27,8 +28,9 @@ use Rattle.words.specs.LowestLaws.{lowest-lt}
 use Rattle.words.specs.Shifts.{power-shift}
 use Rattle.entries.specs.BitLaws.{power-bit}
 use Rattle.unfolded.specs.Unfolded.{rowWords, leafOf}
-use Rattle.extending.specs.Extending.{choiceAt}
-use Rattle.extending.specs.Looks.{inSet, Added, BitOf, SameAs, over, Alike}
+use Rattle.unfolded.specs.UnfoldedLaws.{leaf-word}
+use Rattle.extending.specs.Extending.{choiceAt, over}
+use Rattle.extending.specs.Looks.{inSet, Added, BitOf, SameAs, Alike}
 
 -- ---- the choice at a leaf
 
@@ -47,7 +49,7 @@ value-more (suc n) f =
     go false ih = omega arith
 
 module _ (table : List ℕ) where
-  pub choice-more : (n i : ℕ) → choiceAt table (n + 1) i ≡ 2 * choiceAt table n i + one (leafOf (rowWords constantLevels) table n i)
+  choice-more : (n i : ℕ) → choiceAt table (n + 1) i ≡ 2 * choiceAt table n i + one (leafOf (rowWords constantLevels) table n i)
   unfolding choiceAt
   choice-more n i = ap (λ k. choiceAt table k i) (add-one n) ∙ value-more n (λ v. leafOf (rowWords constantLevels) table v i)
 
@@ -55,17 +57,9 @@ module _ (table : List ℕ) where
   unfolding choiceAt
   choice-lt n i = value-lt n (rows.table n (λ v. leafOf (rowWords constantLevels) table v i))
 
-  pub choice-none : (i : ℕ) → choiceAt table 0 i ≡ 0
+  choice-none : (i : ℕ) → choiceAt table 0 i ≡ 0
   unfolding choiceAt value rows.table
   choice-none i = refl
-
-  -- leaf k of word w
-  pub leaf-word : (v w k : ℕ) → k < 64 → leafOf (rowWords constantLevels) table v (64 * w + k) ≡ bit (getD table (16 * v + w) 0) k
-  unfolding leafOf
-  leaf-word v w k l =
-      let q : (64 * w + k) / 64 ≡ w = omega arith in
-      let r : (64 * w + k) % 64 ≡ k = omega arith in
-      ap₂ (λ a b. bit (getD table (16 * v + a) 0) b) q r
 
 -- after v variables: the choice so far at leaf i of word w, and leaves that have the same
 module _ (table : List ℕ) (w i leaves : ℕ) (small : i < 64) where
@@ -76,7 +70,7 @@ module _ (table : List ℕ) (w i leaves : ℕ) (small : i < 64) where
     itself = λ b. b;
   }
 
-  pub same-more : (v choice same x like choice′ : ℕ) (digit : Bool) → x ≡ getD table (16 * v + w) 0 → digit ≡ bit x i
+  pub same-more : (v choice same x like choice′ : ℕ) (digit : Bool) → x ≡ getD table (rowWords constantLevels * v + w) 0 → digit ≡ bit x i
       → choice′ ≡ 2 * choice + one digit → ((k : ℕ) → k < 64 → bit like k ≡ Bool·beq (bit x k) digit)
       → SameAs table v w i leaves (record { choice = choice; leaves = same })
       → SameAs table (v + 1) w i leaves (record { choice = choice′; leaves = bitAnd same like })
@@ -96,26 +90,21 @@ module _ (table : List ℕ) (w i leaves : ℕ) (small : i < 64) where
   }
     where
       here : (k : ℕ) → k < 64 → leafOf (rowWords constantLevels) table v (64 * w + k) ≡ bit x k
-      here k l = leaf-word table v w k l ∙ ap (λ y. bit y k) (sym ex)
+      here k l = leaf-word (rowWords constantLevels) table v w k l ∙ ap (λ y. bit y k) (sym ex)
 
 -- ---- sets
 
 -- a set whose words are all 0 has no choice
 pub empty-set : (n c : ℕ) → T (inSet (replicate n 0) c) → ⊥
 unfolding inSet
-empty-set n c t = subst T (ap (λ x. bit x (c % 64)) (go n (c / 64)) ∙ bit-zero (c % 64)) t
-  where
-    go : (n k : ℕ) → _≡_ {A = ℕ} (getD (replicate n 0) k 0) 0
-    go zero k = refl
-    go (suc n) zero = refl
-    go (suc n) (suc k) = go n k
+empty-set n c t = subst T (ap (λ x. bit x (c % 64)) (zero-at n (c / 64)) ∙ bit-zero (c % 64)) t
 
 -- no leaf is given
-pub added-none : (choice : ℕ → ℕ) (Given : ℕ → Type 0) (old : List ℕ) → ((i : ℕ) → Given i → ⊥) → Added choice Given old old
+added-none : (choice : ℕ → ℕ) (Given : ℕ → Type 0) (old : List ℕ) → ((i : ℕ) → Given i → ⊥) → Added choice Given old old
 added-none choice Given old never = record { kept = λ c t. t; added = λ i g. absurd (never i g); only = λ c t. inl t }
 
 -- the choices at some leaves, and then those at others
-pub added-more : (choice choice′ : ℕ → ℕ) (G G′ H : ℕ → Type 0) (old mid new : List ℕ)
+added-more : (choice choice′ : ℕ → ℕ) (G G′ H : ℕ → Type 0) (old mid new : List ℕ)
     → ((i : ℕ) → H i → G i ⊎ ((k : ℕ) × G′ k × (choice′ k ≡ choice i)))
     → ((i : ℕ) → G i → H i) → ((k : ℕ) → G′ k → (i : ℕ) × H i × (choice i ≡ choice′ k))
     → Added choice G old mid → Added choice′ G′ mid new → Added choice H old new
@@ -138,7 +127,7 @@ added-more choice choice′ G G′ H old mid new parts first second A B = record
     from c (inr (k, g, e)) = let (i, h, f) = second k g in inr (i, h, f ∙ e)
 
 -- the same leaves, said otherwise
-pub added-as : (choice : ℕ → ℕ) (G H : ℕ → Type 0) (old new : List ℕ) → ((i : ℕ) → H i → G i) → ((i : ℕ) → G i → H i)
+added-as : (choice : ℕ → ℕ) (G H : ℕ → Type 0) (old new : List ℕ) → ((i : ℕ) → H i → G i) → ((i : ℕ) → G i → H i)
     → Added choice G old new → Added choice H old new
 added-as choice G H old new back there A = record {
   kept = A .kept;

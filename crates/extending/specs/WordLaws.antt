@@ -16,9 +16,10 @@ use Rattle.shares.specs.Test.{is-true, is-false, beq-iff}
 use Rattle.shares.specs.Below.{everyBelow}
 use Rattle.shares.specs.BelowLaws.{every-at, every-intro}
 use Rattle.shares.specs.Constant.{bit}
-use Rattle.shares.specs.BitLaws.{bit-and, bits-same}
+use Rattle.shares.specs.BitLaws.{bits-same}
 use Rattle.shares.specs.BitParts.{bit-not, bit-ones, bit-beyond, bit-raised, bit-raised-low}
 use Rattle.words.specs.Shifts.{power-shift}
+use Rattle.beside.specs.TakeLaws.{taken-out}
 use Rattle.entries.specs.BitLaws.{power-bit}
 use Rattle.extending.specs.Looks.{alike}
 
@@ -66,11 +67,11 @@ module _ (w k : ℕ) where
 
 -- ---- two words
 
-pub alike-same : (x y : ℕ) → x ≡ y → alike x y ≡ true
+alike-same : (x y : ℕ) → x ≡ y → alike x y ≡ true
 unfolding alike
 alike-same x y e = is-true _ (every-intro 64 (λ i. Bool·beq (bit x i) (bit y i)) (λ i l. beq-iff (bit x i) (bit y i) .1 (ap (λ z. bit z i) e)))
 
-pub alike-apart : (x y : ℕ) → x < 2 ^ 64 → y < 2 ^ 64 → (x ≡ y → ⊥) → alike x y ≡ false
+alike-apart : (x y : ℕ) → x < 2 ^ 64 → y < 2 ^ 64 → (x ≡ y → ⊥) → alike x y ≡ false
 unfolding alike
 alike-apart x y hx hy n =
     is-false (everyBelow 64 same) (not-T (everyBelow 64 same) (λ t. n (bits-same 64 x y hx hy (λ i l. beq-iff (bit x i) (bit y i) .0 (every-at 64 same t i l)))))
@@ -81,8 +82,8 @@ alike-apart x y hx hy n =
 -- bit j taken out
 out-bit : (r j k : ℕ) → j < 64 → k < 64 → bit (bitAnd r ((2 ^ 64 - 1) - (1 * 2 ^ j) % 2 ^ 64)) k ≡ (bit r k && not (eqb k j))
 out-bit r j k h l =
-    bit-and r ((2 ^ 64 - 1) - (1 * 2 ^ j) % 2 ^ 64) k
-    ∙ ap (_&&_ (bit r k)) (ap (λ y. bit ((2 ^ 64 - 1) - y) k) (power-shift j h) ∙ bit-not 64 (2 ^ j) k (pow-lt {j = 64} h) l ∙ ap not (power-bit j k))
+    let e = power-shift j h in
+    taken-out r ((1 * 2 ^ j) % 2 ^ 64) (λ i. eqb i j) (rw e (pow-lt {j = 64} h)) (λ i m. ap (λ y. bit y i) e ∙ power-bit j i) k l
 
 module _ (x y r j k : ℕ) where
   pub unless-kept : x ≡ y → bit r k ≡ (bit r k && (not (eqb k j) || alike x y))

@@ -2,7 +2,6 @@
 // have there, beside all own choices, 64 at a time.
 use basics::CLAUSE_BYTES;
 use beside::Sizes;
-use unfolded::ROW_WORDS;
 use unfolded::TABLE_WORDS;
 ghost use mathlib.Core.Path.{_≡_};
 ghost use mathlib.Core.Bool.{_&&_, _||_, not, Bool·beq};
@@ -10,20 +9,25 @@ ghost use mathlib.Core.List.{List};
 ghost use Prim.Native.Nat.{ℕ, _+_, _*_, _/_, _%_, _^_, _≤_, _<_};
 ghost use lib.Dec.{ltb, eqb};
 ghost use lib.ListN.{length, getD};
-ghost use Rattle.shares.specs.Below.{one, someBelow};
+ghost use Rattle.shares.specs.Below.{one};
 ghost use Rattle.shares.specs.Constant.{bit, constantLevels};
+ghost use Rattle.rows.specs.Rows.{rowCount};
 ghost use Rattle.words.specs.Choices.{wordCount, valuesAt};
 ghost use Rattle.words.specs.Table.{Terms, Within};
 ghost use Rattle.beside.specs.Beside.{Readable};
 ghost use Rattle.steps.specs.Steps.{storedBy, PlacedWithin};
+ghost use Rattle.unfolded.specs.Unfolded.{rowWords};
 ghost use Rattle.extending.specs.Extending.{choiceAt, extendsIn};
 ghost use Rattle.extending.specs.Looks.{Added, BitOf, SameAs, Alike, alike, allMet, ChoicesLooked, LeavesLooked, InWord, InWords, KeysOf};
 
-// Constants have this many leaves, and each stands over half a word of a row.
+// Constants have this many levels.
+const LEVELS: usize = 5;
+
+// They have this many leaves, and each stands over half a word of a row.
 const LEAVES: usize = 32;
 
 // What is left to find: whether each free choice so far has an own choice that meets the second system's positive clauses, and bit j for each of its
-// disequations that no own choice meets beside them.
+// disequations that no own choice so far meets beside them.
 pub struct Rest {
     pub met: bool,
     pub wanted: u64,
@@ -35,17 +39,9 @@ pub struct Same {
     pub leaves: u64,
 }
 
-// Word w of the row of variable v.
-fn row_word(table: &[u64; TABLE_WORDS], v: usize, w: usize) -> u64
-    requires { ⌜ (v < 12) × (w < 16) ⌝ }
-    ensures { λ r. ⌜ r ≡ getD (now (table .entry)) (16 * v + w) 0 ⌝ }
-{
-    table[ROW_WORDS * v + w]
-}
-
 // A choice with one digit more, the lowest.
 fn with_digit(choice: usize, digit: bool) -> usize
-    requires { ⌜ choice < 2 ^ 12 ⌝ }
+    requires { ⌜ choice < 2 ^ rowCount ⌝ }
     ensures { λ r. ⌜ r ≡ 2 * choice + one digit ⌝ }
 {
     if digit { 2 * choice + 1 } else { 2 * choice }
@@ -60,14 +56,14 @@ fn like(x: u64, digit: bool) -> u64
 
 // The choice at leaf 64 * w + i, and the leaves of word w among those given that have the same.
 fn same_choice(table: &[u64; TABLE_WORDS], free: usize, w: usize, i: usize, leaves: u64) -> Same
-    requires { ⌜ (free ≤ 12) × (w < 16) × (i < 64) ⌝ }
+    requires { ⌜ (free ≤ rowCount) × (w < rowWords constantLevels) × (i < 64) ⌝ }
     ensures { λ r. ⌜ SameAs (now (table .entry)) free w i leaves r ⌝ }
 {
     let mut choice: usize = 0;
     let mut same = leaves;
     let mut v: usize = 0;
     while v < free {
-        let x = row_word(table, v, w);
+        let x = unfolded::word_of(table, v, w);
         let digit = basics::digit(x, i);
         choice = with_digit(choice, digit);
         same = same & like(x, digit);
@@ -90,7 +86,7 @@ fn mark(present: &mut [u64], choice: usize)
 
 // Marks the choices at the given leaves of word w.
 fn mark_word(table: &[u64; TABLE_WORDS], free: usize, w: usize, leaves: u64, present: &mut [u64])
-    requires { ⌜ (free ≤ 12) × (w < 16) × (length (now present) ≡ 64) ⌝ }
+    requires { ⌜ (free ≤ rowCount) × (w < rowWords constantLevels) × (length (now present) ≡ 64) ⌝ }
     ensures { λ _. ⌜ Added (λ k. choiceAt (now (table .entry)) free (64 * w + k)) (BitOf leaves) (now (present .entry)) (now (present .exit)) ⌝ }
 {
     let mut rest = leaves;
@@ -120,7 +116,7 @@ fn mark_alike(
     b: usize,
     present: &mut [u64],
 )
-    requires { ⌜ (free ≤ 12) × (b < 32) × (length (now present) ≡ 64) ⌝ }
+    requires { ⌜ (free ≤ rowCount) × (b < 32) × (length (now present) ≡ 64) ⌝ }
     ensures { λ _. ⌜ Added (choiceAt (now (table .entry)) free) (Alike (now (keys .entry)) b) (now (present .entry)) (now (present .exit)) ⌝ }
 {
     let mut a = b;
@@ -157,7 +153,7 @@ fn still_wanted(x: u64, wanted: u64, left: &[u64; 32], count: usize) -> u64
     r
 }
 
-// The choices of one word, with the values that the table of terms has.
+// What is left to find once the given choices of word w are looked at, with the values that the table of terms has.
 fn look_word(
     terms: &mut [u64; 64],
     clauses: &[u8; CLAUSE_BYTES],
@@ -183,7 +179,7 @@ fn look_word(
     Rest { met: true, wanted }
 }
 
-// All words of a set of choices.
+// What is left to find once all choices of a set are looked at, with those values.
 fn look_words(
     terms: &mut [u64; 64],
     clauses: &[u8; CLAUSE_BYTES],
@@ -207,22 +203,7 @@ fn look_words(
     rest
 }
 
-// Whether the constants have at an earlier leaf the values that they have at leaf b.
-fn is_known(keys: &[u64; 32], b: usize) -> bool
-    requires { ⌜ b < 32 ⌝ }
-    ensures { λ r. ⌜ r ≡ someBelow b (λ a. eqb (getD (now (keys .entry)) a 0) (getD (now (keys .entry)) b 0)) ⌝ }
-{
-    let mut a: usize = 0;
-    while a < b {
-        if keys[a] == keys[b] {
-            return true;
-        }
-        a += 1;
-    }
-    false
-}
-
-// The free choices below all leaves where the constants have the values that they have at leaf b, unless an earlier leaf has them too.
+// What is left to find once the free choices below all leaves with the constants' values of leaf b are looked at; they are already if an earlier leaf has these.
 fn look_leaf(
     table: &[u64; TABLE_WORDS],
     clauses: &[u8; CLAUSE_BYTES],
@@ -237,7 +218,7 @@ fn look_leaf(
     ensures { λ r. ⌜ PlacedWithin (sizes .free) (sizes .own) (sizes .defined) (now (terms .exit)) ⌝ }
     ensures { λ r. ⌜ ((constants : List ℕ) (start : ℕ) → KeysOf (storedBy sizes (now (clauses .entry)) constants) (now (keys .entry)) → LeavesLooked (storedBy sizes (now (clauses .entry)) constants) (now (table .entry)) b start (allMet wanted) → LeavesLooked (storedBy sizes (now (clauses .entry)) constants) (now (table .entry)) (b + 1) start r) ⌝ }
 {
-    if is_known(keys, b) {
+    if pass::first_like(keys, keys[b], b) < b {
         return Rest { met: true, wanted };
     }
     let mut present = [0u64; 64];
@@ -253,7 +234,7 @@ fn put_keys(constants: &[u64; 32], defined: usize, keys: &mut [u64])
 {
     let mut b: usize = 0;
     while b < LEAVES {
-        keys[b] = words::values_at(constants, defined, 5, b);
+        keys[b] = words::values_at(constants, defined, LEVELS, b);
         b += 1;
     }
 }

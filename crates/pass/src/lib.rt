@@ -106,7 +106,7 @@ fn visit(
 }
 
 // The first of the first b leaves whose values are these, or b.
-fn first_like(keys: &[u64; 32], values: u64, b: usize) -> usize
+pub fn first_like(keys: &[u64; 32], values: u64, b: usize) -> usize
     requires { ⌜ b ≤ 32 ⌝ }
     ensures { λ r. ⌜ (r ≤ b) × (r < b → getD (now (keys .entry)) r 0 ≡ values) ⌝ }
 {

@@ -17,8 +17,14 @@ ghost use Rattle.unfolded.specs.Filling.{WordOf, Filled, constantLeaf, c
 // A row has this many words.
 pub const ROW_WORDS: usize = 16;
 
+// The rows of all variables have this many.
+const ROWS_WORDS: usize = 192;
+
 // A table of 64 parts has this many.
 pub const TABLE_WORDS: usize = 1024;
+
+// The constants start at this word of a table, that of part 32.
+const CONSTANTS_START: usize = 512;
 
 // Word w of the rows: eight bytes, the lowest first.
 fn word_at(rows: &[u8], w: usize) -> u64
@@ -37,7 +43,7 @@ pub fn zero_from(rows: &[u8], start: usize) -> bool
 {
     let mut all: u64 = 0;
     let mut w = start;
-    while w < 192 {
+    while w < ROWS_WORDS {
         all = all | word_at(rows, w);
         w += 1;
     }
@@ -50,7 +56,7 @@ fn put_rows(rows: &[u8], table: &mut [u64])
     ensures { λ _. ⌜ Filled constantLevels 0 rowCount (rowLeaf (now (rows .entry))) (now (table .entry)) (now (table .exit)) ⌝ }
 {
     let mut j: usize = 0;
-    while j < 192 {
+    while j < ROWS_WORDS {
         table[j] = word_at(rows, j);
         j += 1;
     }
@@ -93,7 +99,7 @@ fn put_constants(constants: &[u64; 32], count: usize, table: &mut [u64])
 {
     let mut j: usize = 0;
     while j < ROW_WORDS * count {
-        table[512 + j] = constant_word(constants[j / 16], j % 16);
+        table[CONSTANTS_START + j] = constant_word(constants[j / ROW_WORDS], j % ROW_WORDS);
         j += 1;
     }
 }
@@ -108,13 +114,20 @@ pub fn unfold(rows: &[u8], constants: &[u64; 32], count: usize, table: &mut [u64
     put_constants(constants, count, table);
 }
 
-// Word w of a part.
+// Word w of a part of a table.
+pub fn word_of(table: &[u64; TABLE_WORDS], part: usize, w: usize) -> u64
+    requires { ⌜ (part < 64) × (w < rowWords constantLevels) ⌝ }
+    ensures { λ r. ⌜ r ≡ getD (now (table .entry)) (rowWords constantLevels * part + w) 0 ⌝ }
+{
+    table[ROW_WORDS * part + w]
+}
+
+// Word w of a part that a byte names.
 fn part_word(table: &[u64; TABLE_WORDS], part: u8, w: usize) -> u64
     requires { ⌜ (part < 64) × (w < rowWords constantLevels) ⌝ }
     ensures { λ r. ⌜ r ≡ getD (now (table .entry)) (rowWords constantLevels * part + w) 0 ⌝ }
 {
-    let t = basics::index(part);
-    table[ROW_WORDS * t + w]
+    word_of(table, basics::index(part), w)
 }
 
 // Bit i of the result is the test of a join at leaf 64 * w + i.

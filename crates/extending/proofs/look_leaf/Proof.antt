@@ -1,27 +1,30 @@
 -- `extending::look_leaf` meets its contract. Assumes nothing.
 use mathlib.Core.List.{[]}
-use mathlib.Core.Path.{subst}
 use native.Mathlib.Omega.{arith}
-use lib.Dec.{T}
 use lib.ListN.{getD}
 use borrow.Author.Needs.{needs}
-use Rattle.shares.specs.Test.{of-true}
 use Rattle.steps.specs.Steps.{storedBy}
 use Rattle.extending.specs.LookLaws.{leaf-known, leaf-looked}
 use Rattle.extending.proofs.look_leaf.Statement.{statement}
 use Rattle.extending.proofs.look_leaf.Tie as tie
 
-is-known-requires : tie.Need-is-known-requires
-is-known-requires c κs = search needs
+mul-first-like : tie.Need-mul-first-like
+mul-first-like c = search needs
+
+element-copy-out-first-like : tie.Need-element-copy-out-first-like
+element-copy-out-first-like c = search needs
+
+first-like-requires : tie.Need-first-like-requires
+first-like-requires c κs = search needs
 
 returns : tie.Need-returns
 returns c =
-    let s = c .before .before in
+    let s = c .before .before .before in
     let a = s .args in (
       s .pre .1 .3,
       λ constants start K L.
           leaf-known (storedBy (a .sizes) (a .clauses .now) constants) (a .table .now) (a .keys .now) (a .b) start (a .wanted) (s .pre .1 .0) K L
-          (subst T (c .before .is-known .ensures) (of-true (c .if1 .taken))),
+          (c .before .first-like .result) (c .if1 .taken) (c .before .first-like .ensures .1 (c .if1 .taken)),
     )
 
 slice-aggregate-mark-alike : tie.Need-slice-aggregate-mark-alike
@@ -44,7 +47,7 @@ look-words-requires c κs = search needs
 
 returns-2 : tie.Need-returns-2
 returns-2 c =
-    let s = c .before .before .before .before .before .before .before .before .before .before .before in
+    let s = c .before .before .before .before .before .before .before .before .before .before .before .before in
     let a = s .args in
     let (old, v, within, t) = s .pre .1 .3 in
     let placed = c .before .before .before .set-constants .ensures (a .sizes .free) (a .sizes .own) old v (s .pre .0 .variables) within (s .pre .1 .2) t in
@@ -61,7 +64,9 @@ pub look-leaf-spec : {M : Type 1} → statement M
 look-leaf-spec =
     tie.close
     (tie.spec
-    is-known-requires
+    mul-first-like
+    element-copy-out-first-like
+    first-like-requires
     returns
     slice-aggregate-mark-alike
     mark-alike-requires

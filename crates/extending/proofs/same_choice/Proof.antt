@@ -17,8 +17,8 @@ abbrev μ-loop : tie.MeasureT-loop
 loop-holds : tie.Need-loop-holds Inv-loop μ-loop
 loop-holds c = let a = c .args in (omega arith, same-start (a .table .now) (a .w) (a .i) (a .leaves) (c .pre .2))
 
-row-word-requires : tie.Need-row-word-requires Inv-loop μ-loop
-row-word-requires c κs = (omega arith, omega arith)
+word-of-requires : tie.Need-word-of-requires Inv-loop μ-loop
+word-of-requires c κs = (omega arith, omega arith)
 
 digit-requires : tie.Need-digit-requires Inv-loop μ-loop
 digit-requires c κs = omega arith
@@ -44,8 +44,8 @@ loop-again c =
     let l = c .before .before .before .before .before .loop in (
       omega arith,
       same-more (a .table .now) (a .w) (a .i) (a .leaves) (c .before .before .before .before .before .before .pre .2) (l .v) (l .choice) (l .same)
-          (c .before .before .before .row-word .result) (c .like .result) (c .before .with-digit .result) (c .before .before .digit .result)
-          (c .before .before .before .row-word .ensures) (c .before .before .digit .ensures) (c .before .with-digit .ensures) (c .like .ensures) (l .inv .1),
+          (c .before .before .before .word-of .result) (c .like .result) (c .before .with-digit .result) (c .before .before .digit .result)
+          (c .before .before .before .word-of .ensures) (c .before .before .digit .ensures) (c .before .with-digit .ensures) (c .like .ensures) (l .inv .1),
     )
 
 returns : tie.Need-returns Inv-loop μ-loop
@@ -58,7 +58,7 @@ same-choice-spec =
     Inv-loop
     μ-loop
     loop-holds
-    row-word-requires
+    word-of-requires
     digit-requires
     with-digit-requires
     like-requires
