@@ -14,7 +14,7 @@ ghost use lib.ListN.{length};
 ghost use Rattle.format.specs.Format.{termCount, operands, termByte, clauseAt, commandOf, readAt};
 
 // The byte of term number k of a clause with so many terms, 0 where it has none.
-fn term_byte(bytes: &[u8], i: usize, count: usize, k: usize) -> u8
+pub fn term_byte(bytes: &[u8], i: usize, count: usize, k: usize) -> u8
     requires { ⌜ i + count ≤ length (now bytes) ⌝ }
     ensures { λ r. ⌜ r ≡ termByte (now (bytes .entry)) i count k ⌝ }
 {

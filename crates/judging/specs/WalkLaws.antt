@@ -3,10 +3,11 @@ use mathlib.Core.Path.{_≡_, refl, sym, ap, _∙_, subst}
 use mathlib.Core.Bool.{true, false, not, Bool·not-not}
 use mathlib.Core.List.{List, [], _∷_, _++_, append-nil, append-assoc}
 use mathlib.Core.Logic.{_⊎_, inl, inr}
-use Prim.Native.Nat.{ℕ, zero, suc, _+_, _≤_, _<_}
+use Prim.Native.Nat.{ℕ, zero, suc, _+_, _-_, _≤_, _<_}
 use native.Mathlib.Nat.{eq-or-lt-of-le, le-of-suc-le-suc, not-suc-le-zero}
 use native.Mathlib.Omega.{arith}
-use lib.ListN.{length, length-append}
+use borrow.Author.Tests.{lt-ltb, le-ltb}
+use lib.ListN.{length, getD, length-append}
 use lib.Seq.{getD-at}
 use Rattle.shares.specs.Constant.{constantLevels}
 use Rattle.shares.specs.BelowLaws.{first-is, first-none}
@@ -14,9 +15,11 @@ use Rattle.systems.specs.Clauses.{Atom, Clause, positive, negated, Constants}
 use Rattle.systems.specs.Questions.{Question, Defined, InAtom, WellFormed}
 use Rattle.format.specs.declared.Section.{Section}
 use Rattle.format.specs.declared.Section.the-variants.{FirstPositive, FirstDisequation, SecondPositive, SecondDisequation}
+use Rattle.format.specs.declared.Shape.{Shape}
+use Rattle.format.specs.declared.Entry.the-variants.{Known, Unknown}
 use Rattle.format.specs.declared.Command.{Command}
 use Rattle.format.specs.declared.Step.the-variants.{Take, Refused}
-use Rattle.format.specs.Format.{mostPositive, mostDisequations, accepted, read, readAt, atomOf}
+use Rattle.format.specs.Format.{mostPositive, mostDisequations, accepted, read, entryOf, operands, commandOf, wholeAt, readAt, atomOf}
 use Rattle.format.specs.SectionLaws.{both-counts}
 use Rattle.format.specs.FormatLaws.{size-some, Whole, read-whole, Limited, accepted-formed, accepted-limited}
 use Rattle.format.specs.Keeping.{isEnd}
@@ -27,6 +30,27 @@ use Rattle.judging.specs.Judging.{everywhere, clauseMet, noClause, claus
 use Rattle.judging.specs.Walk.{breaksIn, CommandFits, commandBreaks, saysFirst, Laid, Lowest, Walk}
 use Rattle.judging.specs.ModelLaws.{InClause, in-clause}
 use Rattle.judging.specs.TableLaws.{join-everywhere, parts-in}
+
+-- ---- what stands at an offset, by its byte and the bytes left
+
+module _ (s : List ℕ) (at : ℕ) where
+  pub read-past : length s ≤ at → readAt s at ≡ Refused 2
+  unfolding readAt
+  read-past l = rw (le-ltb at (length s) l) refl
+
+  module _ (l : at < length s) where
+    pub read-unknown : entryOf (getD s at 0) ≡ Unknown → readAt s at ≡ Refused 3
+    unfolding readAt wholeAt
+    read-unknown e = rw (lt-ltb at (length s) l, e) refl
+
+    module _ (h : Shape) (e : entryOf (getD s at 0) ≡ Known h) where
+      pub read-short : length s - (at + 1) < operands h → readAt s at ≡ Refused 2
+      unfolding readAt wholeAt
+      read-short m = rw (lt-ltb at (length s) l, e, lt-ltb (length s - (at + 1)) (operands h) m) refl
+
+      pub read-take : operands h ≤ length s - (at + 1) → readAt s at ≡ Take (commandOf s (at + 1) h) (at + 1 + operands h)
+      unfolding readAt wholeAt
+      read-take m = rw (lt-ltb at (length s) l, e, le-ltb (length s - (at + 1)) (operands h) m) refl
 
 -- ---- the commands from an offset on
 

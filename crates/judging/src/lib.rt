@@ -2,20 +2,24 @@
 use basics::CLAUSE_BYTES;
 use commands::table;
 use faults::sections;
-use format::Command;
+use format::Entry;
 use format::LeafJoin;
 use format::Question;
 use format::Section;
-use format::Step;
+use format::Shape;
+use format::Test;
 use rows::ANSWER_BYTES;
 use unfolded::ROW_WORDS;
 use unfolded::TABLE_WORDS;
 ghost use mathlib.Core.Path.{_≡_};
+ghost use mathlib.Core.List.{List};
+ghost use Prim.Native.Nat.{ℕ, _+_, _≤_};
 ghost use lib.ListN.{length};
 ghost use Rattle.shares.specs.Constant.{constantLevels};
 ghost use Rattle.systems.specs.Questions as model;
-ghost use Rattle.format.specs.Format.{accepted, read};
-ghost use Rattle.format.specs.Stored.{storedOf, Stands};
+ghost use Rattle.format.specs.Format.{termCount, operands, termByte, commandOf, accepted, read};
+ghost use Rattle.format.specs.Stored.{joinFor, storedOf, Stands};
+ghost use Rattle.format.specs.Keeping.{isEnd};
 ghost use Rattle.rows.specs.Rows.{answerBytes};
 ghost use Rattle.asking.specs.Demand3.{rowShares};
 ghost use Rattle.unfolded.specs.Unfolded.{joinEverywhere, PartsIn};
@@ -33,21 +37,27 @@ pub enum Judgement {
     Extending,
 }
 
-// Whether a command is a clause of the first system.
-fn is_first(command: Command) -> bool
-    ensures { λ r. ⌜ r ≡ saysFirst command ⌝ }
+// Whether a command byte announces the end, whatever stands behind it.
+fn is_end(shape: Shape) -> bool
+    ensures { λ r. ⌜ ((s : List ℕ) (i : ℕ) → r ≡ isEnd (commandOf s i shape)) ⌝ }
 {
-    match command {
-        Command::End => false,
-        Command::Head => false,
-        Command::Constant(_) => false,
-        Command::Clause {
-            section,
-            test: _,
-            a: _,
-            b: _,
-            c: _,
-        } => !sections::is_second(section),
+    match shape {
+        Shape::End => true,
+        Shape::Head => false,
+        Shape::Constant => false,
+        Shape::Clause(_, _) => false,
+    }
+}
+
+// Whether it announces a clause of the first system.
+fn is_first(shape: Shape) -> bool
+    ensures { λ r. ⌜ ((s : List ℕ) (i : ℕ) → r ≡ saysFirst (commandOf s i shape)) ⌝ }
+{
+    match shape {
+        Shape::End => false,
+        Shape::Head => false,
+        Shape::Constant => false,
+        Shape::Clause(section, _) => !sections::is_second(section),
     }
 }
 
@@ -66,22 +76,28 @@ fn breaks(leaves: &[u64; TABLE_WORDS], section: Section, join: LeafJoin) -> bool
     }
 }
 
-// Whether the rows of a table break the clause of the first system that a command says.
-fn is_broken(leaves: &[u64; TABLE_WORDS], command: Command) -> bool
-    requires { ⌜ CommandFits command ⌝ }
-    ensures { λ r. ⌜ r ≡ commandBreaks constantLevels (now (leaves .entry)) command ⌝ }
+// How the clause of a test reads whose terms start at an offset.
+fn join_at(bytes: &[u8], i: usize, test: Test) -> LeafJoin
+    requires { ⌜ i + termCount test ≤ length (now bytes) ⌝ }
+    ensures { λ r. ⌜ r ≡ joinFor test (termByte (now (bytes .entry)) i (termCount test) 0) (termByte (now (bytes .entry)) i (termCount test) 1) (termByte (now (bytes .entry)) i (termCount test) 2) ⌝ }
 {
-    match command {
-        Command::End => false,
-        Command::Head => false,
-        Command::Constant(_) => false,
-        Command::Clause {
-            section,
-            test,
-            a,
-            b,
-            c,
-        } => breaks(leaves, section, table::join_for(test, a, b, c)),
+    let count = table::term_count(test);
+    let a = commands::term_byte(bytes, i, count, 0);
+    let b = commands::term_byte(bytes, i, count, 1);
+    let c = commands::term_byte(bytes, i, count, 2);
+    table::join_for(test, a, b, c)
+}
+
+// Whether the rows of a table break the clause of the first system whose terms start at an offset.
+fn is_broken(leaves: &[u64; TABLE_WORDS], bytes: &[u8], i: usize, shape: Shape) -> bool
+    requires { ⌜ (i + operands shape ≤ length (now bytes)) × CommandFits (commandOf (now bytes) i shape) ⌝ }
+    ensures { λ r. ⌜ r ≡ commandBreaks constantLevels (now (leaves .entry)) (commandOf (now (bytes .entry)) i shape) ⌝ }
+{
+    match shape {
+        Shape::End => false,
+        Shape::Head => false,
+        Shape::Constant => false,
+        Shape::Clause(section, test) => breaks(leaves, section, join_at(bytes, i, test)),
     }
 }
 
@@ -93,22 +109,29 @@ fn lowest_broken(bytes: &[u8], leaves: &[u64; TABLE_WORDS]) -> usize
 {
     let mut count: usize = 0;
     let mut at: usize = 4;
-    loop {
-        let r = commands::read_at(bytes, at);
-        let Step::Take { command, next } = r else {
+    while at < bytes.len() {
+        let entry = table::entry_of(bytes[at]);
+        let Entry::Known(shape) = entry else {
             return count;
         };
-        if questions::is_end(command) {
+        let width = table::operand_count(shape);
+        let from = at + 1;
+        if bytes.len() - from < width {
             return count;
         }
-        if is_first(command) {
-            if is_broken(leaves, command) {
+        if is_end(shape) {
+            return count;
+        }
+        let next = from + width;
+        if is_first(shape) {
+            if is_broken(leaves, bytes, from, shape) {
                 return count;
             }
             count += 1;
         }
         at = next;
     }
+    count
 }
 
 // Judges rows that are as long as they must be, of a question that was read.

@@ -45,7 +45,7 @@ fn accepted(question: Question) -> Reading
     }
 }
 
-pub fn is_end(command: Command) -> bool
+fn is_end(command: Command) -> bool
     ensures { λ r. ⌜ r ≡ isEnd command ⌝ }
 {
     match command {

@@ -1,6 +1,7 @@
 -- `judging::is_broken` meets its contract: only a clause is broken. Assumes nothing.
 use mathlib.Core.Path.{refl}
 use borrow.Author.Needs.{needs}
+use Rattle.format.specs.Format.{commandOf}
 use Rattle.judging.proofs.is_broken.Statement.{statement}
 use Rattle.judging.proofs.is_broken.Tie as tie
 
@@ -13,28 +14,31 @@ enum-told-2 c = search needs
 enum-told-3 : tie.Need-enum-told-3
 enum-told-3 c = search needs
 
-enum-known-command : tie.Need-enum-known-command
-enum-known-command c = search needs
+enum-known-shape : tie.Need-enum-known-shape
+enum-known-shape c = search needs
 
-join-for-requires : tie.Need-join-for-requires
-join-for-requires c κs = search needs
+join-at-requires : tie.Need-join-at-requires
+join-at-requires c κs = (rw (c .before .shape .given .1) at (c .before .before .before .before .pre)) .0
 
 breaks-requires : tie.Need-breaks-requires
-breaks-requires c κs =
-    let start = c .before .before .before .before in
-    rw (c .join-for .ensures) (rw (c .before .before .command .given .1) at (start .pre))
+unfolding commandOf
+breaks-requires c κs = rw (c .join-at .ensures) ((rw (c .before .before .shape .given .1) at (c .before .before .before .before .before .pre)) .1)
 
 returns : tie.Need-returns
-returns c = search needs
+unfolding commandOf
+returns c = rw (c .enum-told .given .1) refl
 
 returns-2 : tie.Need-returns-2
-returns-2 c = search needs
+unfolding commandOf
+returns-2 c = rw (c .enum-told2 .given .1) refl
 
 returns-3 : tie.Need-returns-3
-returns-3 c = search needs
+unfolding commandOf
+returns-3 c = rw (c .enum-told3 .given .1) refl
 
 returns-4 : tie.Need-returns-4
-returns-4 c = rw (c .breaks .ensures, c .before .join-for .ensures, c .before .before .before .command .given .1) refl
+unfolding commandOf
+returns-4 c = rw (c .breaks .ensures, c .before .join-at .ensures, c .before .before .before .shape .given .1) refl
 
 pub is-broken-spec : {M : Type 1} → statement M
 is-broken-spec =
@@ -43,8 +47,8 @@ is-broken-spec =
     enum-told
     enum-told-2
     enum-told-3
-    enum-known-command
-    join-for-requires
+    enum-known-shape
+    join-at-requires
     breaks-requires
     returns
     returns-2

@@ -1,10 +1,12 @@
 -- `judging::lowest_broken` meets its contract. The loop's invariant: the clauses of the first system that were met so far hold. Assumes nothing.
-use mathlib.Core.Path.{sym, _∙_}
-use Prim.Native.Nat.{_-_}
+use mathlib.Core.Path.{_≡_, sym, _∙_}
+use Prim.Native.Nat.{_+_, _-_}
 use native.Mathlib.Omega.{arith}
 use borrow.Author.Needs.{needs}
 use lib.ListN.{length}
-use Rattle.judging.specs.WalkLaws.{Gone, gone-start, lowest-refused, lowest-end, gone-other, gone-fits, lowest-broken, gone-first, moves, first-few}
+use Rattle.format.specs.Format.{commandOf, readAt}
+use Rattle.format.specs.declared.Step.the-variants.{Take}
+use Rattle.judging.specs.WalkLaws.{read-past, read-unknown, read-short, read-take, moves, Gone, gone-start, lowest-refused, lowest-end, gone-other, gone-fits, lowest-broken, gone-first, first-few}
 use Rattle.judging.proofs.lowest_broken.Statement.{statement}
 use Rattle.judging.proofs.lowest_broken.Tie as tie
 
@@ -14,95 +16,117 @@ Inv-loop bytes leaves count₀ at₀ count at = Gone bytes leaves at count
 abbrev μ-loop : tie.MeasureT-loop
 μ-loop bytes leaves count₀ at₀ count at = length bytes - at
 
+-- the command that is read, where it is whole
+took : (c : tie.Else1 Inv-loop μ-loop) → (
+    let at = c .before .before .before .before .before .before .before .before .loop .at in
+    let bytes = c .before .before .before .before .before .before .before .before .before .before .args .bytes .now in
+    readAt bytes at ≡ Take (commandOf bytes (at + 1) (c .before .before .before .entry .given .0 .0)) (at + 1 + c .before .operand-count .result))
+took c =
+    let announced = c .before .before .before .before .before in
+    rw (c .before .operand-count .ensures)
+    (read-take _ _ (announced .before .before .loop-test .taken) _ (sym (announced .entry-of .ensures) ∙ c .before .before .before .entry .given .1)
+    (rw (c .before .operand-count .ensures) at (c .if1 .left)))
+
 loop-holds : tie.Need-loop-holds Inv-loop μ-loop
 loop-holds c = gone-start _ _
 
-read-at-requires : tie.Need-read-at-requires Inv-loop μ-loop
-read-at-requires c κs = search needs
+shared-slice-read-entry-of : tie.Need-shared-slice-read-entry-of Inv-loop μ-loop
+shared-slice-read-entry-of c = search needs
 
-enum-known-r : tie.Need-enum-known-r Inv-loop μ-loop
-enum-known-r c = search needs
+entry-of-requires : tie.Need-entry-of-requires Inv-loop μ-loop
+entry-of-requires c κs = search needs
+
+enum-known-entry : tie.Need-enum-known-entry Inv-loop μ-loop
+enum-known-entry c = search needs
 
 enum-told : tie.Need-enum-told Inv-loop μ-loop
 enum-told c = search needs
 
 returns : tie.Need-returns Inv-loop μ-loop
 returns c =
-    let turn = c .before .before in
-    lowest-refused _ _ (turn .before .loop .inv) _ (sym (turn .read-at .ensures) ∙ c .enum-told .given .1)
+    let test = c .before .before .before .before in
+    lowest-refused _ _ (test .before .loop .inv) 3 (read-unknown _ _ (test .loop-test .taken) (sym (c .before .before .entry-of .ensures) ∙ c .enum-told .given .1))
+
+operand-count-requires : tie.Need-operand-count-requires Inv-loop μ-loop
+operand-count-requires c κs = search needs
+
+add-from : tie.Need-add-from Inv-loop μ-loop
+add-from c = search needs
+
+sub-if1 : tie.Need-sub-if1 Inv-loop μ-loop
+sub-if1 c = search needs
+
+returns-2 : tie.Need-returns-2 Inv-loop μ-loop
+returns-2 c =
+    let announced = c .before .before .before .before .before in
+    let test = announced .before .before in
+    lowest-refused _ _ (test .before .loop .inv) 2
+    (read-short _ _ (test .loop-test .taken) _ (sym (announced .entry-of .ensures) ∙ c .before .before .before .entry .given .1) (rw (c .before .operand-count .ensures) at (c .if1 .taken)))
 
 is-end-requires : tie.Need-is-end-requires Inv-loop μ-loop
 is-end-requires c κs = search needs
 
-returns-2 : tie.Need-returns-2 Inv-loop μ-loop
-returns-2 c =
-    let told = c .before .before .before in
-    let turn = told .before .before in
-    lowest-end _ _ (turn .before .loop .inv) (sym (turn .read-at .ensures) ∙ told .r .given .1) (sym (c .before .is-end .ensures) ∙ c .if1 .taken)
+returns-3 : tie.Need-returns-3 Inv-loop μ-loop
+returns-3 c =
+    let whole = c .before .before in
+    lowest-end _ _ (whole .before .before .before .before .before .before .before .before .loop .inv) (took whole) (sym (c .before .is-end .ensures _ _) ∙ c .if2 .taken)
+
+add-next : tie.Need-add-next Inv-loop μ-loop
+add-next c =
+    let whole = c .before .before in
+    let M = moves _ _ (took whole) in
+    omega (arith, M .1, whole .before .before .before .before .before .before .before .before .before .shared-slice-known .given 0)
 
 is-first-requires : tie.Need-is-first-requires Inv-loop μ-loop
 is-first-requires c κs = search needs
 
 is-broken-requires : tie.Need-is-broken-requires Inv-loop μ-loop
 is-broken-requires c κs =
-    let ended = c .before .before in
-    let told = ended .before .before .before in
-    let turn = told .before .before in
-    let start = turn .before .before .before in
-    gone-fits _ _ (turn .before .loop .inv) (sym (turn .read-at .ensures) ∙ told .r .given .1) (sym (ended .before .is-end .ensures) ∙ ended .if1 .left)
-    (sym (c .before .is-first .ensures) ∙ c .if2 .taken) (start .pre .0) (start .pre .1) .0
+    let whole = c .before .before .before .before in
+    let start = whole .before .before .before .before .before .before .before .before .before .before in
+    let F =
+    gone-fits _ _ (whole .before .before .before .before .before .before .before .before .loop .inv) (took whole)
+    (sym (c .before .before .before .is-end .ensures _ _) ∙ c .before .before .if2 .left) (sym (c .before .is-first .ensures _ _) ∙ c .if3 .taken) (start .pre .0) (start .pre .1) in
+    (omega (arith, moves _ _ (took whole) .1, whole .before .operand-count .ensures), F .0)
 
-returns-3 : tie.Need-returns-3 Inv-loop μ-loop
-returns-3 c =
+returns-4 : tie.Need-returns-4 Inv-loop μ-loop
+returns-4 c =
     let first = c .before .before in
-    let ended = first .before .before in
-    let told = ended .before .before .before in
-    let turn = told .before .before in
-    lowest-broken _ _ (turn .before .loop .inv) (sym (turn .read-at .ensures) ∙ told .r .given .1) (sym (ended .before .is-end .ensures) ∙ ended .if1 .left)
-    (sym (first .before .is-first .ensures) ∙ first .if2 .taken) (sym (c .before .is-broken .ensures) ∙ c .if3 .taken)
+    let whole = first .before .before .before .before in
+    lowest-broken _ _ (whole .before .before .before .before .before .before .before .before .loop .inv) (took whole)
+    (sym (first .before .before .before .is-end .ensures _ _) ∙ first .before .before .if2 .left) (sym (first .before .is-first .ensures _ _) ∙ first .if3 .taken) (sym (c .before .is-broken .ensures) ∙ c .if4 .taken)
 
 add-count : tie.Need-add-count Inv-loop μ-loop
 add-count c =
     let first = c .before .before in
-    let ended = first .before .before in
-    let told = ended .before .before .before in
-    let turn = told .before .before in
-    let start = turn .before .before .before in
+    let whole = first .before .before .before .before in
+    let start = whole .before .before .before .before .before .before .before .before .before .before in
     let F =
-    gone-fits _ _ (turn .before .loop .inv) (sym (turn .read-at .ensures) ∙ told .r .given .1) (sym (ended .before .is-end .ensures) ∙ ended .if1 .left)
-    (sym (first .before .is-first .ensures) ∙ first .if2 .taken) (start .pre .0) (start .pre .1) in
+    gone-fits _ _ (whole .before .before .before .before .before .before .before .before .loop .inv) (took whole)
+    (sym (first .before .before .before .is-end .ensures _ _) ∙ first .before .before .if2 .left) (sym (first .before .is-first .ensures _ _) ∙ first .if3 .taken) (start .pre .0) (start .pre .1) in
     omega (arith, F .1, first-few _ (start .pre .0) (start .pre .1))
 
 loop-less : tie.Need-loop-less Inv-loop μ-loop
-loop-less c =
-    let told = c .before .before .before .before .before .before .before in
-    let turn = told .before .before in
-    let M = moves _ _ (sym (turn .read-at .ensures) ∙ told .r .given .1) in
-    omega (arith, M .0, M .1)
+loop-less c = let M = moves _ _ (took (c .before .before .before .before .before .before)) in omega (arith, M .0, M .1)
 
 loop-again : tie.Need-loop-again Inv-loop μ-loop
 loop-again c =
     let first = c .before .before in
-    let ended = first .before .before in
-    let told = ended .before .before .before in
-    let turn = told .before .before in
-    gone-first _ _ (turn .before .loop .inv) (sym (turn .read-at .ensures) ∙ told .r .given .1) (sym (ended .before .is-end .ensures) ∙ ended .if1 .left)
-    (sym (first .before .is-first .ensures) ∙ first .if2 .taken) (sym (c .before .is-broken .ensures) ∙ c .if3 .left)
+    let whole = first .before .before .before .before in
+    gone-first _ _ (whole .before .before .before .before .before .before .before .before .loop .inv) (took whole)
+    (sym (first .before .before .before .is-end .ensures _ _) ∙ first .before .before .if2 .left) (sym (first .before .is-first .ensures _ _) ∙ first .if3 .taken) (sym (c .before .is-broken .ensures) ∙ c .if4 .left)
 
 loop-less-2 : tie.Need-loop-less-2 Inv-loop μ-loop
-loop-less-2 c =
-    let told = c .before .before .before .before .before in
-    let turn = told .before .before in
-    let M = moves _ _ (sym (turn .read-at .ensures) ∙ told .r .given .1) in
-    omega (arith, M .0, M .1)
+loop-less-2 c = let M = moves _ _ (took (c .before .before .before .before)) in omega (arith, M .0, M .1)
 
 loop-again-2 : tie.Need-loop-again-2 Inv-loop μ-loop
 loop-again-2 c =
-    let ended = c .before .before in
-    let told = ended .before .before .before in
-    let turn = told .before .before in
-    gone-other _ _ (turn .before .loop .inv) (sym (turn .read-at .ensures) ∙ told .r .given .1) (sym (ended .before .is-end .ensures) ∙ ended .if1 .left)
-    (sym (c .before .is-first .ensures) ∙ c .if2 .left)
+    let whole = c .before .before .before .before in
+    gone-other _ _ (whole .before .before .before .before .before .before .before .before .loop .inv) (took whole)
+    (sym (c .before .before .before .is-end .ensures _ _) ∙ c .before .before .if2 .left) (sym (c .before .is-first .ensures _ _) ∙ c .if3 .left)
+
+returns-5 : tie.Need-returns-5 Inv-loop μ-loop
+returns-5 c = lowest-refused _ _ (c .before .loop .inv) 2 (read-past _ _ (c .loop-test .left))
 
 pub lowest-broken-spec : {M : Type 1} → statement M
 lowest-broken-spec =
@@ -111,17 +135,24 @@ lowest-broken-spec =
     Inv-loop
     μ-loop
     loop-holds
-    read-at-requires
-    enum-known-r
+    shared-slice-read-entry-of
+    entry-of-requires
+    enum-known-entry
     enum-told
     returns
-    is-end-requires
+    operand-count-requires
+    add-from
+    sub-if1
     returns-2
+    is-end-requires
+    returns-3
+    add-next
     is-first-requires
     is-broken-requires
-    returns-3
+    returns-4
     add-count
     loop-less
     loop-again
     loop-less-2
-    loop-again-2)
+    loop-again-2
+    returns-5)
