@@ -1,5 +1,6 @@
 -- `judging::breaks` meets its contract: one section after the other. Assumes nothing.
-use mathlib.Core.Path.{refl}
+use mathlib.Core.Path.{refl, ap}
+use mathlib.Core.Bool.{not}
 use borrow.Author.Needs.{needs}
 use Rattle.judging.proofs.breaks.Statement.{statement}
 use Rattle.judging.proofs.breaks.Tie as tie
@@ -20,7 +21,7 @@ enum-told-4 : tie.Need-enum-told-4
 enum-told-4 c = search needs
 
 returns : tie.Need-returns
-returns c = rw (c .enum-told .given .1, c .before .before .everywhere .ensures) refl
+returns c = rw (c .enum-told .given .1) (ap not (c .before .before .everywhere .ensures))
 
 returns-2 : tie.Need-returns-2
 returns-2 c = rw (c .enum-told2 .given .1, c .before .before .everywhere .ensures) refl

@@ -1,4 +1,5 @@
 -- `zimorgal::judgement_number` gives the number of a judgement. Assumes nothing.
+use mathlib.Core.Path.{refl}
 use native.Mathlib.Omega.{arith}
 use borrow.Author.Needs.{needs}
 use Rattle.zimorgal.proofs.judgement_number.Statement.{statement}
@@ -40,13 +41,13 @@ returns : tie.Need-returns
 returns c = rw (c .before .before .judgement .given .1) (omega (arith, c .wide .ensures .0))
 
 returns-2 : tie.Need-returns-2
-returns-2 c = search needs
+returns-2 c = rw (c .enum-told .given .1) refl
 
 returns-3 : tie.Need-returns-3
 returns-3 c = rw (c .before .judgement2 .given .1) (omega arith)
 
 returns-4 : tie.Need-returns-4
-returns-4 c = search needs
+returns-4 c = rw (c .enum-told2 .given .1) refl
 
 pub judgement-number-spec : {M : Type 1} → statement M
 judgement-number-spec =
