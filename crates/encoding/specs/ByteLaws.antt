@@ -24,6 +24,7 @@ use Rattle.format.specs.Format.{entryOf, termCount, operands, termByte, command
 use Rattle.format.specs.FormatLaws.{term-small, branch, size}
 use Rattle.format.specs.KeepingLaws.{Bytes, take-bytes, command-proper}
 use Rattle.encoding.specs.Encode.{clauseByte, commandByte, lowestBytes, constantBytes, shapeOf, operandBytes, encodeCommand}
+use Rattle.encoding.specs.Worked
 
 -- ---- a number's bytes
 

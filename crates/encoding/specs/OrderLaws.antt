@@ -17,6 +17,7 @@ use Rattle.format.specs.declared.Step.{Step}
 use Rattle.format.specs.declared.Step.the-variants.{Take, Refused}
 use Rattle.format.specs.Format.{refused, accepted, readAt, atomOf, fault, judged, withClause, taken, ended, onward, turn, following, run, opened, headOf, afterHead, read}
 use Rattle.encoding.specs.Order.{readOn, commandsFrom, commandsOf, firstSaid, secondSaid, firstClause, secondClause, firstClauses, secondClauses}
+use Rattle.encoding.specs.Worked
 
 -- ---- what a command adds to each system
 

@@ -14,6 +14,7 @@ use Rattle.format.specs.Format.{Result, refused, accepted, read}
 use Rattle.format.specs.FormatLaws.{longest, refusal-number, refusal-place}
 use Rattle.rows.specs.Rows.{rowBytes, answerBytes}
 use Rattle.judging.specs.Judging.{turnedAway, judged, isZero, handedTo, judgedWith}
+use Rattle.judging.specs.Worked
 
 -- ---- parts whose bytes are 0
 

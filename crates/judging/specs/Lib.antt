@@ -1,5 +1,6 @@
 pub mod Judging
 pub mod Exactly
+pub mod Worked
 pub mod Walk
 pub mod CaseLaws
 pub mod ModelLaws

@@ -30,6 +30,7 @@ use Rattle.rows.specs.Rows.{rowLevels, rowLeaf, rowPart}
 use Rattle.asking.specs.Demand3.{rowShares}
 use Rattle.judging.specs.Judging.{judged, rowAt, everywhere, clauseMet, noClause, clauseOf, lowestBroken, choices, extendsAt, unbroken, judgementOf}
 use Rattle.judging.specs.Exactly.{BrokenAt, ExtendsToo, Exactly}
+use Rattle.judging.specs.Worked
 use Rattle.judging.specs.declared.Judgement.{Judgement}
 use Rattle.judging.specs.declared.Judgement.the-variants.{Refused, Accepted, Broken, Extending}
 

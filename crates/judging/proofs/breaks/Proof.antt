@@ -1,5 +1,5 @@
 -- `judging::breaks` meets its contract: one section after the other. Assumes nothing.
-use mathlib.Core.Path.{refl, ap}
+use mathlib.Core.Path.{ap}
 use mathlib.Core.Bool.{not}
 use borrow.Author.Needs.{needs}
 use Rattle.judging.proofs.breaks.Statement.{statement}
@@ -24,7 +24,7 @@ returns : tie.Need-returns
 returns c = rw (c .enum-told .given .1) (ap not (c .before .before .everywhere .ensures))
 
 returns-2 : tie.Need-returns-2
-returns-2 c = rw (c .enum-told2 .given .1, c .before .before .everywhere .ensures) refl
+returns-2 c = rw (c .enum-told2 .given .1) (c .before .before .everywhere .ensures)
 
 returns-3 : tie.Need-returns-3
 returns-3 c = search needs

@@ -1,0 +1,71 @@
+-- Rows judged by hand, computed: constants of one leaf, so rows of 32. Assumes nothing.
+use mathlib.Core.Path.{_≡_, refl}
+use mathlib.Core.List.{List, [], _∷_, _++_}
+use Prim.Native.Nat.{ℕ}
+use Rattle.shares.specs.Below.{everyBelow, someBelow, firstBelow}
+use Rattle.shares.specs.Tree.{joinLeaf, joins}
+use Rattle.shares.specs.Constant.{bit}
+use Rattle.leaves.specs.Choices.{someChoice, at, table, pickRow}
+use Rattle.leaves.specs.Problem.{plainAt, specialAt, solvable}
+use Rattle.systems.specs.Clauses.{variable, joined, equal, isFull, isEmpty, positive, negated, System, positives, disequations}
+use Rattle.systems.specs.Questions.{Kind, satisfiability, entailment, Question}
+use Rattle.systems.specs.AtLeaves.{termAt, partAt, readingAt, allAt, bothAt}
+use Rattle.format.specs.Format.{accepted}
+use Rattle.rows.specs.Rows.{rowLeaf, rowRange, rowPart, zeros}
+use Rattle.judging.specs.Judging.{turnedAway, judged, isZero, handedTo, everywhere, judgementOf}
+use Rattle.judging.specs.declared.Judgement.the-variants.{Accepted, Broken, Extending}
+
+-- ---- the questions
+
+-- without constants
+abbrev asks : Kind → ℕ → ℕ → System → System → Question
+asks kind free own first second =
+    record { kind = kind; free = free; own = own; constants = record { levels = 0; numbers = [] }; first = first; second = second }
+
+-- v0 is not v1; v0 is full
+abbrev unlike : Question
+unlike = asks satisfiability 2 0 (negated (equal (variable 0) (variable 1)) ∷ positive (isFull (variable 0)) ∷ []) []
+
+-- v0 is not empty; entails: it is full
+abbrev whole : Question
+whole = asks entailment 1 0 (negated (isEmpty (variable 0)) ∷ []) (positive (isFull (variable 0)) ∷ [])
+
+-- v0 is not empty; entails: it is the join of two own shares, neither of which is empty
+abbrev parted : Question
+parted =
+    asks entailment 1 2 (negated (isEmpty (variable 0)) ∷ [])
+    (positive (joined (variable 1) (variable 2) (variable 0)) ∷ negated (isEmpty (variable 1)) ∷ negated (isEmpty (variable 2)) ∷ [])
+
+-- ---- the rows, four bytes each
+
+-- a full row; the same without its last leaf; that leaf alone
+abbrev full : List ℕ
+full = 0xFF ∷ 0xFF ∷ 0xFF ∷ 0xFF ∷ []
+
+abbrev less : List ℕ
+less = 0xFF ∷ 0xFF ∷ 0xFF ∷ 0x7F ∷ []
+
+abbrev last : List ℕ
+last = 0x00 ∷ 0x00 ∷ 0x00 ∷ 0x80 ∷ []
+
+-- those of v0 and v1, and zero for the others
+abbrev rowsWith : List ℕ → List ℕ → List ℕ
+rowsWith r s = r ++ (s ++ zeros 40)
+
+-- ---- what is given
+
+-- the disequation stands first, so it is clause 0, and one leaf will do for it; the positive clause is asked at every leaf
+pub first-judged : (judgementOf (judged unlike) (rowsWith full full) ≡ Broken 0)
+    × (judgementOf (judged unlike) (rowsWith full less) ≡ Accepted) × (judgementOf (judged unlike) (rowsWith less full) ≡ Broken 1)
+unfolding everyBelow firstBelow joinLeaf joins bit positives disequations termAt partAt readingAt rowLeaf rowRange rowPart zeros everywhere
+first-judged = (refl, refl, refl)
+
+-- one leaf is not full; but it is the join of its two halves, which are taller than the rows
+pub second-judged : (judgementOf (judged whole) (rowsWith last (zeros 4)) ≡ Accepted) × (judgementOf (judged parted) (rowsWith last (zeros 4)) ≡ Extending)
+unfolding everyBelow someBelow firstBelow joinLeaf joins bit someChoice at table pickRow plainAt specialAt solvable positives disequations termAt partAt readingAt allAt bothAt rowLeaf rowRange rowPart zeros everywhere
+second-judged = (refl, refl)
+
+-- rows of another length are 18, whatever is set in them; a bit in the row of an own variable is 19
+pub turned-away : (handedTo (accepted parted) (full ++ last) ≡ turnedAway 18 0) × (handedTo (accepted parted) (rowsWith full last) ≡ turnedAway 19 0)
+unfolding isZero zeros
+turned-away = (refl, refl)
