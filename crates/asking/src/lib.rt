@@ -118,7 +118,7 @@ pub fn ask(question: &[u8], answer: &mut [u8], work: &mut [u8]) -> Outcome
     if work.len() < WORK_BYTES {
         return refused(12, 0);
     }
-    let sizes = decide::sizes_of(reading.question);
+    let sizes = decide::sizes_of(reading.question, &reading.question.constants);
     let mut firsts = [0u64; 128];
     let finding = decide::decide(reading.question, sizes, &clauses, &mut firsts);
     show_solution(answer, sizes, finding, &firsts);

@@ -52,16 +52,17 @@ fn question_height(constants: &[u64; 32], defined: usize) -> usize
     shares::unlike_height(leaves) as usize
 }
 
-// The numbers of a question, with its height.
-pub fn sizes_of(question: Question) -> Sizes
-    requires { ⌜ ((q : Asked) × StandsFor question q) ⌝ }
+// The numbers of a question, with its height. Its constants are lent beside it, so that they are not copied.
+pub fn sizes_of(question: Question, constants: &[u64; 32]) -> Sizes
+    requires { ⌜ (now constants ≡ question .constants) × ((q : Asked) × StandsFor question q) ⌝ }
     ensures { λ r. ⌜ r ≡ sizesOf question ⌝ }
 {
-    let height = question_height(&question.constants, question.defined);
+    let height = question_height(constants, question.defined);
+    let counts = question.counts;
     Sizes {
         free: question.free,
         own: question.own,
-        counts: question.counts,
+        counts,
         defined: question.defined,
         height,
     }

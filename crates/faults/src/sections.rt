@@ -19,13 +19,15 @@ pub fn section_number(section: Section) -> usize
 }
 
 // Where each section starts among the clauses' bytes.
-const STARTS: [usize; 4] = [0, FIRST_DISEQUATIONS, SECOND_POSITIVES, SECOND_DISEQUATIONS];
-
 pub fn section_start(section: Section) -> usize
     ensures { λ r. ⌜ r ≡ sectionStart section ⌝ }
 {
-    let i = section_number(section);
-    STARTS[i]
+    match section {
+        Section::FirstPositive => 0,
+        Section::FirstDisequation => FIRST_DISEQUATIONS,
+        Section::SecondPositive => SECOND_POSITIVES,
+        Section::SecondDisequation => SECOND_DISEQUATIONS,
+    }
 }
 
 // How many clauses a section may have.

@@ -4,7 +4,7 @@ use mathlib.Core.List.{List, [], _∷_, _++_, append-nil}
 use mathlib.Core.Logic.{_⊎_, inl, inr, _≢_}
 use Prim.Native.Nat.{ℕ, suc, _+_, _*_, _≤_, _<_}
 use native.Mathlib.Omega.{arith}
-use lib.ListN.{length, getD, length-append}
+use lib.ListN.{length, length-append}
 use Rattle.systems.specs.Clauses.{Atom, positive, negated, System, positives, disequations}
 use Rattle.systems.specs.Questions.{Question}
 use Rattle.format.specs.declared.Section.{Section}
@@ -131,10 +131,3 @@ variables-le free own FirstPositive = omega arith
 variables-le free own FirstDisequation = omega arith
 variables-le free own SecondPositive = omega arith
 variables-le free own SecondDisequation = omega arith
-
--- the starts as a list
-pub section-starts : (σ : Section) → getD (0 ∷ 256 ∷ 384 ∷ 640 ∷ []) (sectionNumber σ) 0 ≡ sectionStart σ
-section-starts FirstPositive = refl
-section-starts FirstDisequation = refl
-section-starts SecondPositive = refl
-section-starts SecondDisequation = refl

@@ -154,7 +154,7 @@ fn judge_rows(
     if question.kind == 0 {
         return Judgement::Accepted;
     }
-    let sizes = decide::sizes_of(question);
+    let sizes = decide::sizes_of(question, &question.constants);
     if extending::extends(&leaves, clauses, sizes, &question.constants) {
         return Judgement::Extending;
     }

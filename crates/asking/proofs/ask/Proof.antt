@@ -1,4 +1,5 @@
 -- `asking::ask` meets its contract: each refusal by what was read and the lengths, an answer by what was decided. Assumes nothing.
+use mathlib.Core.Path.{refl}
 use lib.ListN.{length}
 use Rattle.format.specs.Callers.{Taken, answer-taken, answer-refused, levels-are}
 use Rattle.asking.specs.AskingLaws.{asked-refused, asked-11, asked-12}
@@ -16,7 +17,7 @@ refused-requires c κs = search needs
 
 returns : tie.Need-returns
 returns c =
-    let reading = c .before .before .before in
+    let reading = c .before .before in
     let start = reading .before .before .before .before .before .args in
     let E = answer-refused (start .question .now) _ (reading .read .ensures .0) (c .before .if1 .taken) in
     given-refused (start .question .now) (start .answer .now) (start .work .now) _ _
@@ -27,7 +28,7 @@ refused-requires-2 c κs = search needs
 
 returns-2 : tie.Need-returns-2
 returns-2 c =
-    let reading = c .before .before .before .before in
+    let reading = c .before .before .before in
     let start = reading .before .before .before .before .before .args in
     let T = answer-taken (start .question .now) _ (reading .read .ensures .0) _ (reading .read .ensures .1 .1) (c .before .before .if1 .left) in
     given-refused (start .question .now) (start .answer .now) (start .work .now) 11 0
@@ -39,7 +40,7 @@ refused-requires-3 c κs = search needs
 
 returns-3 : tie.Need-returns-3
 returns-3 c =
-    let reading = c .before .before .before .before .before in
+    let reading = c .before .before .before .before in
     let start = reading .before .before .before .before .before .args in
     let T = answer-taken (start .question .now) _ (reading .read .ensures .0) _ (reading .read .ensures .1 .1) (c .before .before .before .if1 .left) in
     given-refused (start .question .now) (start .answer .now) (start .work .now) 12 0
@@ -48,29 +49,31 @@ returns-3 c =
 
 -- what was read, once the tests are passed
 taken : (c : tie.Else3) → (
-    let reading = c .before .before .before .before in
+    let reading = c .before .before .before in
     Taken (reading .before .before .before .before .before .args .question .now) (reading .read .result) (reading .read .last .1 .0))
 taken c =
-    let reading = c .before .before .before .before in
+    let reading = c .before .before .before in
     answer-taken (reading .before .before .before .before .before .args .question .now) _ (reading .read .ensures .0) _ (reading .read .ensures .1 .1) (c .before .before .if1 .left)
 
 sizes-of-requires : tie.Need-sizes-of-requires
-sizes-of-requires c κs = let T = taken c in (T .question, record { clauses = _; stands = T .stands })
+sizes-of-requires c κs = let T = taken (c .before .before .before) in (refl, (T .question, record { clauses = _; stands = T .stands }))
 
 decide-requires : tie.Need-decide-requires
 decide-requires c κs =
-    let T = taken (c .before .before .before) in
-    ((T .question, T .stands, T .formed), c .before .before .sizes-of .ensures)
+    let sized = c .before .before .before in
+    let T = taken (sized .before .before .before .before) in
+    ((T .question, T .stands, T .formed), sized .sizes-of .ensures)
 
 show-solution-requires : tie.Need-show-solution-requires
 show-solution-requires c κs =
-    let passed = c .before .before .before .before .before .before in
+    let sized = c .before .before .before .before .before .before in
+    let passed = sized .before .before .before .before in
     let T = taken passed in (
       passed .before .if2 .left,
       (
         T .question,
         record {
-          sizing = record { question = _; standing = record { clauses = _; stands = T .stands }; sized = c .before .before .before .before .before .sizes-of .ensures };
+          sizing = record { question = _; standing = record { clauses = _; stands = T .stands }; sized = sized .sizes-of .ensures };
           decided = c .before .before .decide .ensures (T .question) (T .stands) (T .formed);
         },
       ),
@@ -81,8 +84,8 @@ clear-work-requires c κs = search needs
 
 found-requires : tie.Need-found-requires
 found-requires c κs =
-    let sizes = c .before .before .before .before .before .before .before .before .before .before .before .before in
-    let T = taken (sizes .before) in
+    let sizes = c .before .before .before .before .before .before .before .before .before .before .before .before .before in
+    let T = taken (sizes .before .before .before .before) in
     (T .question, record { question = _; standing = record { clauses = _; stands = T .stands }; sized = sizes .sizes-of .ensures })
 
 same-length : tie.Need-same-length
@@ -95,13 +98,14 @@ returns-4 : tie.Need-returns-4
 returns-4 c =
     let shown = c .before .before .before .before .before .before .before in
     let found = shown .before .before .before in
-    let passed = found .before .before .before .before in
-    let start = passed .before .before .before .before .before .before .before .before .before .args in
+    let sized = found .before .before .before .before in
+    let passed = sized .before .before .before .before in
+    let start = passed .before .before .before .before .before .before .before .before .args in
     let T = taken passed in
     given-answer (start .question .now) (start .answer .now) (start .work .now) _ _ T
     (rw (levels-are _ _ (T .stands)) (passed .before .if2 .left)) (passed .if3 .left) _ _ _
     (record {
-      sizing = record { question = _; standing = record { clauses = _; stands = T .stands }; sized = found .before .before .before .sizes-of .ensures };
+      sizing = record { question = _; standing = record { clauses = _; stands = T .stands }; sized = sized .sizes-of .ensures };
       decided = found .decide .ensures (T .question) (T .stands) (T .formed);
     })
     _ (c .found .ensures) _ (shown .show-solution .ensures) _ (c .before .before .before .clear-work .ensures)

@@ -1,4 +1,5 @@
 -- `judging::judge_rows` meets its contract: a broken clause first, then whether the rows extend. Assumes nothing.
+use mathlib.Core.Path.{refl}
 use native.Mathlib.Omega.{arith}
 use borrow.Author.Needs.{needs}
 use Rattle.shares.specs.NumberLaws.{zero-at}
@@ -40,28 +41,30 @@ returns-2 c q e St =
 
 sizes-of-requires : tie.Need-sizes-of-requires
 sizes-of-requires c κs =
-    let start = c .before .before .before .before .before .before .before .before .before .before .before .before in
-    (start .pre .1 .0, record { clauses = _; stands = start .pre .1 .2 })
+    let start = c .before .before .before .before .before .before .before .before .before .before .before .before .before .before in
+    (refl, (start .pre .1 .0, record { clauses = _; stands = start .pre .1 .2 }))
 
 extends-requires : tie.Need-extends-requires
 extends-requires c κs =
-    let start = c .before .before .before .before .before .before .before .before .before .before .before .before .before .before .before .before in
+    let start = c .before .before .before .before .before .before .before .before .before .before .before .before .before .before .before .before .before .before in
     sizes-readable _ _ (start .args .rows .now) (start .pre .1 .0) (start .pre .1 .2) _ (c .before .before .before .sizes-of .ensures)
 
 returns-3 : tie.Need-returns-3
 returns-3 c q e St =
     let sized = c .before .before .before .before .before in
-    let walked = sized .before .before .before .before .before in
+    let unbroken = sized .before .before .before in
+    let walked = unbroken .before .before .before .before in
     let U = walked .before .before .«unfold» .ensures in
-    rows-extending _ _ _ q St (accepted-formed _ q e) _ (walked .lowest-broken .ensures q _ _ _ e (laid _ _ _ q St _ U)) (sized .before .before .if1 .left) (sized .before .if2 .left) _
+    rows-extending _ _ _ q St (accepted-formed _ q e) _ (walked .lowest-broken .ensures q _ _ _ e (laid _ _ _ q St _ U)) (unbroken .before .if1 .left) (unbroken .if2 .left) _
     (extends-found _ _ _ q St _ (sized .sizes-of .ensures) _ U _ (c .before .extends .ensures)) (c .if3 .taken)
 
 returns-4 : tie.Need-returns-4
 returns-4 c q e St =
     let sized = c .before .before .before .before .before in
-    let walked = sized .before .before .before .before .before in
+    let unbroken = sized .before .before .before in
+    let walked = unbroken .before .before .before .before in
     let U = walked .before .before .«unfold» .ensures in
-    rows-accepted _ _ _ q St (accepted-formed _ q e) _ (walked .lowest-broken .ensures q _ _ _ e (laid _ _ _ q St _ U)) (sized .before .before .if1 .left) (sized .before .if2 .left) _
+    rows-accepted _ _ _ q St (accepted-formed _ q e) _ (walked .lowest-broken .ensures q _ _ _ e (laid _ _ _ q St _ U)) (unbroken .before .if1 .left) (unbroken .if2 .left) _
     (extends-found _ _ _ q St _ (sized .sizes-of .ensures) _ U _ (c .before .extends .ensures)) (c .if3 .left)
 
 pub judge-rows-spec : {M : Type 1} → statement M
