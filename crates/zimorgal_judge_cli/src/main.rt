@@ -3,6 +3,7 @@ use judging::Judgement;
 use libc::STDERR_FILENO;
 use libc::STDIN_FILENO;
 use libc::STDOUT_FILENO;
+ghost use Rattle.io.specs.Counts.{Counts};
 
 // Each of these writes to standard output, stops at the first write that fails, and says whether all was written.
 fn say_bytes(bytes: &[u8]) -> bool {
@@ -36,11 +37,21 @@ fn is_all(read: usize, room: usize) -> bool {
     read == room || libc::read(STDIN_FILENO, &mut rest) == 0
 }
 
+// Reads the question, and gives its length. Where the rows are not all there, input has ended and there is none: on a terminal it could go on.
+fn read_question(rows: usize, question: &mut [u8]) -> usize
+    ensures { λ r. ⌜ Counts r (now (question .exit)) ⌝ }
+{
+    if rows < 1536 {
+        return 0;
+    }
+    io::read_full(STDIN_FILENO, question)
+}
+
 fn main() {
     let mut rows = [0u8; 1536];
     let mut question = [0u8; 1024];
     let m = io::read_full(STDIN_FILENO, &mut rows);
-    let n = io::read_full(STDIN_FILENO, &mut question);
+    let n = read_question(m, &mut question);
     if !is_all(n, 1024) {
         io::write_all(
             STDERR_FILENO,
