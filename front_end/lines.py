@@ -146,3 +146,17 @@ class Line:
             raise TextFault(fault.what, self.number, column) from None
         except TreeFault as fault:
             raise TextFault(fault.what, self.number, column + fault.at) from None
+
+
+def word_lines(text):
+    """The lines of a text that have words."""
+    for number, code in code_lines(text):
+        line = Line(number, code)
+        if line.peek():
+            yield line
+
+
+def text_end(text):
+    """Where a text ends, but for a comment: its last line and the column behind it."""
+    [(_, code)] = code_lines(text.rpartition("\n")[2])
+    return text.count("\n") + 1, len(code) + 1

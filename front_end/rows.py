@@ -3,15 +3,17 @@
 import re
 
 from front_end.files import LONG_NAME, quote, shown
-from front_end.lines import NAME, Line, TextFault, code_lines
+from front_end.lines import NAME, TextFault, text_end, word_lines
 from front_end.question import COMMANDS, CONSTANTS, JOIN, MOST_VARIABLES
-from front_end.text import CONSTANT_DUE, KEPT, NO_SHARE, read_joined, starts_tree
+from front_end.text import CONSTANT_DUE, KEPT, decode, no_share, read_joined
 from front_end.trees import TALLEST_ROW, join, unfold
 
 ROW_BYTES = (1 << TALLEST_ROW) // 8
 ROWS_BYTES = MOST_VARIABLES * ROW_BYTES
 # The lines of an answer that are no rows.
 PASSED_OVER = re.compile(r"answer (yes|no)|height \d{1,2}|reason \d( \d{1,2})?", re.ASCII)
+IN_BYTES = ("these are rows in bytes, and no text: the judging program reads them, and behind them what './ask --bytes FILE' writes "
+            "(joins inside a clause of the first system have rows too)")
 
 FORM = """Rows to be judged, with --judge: one free variable a line, by the question's names, each once; '#' starts a comment.
 
@@ -31,16 +33,18 @@ class RowsReader:
         self.constants = {name: unfold(leaves) for name, leaves in asked.constants.items()}
         self.rows = {}  # the leaves of each variable that was read
         self.lines = {}  # and its line
+        self.passed = {}  # the last line that was passed over, from its first word
 
     def read(self, line):
         """Reads a line. With '=' it is never one that is passed over, so that any name and any constant can be written."""
         if PASSED_OVER.fullmatch(str(line)):
+            self.passed[line.peek()] = line
             return
         name = self.read_name(line)
         if line.peek() == "is":
             raise line.due("'=' or a tree", ": write '=' for it")
         line.skip("=")
-        self.rows[name] = read_joined(line, self.read_constant, TALLEST_ROW)
+        self.rows[name] = read_joined(line, self.constants, self.no_constant, TALLEST_ROW)
         self.lines[name] = line.number
 
     def read_name(self, line):
@@ -63,45 +67,50 @@ class RowsReader:
         free = f"its free variables are {', '.join(self.free)}" if self.free else "it has no free variable"
         return f"the question names nothing {quote(word)}: {shown(free)}"
 
-    def read_constant(self, line):
-        """Takes a tree text or the name of a constant, and gives its leaves."""
-        word = line.peek()
-        if starts_tree(word):
-            return line.take_tree(TALLEST_ROW)
-        if word not in self.constants:
-            raise self.no_constant(line, word)
-        line.take("a constant")
-        return self.constants[word]
-
     def no_constant(self, line, word):
         """The fault of a word that is no constant, where a share is due."""
         due = CONSTANT_DUE[0]
-        if word in ("0", "1"):
-            return line.fault(NO_SHARE.format(word))
-        if not NAME.fullmatch(word) or word in KEPT:
-            return line.no_name(due)
-        if word in self.free + self.own:
-            return line.fault(f"{due} is due here, and {quote(word)} is a variable")
-        return line.fault(f"{due} is due here, and the question has no constant {quote(word)}")
+        if word.endswith((",", ";")):
+            return line.due(due, f": a line has one variable and its share, and no '{word[-1]}' behind them")
+        what = f"{quote(word)} is a variable" if word in self.free + self.own else f"the question has no constant {quote(word)}"
+        return no_share(line, word, due) or line.fault(f"{due} is due here, and {what}")
 
-    def finish(self, number, column):
+    def finish(self, text):
         """Raises a fault, at the end of the text, if a free variable has no row."""
         missing = [name for name in self.free if name not in self.rows]
         if missing:
             lines = "a line for it is" if len(missing) == 1 else "a line for each is"
-            raise TextFault(f"no row for {shown(', '.join(missing), LONG_NAME)}: {lines} due before the text ends", number, column)
+            passed = "".join(map(self.passed_over, missing))
+            raise TextFault(f"no row for {shown(', '.join(missing), LONG_NAME)}: {lines} due before the text ends{passed}", *text_end(text))
+
+    def passed_over(self, name):
+        """What is said of a line that starts with that name and was passed over, if there is one: where it can be a row, how to write it."""
+        if name not in self.passed:
+            return ""
+        line = self.passed[name]
+        share = line.rest(1)
+        return f", and line {line.number} was passed over" + (f": write '{name} = {share}'" if share in self.constants else "")
 
 
-def read_rows(text, asked):
-    """The leaves of each free variable of what a text asks, in order, from a text of rows."""
-    if "\0" in text and len(text.encode("utf-8", "surrogateescape")) == ROWS_BYTES:
-        raise TextFault("these are rows in bytes, and no text: the judging program reads them, and behind them what './ask --bytes FILE' writes", 1, 1)
+def in_bytes(string):
+    """Whether rows seem to be in bytes: there are as many, with a byte 00 among them or no UTF-8."""
+    try:
+        return len(string) == ROWS_BYTES and "\0" in string.decode()
+    except UnicodeDecodeError:
+        return True
+
+
+def read_rows(string, asked):
+    """The leaves of each free variable of what a text asks, in order, from the bytes of a text of rows. A comment may have any bytes, so only
+    what is wrong as a text is taken for rows in bytes."""
     reader = RowsReader(asked)
-    for number, code in code_lines(text):
-        line = Line(number, code)
-        if line.peek():
+    try:
+        text = decode(string)
+        for line in word_lines(text):
             reader.read(line)
-    reader.finish(number, len(code) + 1)
+        reader.finish(text)
+    except TextFault as fault:
+        raise TextFault(IN_BYTES, 1, 1) if in_bytes(string) else fault from None
     return with_joins(asked.question, [reader.rows[name] for name in reader.free])
 
 

@@ -1,7 +1,7 @@
 """Questions as readable text, both ways."""
 
 from front_end.files import LONG_NAME, LONG_WORD, quote, shown
-from front_end.lines import NAME, NAME_DUE, Line, TextFault, code_lines
+from front_end.lines import NAME, NAME_DUE, Line, TextFault, word_lines
 from front_end.question import (CLAUSES, COMMANDS, CONSTANTS, EQUAL, JOIN, MAY_READ, MAY_WRITE, MOST_VARIABLES, NO_JOIN, UNEQUAL, WITH, Fault,
                                 Question)
 from front_end.trees import TALLEST, join, write_tree
@@ -93,15 +93,36 @@ def granted(line, right):
     return TWICE.format(f"{shown(' '.join(side))} may {right}")
 
 
-def read_joined(line, read_constant, height=TALLEST):
-    """Takes constants with 'join' between them, to the end of the line, and gives the leaves of their join; 'read_constant' takes one."""
-    so_far = read_constant(line)
+def no_share(line, word, due):
+    """The fault of a word that cannot be the name of a share, where something is due; None if it can be."""
+    if word in ("0", "1"):
+        return line.fault(NO_SHARE.format(word))
+    if not NAME.fullmatch(word) or word in KEPT:
+        return line.no_name(due)
+    return None
+
+
+def read_constant(line, constants, no_constant, tallest):
+    """Takes a tree text or the name of a constant, and gives its leaves. 'constants' has the leaves of those with a name, 'no_constant' gives
+    the fault of any other word."""
+    word = line.peek()
+    if starts_tree(word):
+        return line.take_tree(tallest)
+    if word not in constants:
+        raise no_constant(line, word)
+    line.take("a constant")
+    return constants[word]
+
+
+def read_joined(line, constants, no_constant, tallest=TALLEST):
+    """Takes constants with 'join' between them, to the end of the line, and gives the leaves of their join."""
+    so_far = read_constant(line, constants, no_constant, tallest)
     while line.skip("join"):
         word, column = line.peek(), line.column()
-        leaves = read_constant(line)
+        leaves = read_constant(line, constants, no_constant, tallest)
         joined = join(so_far, leaves)
         if joined is None:
-            before, common = (shown(write_tree(share, height)) for share in (so_far, so_far & leaves))
+            before, common = (shown(write_tree(share, tallest)) for share in (so_far, so_far & leaves))
             what = f"the join is undefined: {quote(word)} and what stands before it, '{before}', have the common part '{common}'"
             raise TextFault(what, line.number, column)
         so_far = joined
@@ -180,17 +201,7 @@ class TextReader:
         name = self.read_name(line)
         line.expect("=")
         with line.here():
-            self.lets[name] = self.question.define(read_joined(line, self.read_constant))
-
-    def read_constant(self, line):
-        """Takes a tree text or the name of a constant, and gives its leaves."""
-        word = line.peek()
-        if starts_tree(word):
-            return line.take_tree()
-        if word not in self.lets:
-            raise self.no_constant(line, word)
-        line.take("a constant")
-        return self.question.constants[self.lets[word] - CONSTANTS]
+            self.lets[name] = self.question.define(read_joined(line, self.named_constants(), self.no_constant))
 
     def named_constants(self):
         """The leaves of each constant that has a name."""
@@ -343,10 +354,9 @@ class TextReader:
 
     def unknown(self, line, word, due, cure):
         """The fault of a word that is no share, where one is due; 'cure' says how a name comes to be one."""
-        if word in ("0", "1"):
-            return line.fault(NO_SHARE.format(word))
-        if not NAME.fullmatch(word) or word in KEPT:
-            return line.no_name(due)
+        fault = no_share(line, word, due)
+        if fault:
+            return fault
         if line.peek(1) == "=":
             return line.fault(f"nothing is named {quote(word)}: a constant is defined by 'let', before the first clause: "
                               f"write 'let {shown(word, LONG_NAME)} = {shown(self.joined_or_example(line), LONG_NAME)}'")
@@ -357,7 +367,7 @@ class TextReader:
         joined = line.rest(2)
         try:
             if "=" not in joined:
-                read_joined(Line(line.number, joined), self.read_constant)
+                read_joined(Line(line.number, joined), self.named_constants(), self.no_constant)
                 return joined
         except TextFault:
             pass
@@ -404,10 +414,8 @@ def read_text(text):
     if text[:1] == "\x01":
         raise TextFault("this is a question in bytes, and no text: './explain' makes a text of it", 1, 1)
     reader = TextReader()
-    for number, code in code_lines(text):
-        line = Line(number, code)
-        if line.peek():
-            reader.read(line)
+    for line in word_lines(text):
+        reader.read(line)
     if reader.question is None:
         raise TextFault("the text asks nothing: 'satisfiable' or 'entails' is due in its first line", 1, 1)
     return Asked(reader.question, reader.names(), reader.clauses, reader.named_constants())

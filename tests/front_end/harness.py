@@ -1,4 +1,4 @@
-"""What the tests share: counting cases, and running the commands and the printing program."""
+"""What the tests share: counting cases, and running the commands and the two programs."""
 
 import io
 import os
@@ -33,7 +33,7 @@ def file(name, content):
 
 
 def wrong_program(name, script):
-    """A shell script in the place of the printing program."""
+    """A shell script in the place of a program."""
     path = file(name, f"#!/bin/sh\n{script}\n")
     path.chmod(0o755)
     return str(path)

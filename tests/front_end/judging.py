@@ -3,6 +3,7 @@
 import json
 import os
 import re
+import subprocess
 from collections import Counter
 from random import Random
 
@@ -12,7 +13,7 @@ from front_end.judge import read_judgement
 from front_end.question import read_question
 from front_end.text import read_text, write_text
 from front_end.trees import write_tree
-from harness import TOP, check, command, file, judging_program, library_judges, process, program, wrong_program
+from harness import FOLDER, TOP, check, command, file, judging_program, library_judges, process, program, surroundings, wrong_program
 from joins import Clause, Policy, random_meaning, total, up_to
 
 WORDS = ["refused", "accepted", "broken", "extends"]  # what byte 0 of the library's number says
@@ -25,6 +26,7 @@ INSIDE = "satisfiable\nfree a b c d\na join b join c is d\nd is not *"
 FULL_OWN = "entails\nfree a\nown x\na is not *\nthen\nx is not o\nx with a\nx join a is *"
 NAMED = "satisfiable\nfree answer height reason\nlet yes = *\nanswer is yes\nheight is (*o)\nreason is o"
 TALL = "(" * 10 + "*o)" + "o)" * 9  # a tree of height 10
+SOLVED = "a = (o*)\nb = L\nc = *\n"  # rows that solve WHOLE
 
 EXTENDS = "extends: the rows solve the first system, and some own shares extend them to the second"
 
@@ -58,6 +60,10 @@ JUDGED = [
     # Names that an answer's other lines start with, and a constant that an answer's first line ends with.
     (NAMED, "answer yes\nheight 1\nreason 3 12\nanswer = yes\nheight (*o)\nreason o", "accepted"),
     (NAMED, "answer no\nheight 10\nanswer = o\nheight = (*o)\nreason = o\nreason 0", "broken: clause 0, line 4: answer is yes"),
+    # As many bytes as rows have that are in bytes, also with a comment of bytes that are no text.
+    (WHOLE, f"{SOLVED}#".ljust(ROWS, "-"), "accepted"),
+    (WHOLE, f"{SOLVED}#".encode().ljust(ROWS, b"\0"), "accepted"),
+    (WHOLE, f"{SOLVED}#".encode().ljust(ROWS, b"\xff"), "accepted"),
     # No free variable; no clause; policies; the tallest tree, and the longest text of one.
     ("satisfiable", "", "accepted"),
     ("satisfiable", "# nothing\n\nanswer yes\nheight 0\n", "accepted"),
@@ -74,7 +80,21 @@ DUE, NO_ROW = cases.CONSTANT, "is due before the text ends"
 PART = "entails\nfree a b\nown x\nlet L = (*o)\na is b"
 ALONE = "and rows are those of the free {}alone: leave this line out"
 NAME = "the name of a free variable"
-IN_BYTES = "these are rows in bytes, and no text: the judging program reads them, and behind them what './ask --bytes FILE' writes"
+IN_BYTES = "these are rows in bytes, and no text: the judging program reads them, and behind them what './ask --bytes FILE' writes " \
+    "(joins inside a clause of the first system have rows too)"
+ONE = "a line has one variable and its share, and no '{}' behind them"
+
+
+def balanced(leaves):
+    """A folded tree with so many leaves, as low as it can be. Its text has three characters for each leaf, less two."""
+    half = leaves // 2
+    return "*" if leaves == 1 else "(o*)" if leaves == 2 else f"({balanced(half)}{balanced(leaves - half)})"
+
+
+def spaced(tree):
+    """A tree with one space in it."""
+    return f"{tree[:9]} {tree[9:]}"
+
 
 # Rows for PART, and where and why they are refused.
 FAULTS = [
@@ -112,6 +132,9 @@ FAULTS = [
     ("a = L join x", f"1:12: {DUE} is due here, and 'x' is a variable"),
     ("a = R", f"1:5: {DUE} is due here, and the question has no constant 'R'"),
     ("a = L join", f"1:11: {DUE} is due here, and the line ends"),
+    ("a = L, b = (o*)", f"1:5: {DUE} is due here, not 'L,': {ONE.format(',')}"),
+    ("a L;", f"1:3: {DUE} is due here, not 'L;': {ONE.format(';')}"),
+    ("a = (*o) join R, b = o", f"1:15: {DUE} is due here, not 'R,': {ONE.format(',')}"),
     ("a = L L", "1:7: 'join' or the end of the line is due here, not 'L'"),
     ("a (*o) (o*)", "1:8: 'join' or the end of the line is due here, not '(o*)'"),
     ("a = L join (o*) join (o(o*))", f"1:22: {cases.UNDEFINED.format('(o(o*))', '*', '(o(o*))')}"),
@@ -120,6 +143,9 @@ FAULTS = [
     ("a = *o", "1:6: no tree text: the tree ends before this character"),
     ("a = (o *)", "1:7: tree text has no spaces: write '(o*)'"),
     ("a = (o " + "(o " * 9 + "*" + ")" * 10, "1:7: tree text has no spaces: write '" + "(o" * 10 + "*" + ")" * 10 + "'"),
+    # What is to be written is not repeated where it is long.
+    (f"a = {spaced(balanced(100))}", f"1:14: tree text has no spaces: write '{balanced(100)}'"),
+    (f"a = {spaced(balanced(101))}", "1:14: tree text has no spaces"),
     ("a = (o(**))", "1:7: a pair of two equal leaves must be folded: write '*' for '(**)'"),
     (f"a = ({TALL}o)", "1:15: the tree is too tall: at most 10 pairs may stand one in the other"),
     (f"a {'(o' * 1600}", "1:3073: no tree text: it is too long: a folded tree with at most 10 pairs one in the other has at most 3,070 characters"),
@@ -127,12 +153,40 @@ FAULTS = [
     ("a = o # \u202e", "1:9: a character (U+202E) stands here that turns the order of what is shown: remove it"),
     ("a\0 = o", "1:2: a byte 00 stands here, so this is no UTF-8: save the text as UTF-8"),
     (b"\xff\xfea\0", "1:1: the text is in UTF-16: save it as UTF-8"),
-    # Rows in bytes, and a byte fewer or more.
+    # Rows in bytes, and a byte fewer or more. What they start with may be what a text in UTF-16, or one with a byte order mark, starts with.
     (bytes(ROWS), f"1:1: {IN_BYTES}"),
     (b"\xff" * ROW + b"\xc3\xa4" + bytes(ROWS - ROW - 2), f"1:1: {IN_BYTES}"),
     (bytes(ROWS - 1), "1:1: a byte 00 stands here, so this is no UTF-8: save the text as UTF-8"),
     (bytes(ROWS + 1), "1:1: a byte 00 stands here, so this is no UTF-8: save the text as UTF-8"),
+    (b"\xff\xfe" + bytes(ROWS - 2), f"1:1: {IN_BYTES}"),
+    (b"\xfe\xff" + bytes(ROWS - 2), f"1:1: {IN_BYTES}"),
+    (b"\xff\xfe" + bytes(ROWS - 1), "1:1: the text is in UTF-16: save it as UTF-8"),
+    (b"\xef\xbb\xbf" + bytes(ROWS - 3), f"1:1: {IN_BYTES}"),
+    (b"\xef\xbb\xbf" + bytes(ROWS), "1:1: a byte 00 stands here, so this is no UTF-8: save the text as UTF-8"),
+    (b"\xff" * ROWS, f"1:1: {IN_BYTES}"),
+    (b"\x55" * (ROWS - 1) + b"\xff", f"1:1: {IN_BYTES}"),
+    (b"\xff" * (ROWS - 1), f"1:1: {NAME} is due here, not '" + "\\xff" * 40 + "...'"),
+    (b"\xff" * (ROWS + 1), f"1:1: {NAME} is due here, not '" + "\\xff" * 40 + "...'"),
+    # A text of as many bytes keeps its own message.
+    ("a = o\n#".ljust(ROWS, "-"), f"2:1: no row for b: a line for it {NO_ROW}"),
+    ("a = o\n# \u00e4".ljust(ROWS - 1, "-"), f"2:1: no row for b: a line for it {NO_ROW}"),
     (b"\xff o", f"1:1: {NAME} is due here, not '\\xff'"),
+]
+
+# Rows with a line that is passed over and starts with the name of a variable without a row, for constants 'no' and 'L', and why they are refused.
+PASSED = [
+    ("free answer b", "answer no\nb = L", f"2:6: no row for answer: a line for it {NO_ROW}, and line 1 was passed over: write 'answer = no'"),
+    ("free answer b", "b = L\n  answer\tno # so\n", f"3:1: no row for answer: a line for it {NO_ROW}, and line 2 was passed over: write 'answer = no'"),
+    ("free answer b", "answer yes\nb = L\nanswer no", f"3:10: no row for answer: a line for it {NO_ROW}, and line 3 was passed over: write 'answer = no'"),
+    ("free answer b", "answer no", f"1:10: no row for answer, b: a line for each {NO_ROW}, and line 1 was passed over: write 'answer = no'"),
+    # What no constant is named cannot be written.
+    ("free answer", "\nanswer yes", f"2:11: no row for answer: a line for it {NO_ROW}, and line 2 was passed over"),
+    ("free answer height reason", "answer no\nheight 3\nreason 3 1",
+     f"3:11: no row for answer, height, reason: a line for each {NO_ROW}, and line 1 was passed over: write 'answer = no', and line 2 was passed over, "
+     "and line 3 was passed over"),
+    # The line is passed over, and the row that is missing is another one.
+    ("free answer b", "answer no\nanswer = no", f"2:12: no row for b: a line for it {NO_ROW}"),
+    ("free b", "answer no\nheight 0", f"2:9: no row for b: a line for it {NO_ROW}"),
 ]
 
 
@@ -185,11 +239,36 @@ def test_row_bytes():
 def test_row_faults():
     for rows, due in FAULTS:
         check(f"fault of rows {rows[:60]!r}", judged(PART, rows), (2, b"", f"-:{due}\n"))
+    for free, rows, due in PASSED:
+        check(f"passed over in {rows!r}", judged(f"satisfiable\n{free}\nlet no = o\nlet L = (*o)", rows), (2, b"", f"-:{due}\n"))
+    check("what is to be written", judged("satisfiable\nfree answer\nlet no = o\nanswer is no", "answer = no"), (0, b"accepted\n", ""))
     nothing = "the question names nothing 'a': it has no free variable"
     check("rows for no variable", judged("satisfiable", "a = o"), (2, b"", f"-:1:1: {nothing}\n"))
     long = "satisfiable\n" + "".join(f"free {sign * 255}\n" for sign in "abc")
     errors = judged(long, "")[2]
     check("long names", (len(errors) < 500, "..." in errors, errors.count("\n")), (True, True, 1))
+
+
+def piped(question, rows):
+    """What the judging program prints for a question as text and for rows in bytes, as docs/FORMAT.md says how they are judged."""
+    script = '(cat ROWS; "$ASK" --bytes FILE) | "$ZIMORGAL_JUDGE_CLI"'
+    file("FILE", question)
+    file("ROWS", rows)
+    return subprocess.run(["sh", "-c", script], stdout=subprocess.PIPE, cwd=FOLDER.name, env=surroundings({"ASK": str(TOP / "ask")}), check=True).stdout
+
+
+def test_rows_in_bytes():
+    """Rows in bytes, by the judging program: the joins inside a clause of the first system have rows too, behind those that have names."""
+    for question, rows in [(INSIDE, "a ((*o)o)\nb ((o*)o)\nc (o(*o))\nd (*(*o))"),
+                           ("satisfiable\nfree a b c d\na join b with c join d", "a (*o)\nb o\nc o\nd (o*)"),
+                           ("entails\nfree a b c d\na join b may read\nthen\na join b join c is d", "a (*o)\nb o\nc o\nd (o*)")]:
+        string = judged(question, rows, "--bytes")[1][:ROWS]
+        check(f"{rows!r} in bytes for {question!r}", piped(question, string), b"accepted\n")
+        zeroed = string[:4 * ROW].ljust(ROWS, b"\0")
+        check(f"{rows!r} in bytes for {question!r}, and no joins", (string != zeroed, piped(question, zeroed)), (True, b"broken 0\n"))
+        check(f"{rows!r} in bytes for {question!r} as text", judged(question, string), (2, b"", f"-:1:1: {IN_BYTES}\n"))
+    rows = judged(WHOLE, SOLVED, "--bytes")[1][:ROWS]
+    check("no joins inside", piped(WHOLE, rows), b"accepted\n")
 
 
 def test_judge_command():
@@ -262,6 +341,10 @@ def test_judge_json():
         status, out, errors = process("ask", "--judge", "--json", question, rows, ZIMORGAL_JUDGE_CLI=silent)
         due = {"file": at, "line": None, "column": None, "message": message}
         check(f"--json, {message}", (status, json.loads(out)["error"], errors), (2, due, ""))
+    no_text = file(os.fsdecode(b"\xff"), "entails a").name
+    for names, at in [((question, no_text), "rows"), ((no_text, question), "file")]:
+        said = json.loads(process("ask", "--judge", "--json", *names)[1])
+        check(f"--json, a name that is no text, of {at}", (said[at], said["error"]["file"]), ("\\xff", "\\xff"))
 
 
 # What is no whole judgement of rows for MIXED, which has two clauses in its first system.
