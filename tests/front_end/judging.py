@@ -2,6 +2,7 @@
 
 import json
 import os
+import pty
 import re
 import subprocess
 from collections import Counter
@@ -382,6 +383,25 @@ def test_lost_judgements():
     check("no such program", process("ask", "--judge", *names, ZIMORGAL_JUDGE_CLI="no/program"), (2, b"", due))
     warned = process("ask", "--judge", *names, ZIMORGAL_JUDGE_CLI=wrong_program("wrong", f"echo warning >&2; {real}"))
     check("a warning beside a judgement", warned, (0, b"accepted\n", "judge.shares: warning\n"))
+
+
+def typed(string):
+    """What the judging program prints, and its errors, where a string is typed on a terminal: byte 04 ends the input, which can go on after that."""
+    ours, theirs = pty.openpty()
+    try:
+        os.write(ours, string)
+        done = subprocess.run([os.environ["ZIMORGAL_JUDGE_CLI"]], stdin=theirs, stdout=subprocess.PIPE, stderr=subprocess.PIPE, timeout=20)
+    finally:
+        os.close(ours)
+        os.close(theirs)
+    return done.stdout, done.stderr
+
+
+def test_typed():
+    """Input that ends before the rows are all there has no question, though it could go on."""
+    check("input that ends", typed(b"\4\4"), (b"refused 1 at 0\n", b""))
+    due = b"", b"zimorgal_judge_cli: standard input could not be read\n"
+    check("input that goes on after its end", typed(b"\4\1\0\0\0\0\4\4"), due)
 
 
 def solution(string):
