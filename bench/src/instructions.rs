@@ -24,14 +24,14 @@ const CALLS: [&str; 5] = [
 const NO_REPEATS: &str = "glibc.cpu.x86_rep_stosb_threshold=1000000000:\
                            glibc.cpu.x86_rep_movsb_threshold=1000000000";
 
-/// Calls once with each input, for callgrind. Prints of each family whether the library has its call; if not, nothing is counted.
+/// Calls once with each input, for callgrind. Prints of each family whether it has inputs and the library its call; if not, nothing is counted.
 pub fn ask_once() {
     let mut buffers = Buffers::new();
     let lines = lines::all();
     // The rows to be judged were asked for. What was counted of that goes into a file of its own.
     bench_family_ends();
     for line in lines {
-        let there = line.call.is_there();
+        let there = line.is_there();
         if there {
             for input in &line.family.inputs {
                 buffers.call(line.call, input);

@@ -22,7 +22,7 @@ pub enum Call {
 
 impl Call {
     /// Whether the library that is linked has it.
-    pub fn is_there(self) -> bool {
+    fn is_there(self) -> bool {
         match self {
             Call::Ask | Call::Join | Call::Height => true,
             Call::Judge => library::judges(),
@@ -37,6 +37,11 @@ pub struct Line {
 }
 
 impl Line {
+    /// Whether there is something to measure: the call, and inputs.
+    pub fn is_there(&self) -> bool {
+        self.call.is_there() && !self.family.inputs.is_empty()
+    }
+
     /// The library must say what it is compared with says: route B, the plain reader, or a loop over the leaves. Of judging it must say what tests/brute
     /// says.
     pub fn must_agree(&self) {

@@ -41,7 +41,7 @@ pub fn print(other: Option<&Path>) {
     print_line("family", "inputs", &head(other.is_some()));
     let mut differs = false;
     let lines = lines::all();
-    let there = |(_, line): &(usize, &Line)| line.call.is_there();
+    let there = |(_, line): &(usize, &Line)| line.is_there();
     for (number, line) in lines.iter().enumerate().filter(there) {
         line.must_agree();
         let times = times(number, &mut archives);
@@ -52,7 +52,7 @@ pub fn print(other: Option<&Path>) {
     }
     println!("{LEGEND}");
     if differs {
-        println!("differs: the other archive gives another result or has no such call, and is not measured");
+        println!("differs: the other archive gives another result, shows other rows to be judged or has no such call, and is not measured");
     }
     if let Some(why) = archives
         .iter()

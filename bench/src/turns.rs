@@ -2,7 +2,9 @@
 
 use crate::asking::Buffers;
 use crate::lines::{self, Line};
+use std::hash::{DefaultHasher, Hash, Hasher};
 use std::io::{stdin, BufRead, BufReader, Write};
+use std::iter::once;
 use std::path::Path;
 use std::process::{Child, ChildStdin, ChildStdout, Command, Stdio};
 use std::time::Duration;
@@ -32,15 +34,18 @@ pub fn serve() {
     }
 }
 
-/// What the library gives for each input, in hexadecimal digits; nothing where it has no such call.
+/// A number that tells the inputs from others, and what the library gives for each, in hexadecimal digits; nothing where there is nothing to measure.
 fn results(line: &Line) -> String {
-    if !line.call.is_there() {
+    if !line.is_there() {
         return String::new();
     }
+    let mut hash = DefaultHasher::new();
+    line.family.inputs.hash(&mut hash);
     let mut buffers = Buffers::new();
     let inputs = line.family.inputs.iter();
     let results = inputs.map(|bytes| buffers.call(line.call, bytes));
-    let digits: Vec<String> = results.map(|result| format!("{result:016X}")).collect();
+    let numbers = once(hash.finish()).chain(results);
+    let digits: Vec<String> = numbers.map(|number| format!("{number:016X}")).collect();
     digits.concat()
 }
 
