@@ -115,8 +115,8 @@ static const char *const three_parts[] = {"((*o)o)", "((o*)o)", "(*o)", "(o*)"};
 static const char *const none_for_the_recorder[] = {"(*o)", "(o*)", "*", "o"};
 static const char *const nothing_left[] = {"(*o)", "(o*)", "*"};
 static const char *const half_left[] = {"(*o)", "o", "(*o)"};
-static const char *const whole[] = {"*"};
 static const char *const not_folded[] = {"(*o)", "(o(**))", "*"};
+static const char *const whole[] = {"*"};
 
 /* The texts of an array, and how many they are. */
 #define ALL_OF(texts) texts, sizeof(texts) / sizeof *(texts)
