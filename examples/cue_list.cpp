@@ -74,6 +74,7 @@ void report_judged(const char* judged, const Question& question, std::initialize
     }
     const zimorgal::Judged result = judge(question, rows);
     std::cout << "  " << describe(result.judgement);
+    if (result.refusal != zimorgal::Refusal::none) std::cout << ": " << describe(result.refusal);
     if (result.clause) std::cout << ": " << text_of(question, zimorgal::System::first, *result.clause);
     std::cout << '\n';
 }
@@ -95,6 +96,8 @@ void other_prover() {
     take(question.second(may_read(rest)));
     report_judged("Another prover says that there may be no part left. Is it right?", question, {"(*o)", "(o*)", "*"});
     report_judged("And these parts?", question, {"(*o)", "(o(*o))", "(*(*o))"});
+    report_judged("And with a part for the recorder, which that question has not?", question,
+                  {"(*o)", "o", "(*o)", "(o*)"});
 }
 
 // May threads hold such parts at once?

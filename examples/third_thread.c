@@ -56,7 +56,7 @@ static void write_solution(unsigned variables) {
         uint8_t text[ZIMORGAL_TEXT_BYTES];
         const uint64_t written =
             zimorgal_text(answer + zimorgal_row_offset(row), zimorgal_row_length(row), text, sizeof text);
-        if (zimorgal_text_refusal(written) != ZIMORGAL_ACCEPTED) return;
+        if (zimorgal_text_refusal(written) != ZIMORGAL_NOT_REFUSED) return;
         printf("    %-10s%.*s\n", names[variable], (int)zimorgal_text_length(written), (const char *)text);
     }
 }
@@ -85,14 +85,20 @@ static void put_row(uint8_t *rows, size_t variable, uint32_t leaves) {
         rows[variable * ZIMORGAL_ROW_BYTES + i] = leaves >> i / 4 & 1 ? 0xFF : 0x00;
 }
 
-/* Judges what another prover found, a tree text for each free variable, and writes what comes of it. */
-static void report_judged(const char *judged, const uint8_t *question, size_t length, const char *const *found) {
+/* Judges what another prover found, the tree texts of the first variables, and writes what comes of it. Texts of height
+   at most 5 are read. */
+static void report_judged(const char *judged, const uint8_t *question, size_t length, const char *const *found,
+                          size_t variables) {
     static uint8_t rows[ZIMORGAL_ROWS_BYTES];
     memset(rows, 0, sizeof rows);
     printf("%s\n", judged);
-    for (size_t variable = 0; variable < question[2]; ++variable) {
+    for (size_t variable = 0; variable < variables; ++variable) {
         const uint64_t read = zimorgal_constant((const uint8_t *)found[variable], strlen(found[variable]));
-        if (zimorgal_constant_refusal(read) != ZIMORGAL_ACCEPTED) return;
+        if (zimorgal_constant_refusal(read) != ZIMORGAL_NOT_REFUSED) {
+            printf("  %s is refused: %s\n", found[variable],
+                   zimorgal_describe_refusal(zimorgal_constant_refusal(read)));
+            return;
+        }
         put_row(rows, variable, zimorgal_constant_leaves(read));
         printf("    %-10s%s\n", names[variable], found[variable]);
     }
@@ -100,15 +106,20 @@ static void report_judged(const char *judged, const uint8_t *question, size_t le
     printf("  %s", zimorgal_describe_judgement(zimorgal_judgement(result)));
     if (zimorgal_judgement(result) == ZIMORGAL_CLAUSE_BROKEN) printf(", number %u", zimorgal_broken_clause(result));
     if (zimorgal_judgement(result) == ZIMORGAL_NOT_JUDGED)
-        printf(": %s", zimorgal_describe_refusal(zimorgal_judge_refusal(result)));
+        printf(" at byte %u: %s", zimorgal_place(result), zimorgal_describe_refusal(zimorgal_refusal(result)));
     printf("\n");
 }
 
-/* What another prover found, for the first question and for the second. */
+/* What another prover found, for the first question, for the second and for the one with a mistake. */
 static const char *const three_parts[] = {"((*o)o)", "((o*)o)", "(*o)", "(o*)"};
 static const char *const none_for_the_recorder[] = {"(*o)", "(o*)", "*", "o"};
 static const char *const nothing_left[] = {"(*o)", "(o*)", "*"};
 static const char *const half_left[] = {"(*o)", "o", "(*o)"};
+static const char *const not_folded[] = {"(*o)", "(o(**))", "*"};
+static const char *const whole[] = {"*"};
+
+/* The texts of an array, and how many they are. */
+#define ALL_OF(texts) texts, sizeof(texts) / sizeof *(texts)
 
 /* Reads two shares as a tester types them, and writes whether they join. */
 static void report_join(const char *left, const char *right) {
@@ -117,7 +128,7 @@ static void report_join(const char *left, const char *right) {
     printf("Do %s and %s join?\n  ", left, right);
     for (int i = 0; i < 2; ++i) {
         const uint64_t read = zimorgal_constant((const uint8_t *)typed[i], strlen(typed[i]));
-        if (zimorgal_constant_refusal(read) != ZIMORGAL_ACCEPTED) {
+        if (zimorgal_constant_refusal(read) != ZIMORGAL_NOT_REFUSED) {
             printf("%s is refused: %s\n", typed[i], zimorgal_describe_refusal(zimorgal_constant_refusal(read)));
             return;
         }
@@ -139,11 +150,13 @@ int main(void) {
     report("Is there always a part left that would make theirs whole?", part_left, sizeof part_left);
     report("And a question with a mistake?", mistaken, sizeof mistaken);
     report_judged("Another prover lets the third thread read. Is it right?", third_thread, sizeof third_thread,
-                  three_parts);
-    report_judged("And these parts?", third_thread, sizeof third_thread, none_for_the_recorder);
+                  ALL_OF(three_parts));
+    report_judged("And these parts?", third_thread, sizeof third_thread, ALL_OF(none_for_the_recorder));
     report_judged("Another prover says that no part need be left. Is it right?", part_left, sizeof part_left,
-                  nothing_left);
-    report_judged("And these parts?", part_left, sizeof part_left, half_left);
+                  ALL_OF(nothing_left));
+    report_judged("And these parts?", part_left, sizeof part_left, ALL_OF(half_left));
+    report_judged("And a part that is not folded?", part_left, sizeof part_left, ALL_OF(not_folded));
+    report_judged("And for the question with a mistake?", mistaken, sizeof mistaken, ALL_OF(whole));
     report_join("(*o)", "(o*)");
     report_join("(*o)", "((o*)o)");
     report_join("(*o)", "(o(**))");

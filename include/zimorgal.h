@@ -56,9 +56,9 @@
 #define ZIMORGAL_TEXT_BYTES 3070        /* no tree text of a row is longer */
 #define ZIMORGAL_CONSTANT_TEXT_BYTES 94 /* no tree text of a constant is longer */
 
-/* Enough stack for a thread that calls. Judging touches under 16 KB, any other call under 8 KB; the rest is for the thread,
-   for a signal's frame and for buffers of the caller. tests/cpp/stack.cpp measures it, and runs threads with exactly this
-   much. */
+/* Enough stack for a thread that calls. Judging touches under 16 KB, any other call under 8 KB; the rest is for the
+   thread, for a signal's frame and for buffers of the caller. tests/cpp/stack.cpp measures it, and runs threads with
+   exactly this much. */
 #define ZIMORGAL_STACK_BYTES 32768
 
 /* What the compiler is told of a part that is lent: its pointer and its length, as numbers of arguments. */
@@ -91,7 +91,7 @@ enum zimorgal_verdict { ZIMORGAL_REFUSED = 0, ZIMORGAL_YES = 1, ZIMORGAL_NO = 2 
 
 /* Why a question, a buffer, a tree text or rows are turned away. */
 enum zimorgal_refusal {
-    ZIMORGAL_ACCEPTED = 0,
+    ZIMORGAL_NOT_REFUSED = 0,
     /* whoever writes the question */
     ZIMORGAL_NO_HEAD = 1,            /* the first byte is missing or is not 01 */
     ZIMORGAL_CUT_SHORT = 2,          /* no byte where a command is due, or its operands are cut short */
@@ -114,7 +114,7 @@ enum zimorgal_refusal {
     ZIMORGAL_TOO_TALL = 17,      /* a tree taller than 5 */
     /* whoever writes the rows to be judged */
     ZIMORGAL_NOT_12_ROWS = 18, /* rows that are not exactly 1,536 bytes */
-    ZIMORGAL_ROW_NOT_ZERO = 19 /* a bit set in the row of no free variable */
+    ZIMORGAL_ROW_NOT_ZERO = 19 /* a bit set in a row of no free variable */
 };
 
 /* Why an entailment is answered yes or no. A satisfiability question has reason 0. */
@@ -161,8 +161,8 @@ ZIMORGAL_WRITES(5, 6)
 uint64_t zimorgal_ask(const uint8_t *question, size_t question_length, uint8_t *answer, size_t answer_length,
                       uint8_t *work, size_t work_length);
 
-/* Judges rows as a solution of a question, whoever wrote them: 12 rows of 128 bytes, as zimorgal_ask shows them, row v for
-   free variable v. The result, lowest byte first:
+/* Judges rows as a solution of a question, whoever wrote them: 12 rows of 128 bytes, as zimorgal_ask shows them, row v
+   for free variable v. The result, lowest byte first:
 
        bits  0 to  7   judgement
        bits  8 to 15   refusal number, 0 if not refused: 1 to 10 of the question, then 18 and 19 of the rows
@@ -170,12 +170,13 @@ uint64_t zimorgal_ask(const uint8_t *question, size_t question_length, uint8_t *
        bits 32 to 39   clause number, for a broken clause: the lowest clause of the first system that does not hold. The
                        clauses of the first system, positive ones and disequations, are counted together, as they stand
                        in the question, from 0; those of the second system between them are not counted
-       bits 40 to 63   0
+       bits 40 to 63   0 in this version; a later one may say more of a broken clause here, so read the fields by the
+                       functions below
 
    Rows are accepted for a satisfiability exactly if their shares solve the system; for an entailment exactly if they
    solve the first system and the own variables of the second cannot be given shares, of any height, so that it holds
-   too. So what is accepted shows the verdict yes of a satisfiability, and the verdict no of an entailment. The rows that
-   zimorgal_ask shows are accepted: the first 1,536 bytes of its answer buffer. Nothing is written. */
+   too. So what is accepted shows the verdict yes of a satisfiability, and the verdict no of an entailment. The rows
+   that zimorgal_ask shows are accepted: the first 1,536 bytes of its answer buffer. Nothing is written. */
 ZIMORGAL_READS(1, 2)
 ZIMORGAL_READS(3, 4)
 uint64_t zimorgal_judge(const uint8_t *question, size_t question_length, const uint8_t *rows, size_t rows_length);
@@ -224,10 +225,9 @@ ZIMORGAL_INLINE int zimorgal_shows(uint64_t result, int kind) {
     return zimorgal_verdict(result) == (kind == ZIMORGAL_ENTAILMENT ? ZIMORGAL_NO : ZIMORGAL_YES);
 }
 
-/* The fields of what zimorgal_judge gives. */
-ZIMORGAL_INLINE int zimorgal_judgement(uint64_t judged) { return judged & 0xFF; }          /* enum zimorgal_judgement */
-ZIMORGAL_INLINE int zimorgal_judge_refusal(uint64_t judged) { return judged >> 8 & 0xFF; } /* enum zimorgal_refusal */
-ZIMORGAL_INLINE unsigned zimorgal_judge_place(uint64_t judged) { return judged >> 16 & 0xFFFF; }
+/* The fields of what zimorgal_judge gives. Refusal and place stand where zimorgal_ask has them: zimorgal_refusal and
+   zimorgal_place read them. */
+ZIMORGAL_INLINE int zimorgal_judgement(uint64_t judged) { return judged & 0xFF; } /* enum zimorgal_judgement */
 ZIMORGAL_INLINE unsigned zimorgal_broken_clause(uint64_t judged) { return judged >> 32 & 0xFF; }
 
 /* The fields of what zimorgal_row gives. */
@@ -259,7 +259,7 @@ ZIMORGAL_INLINE const char *zimorgal_describe_verdict(int verdict) {
 
 ZIMORGAL_INLINE const char *zimorgal_describe_refusal(int refusal) {
     switch (refusal) {
-        case ZIMORGAL_ACCEPTED: return "not refused";
+        case ZIMORGAL_NOT_REFUSED: return "not refused";
         case ZIMORGAL_NO_HEAD: return "the first byte is missing or is not 01";
         case ZIMORGAL_CUT_SHORT: return "no byte where a command is due, or its operands are cut short";
         case ZIMORGAL_UNKNOWN_COMMAND: return "an unknown command byte";
@@ -278,7 +278,7 @@ ZIMORGAL_INLINE const char *zimorgal_describe_refusal(int refusal) {
         case ZIMORGAL_NOT_FOLDED: return "a pair that could be folded";
         case ZIMORGAL_TOO_TALL: return "a tree taller than 5";
         case ZIMORGAL_NOT_12_ROWS: return "the rows have not exactly 1,536 bytes";
-        case ZIMORGAL_ROW_NOT_ZERO: return "a bit set in the row of no free variable";
+        case ZIMORGAL_ROW_NOT_ZERO: return "a bit set in a row of no free variable";
         default: return "unknown refusal";
     }
 }

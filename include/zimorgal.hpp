@@ -76,7 +76,7 @@ enum class Error : std::uint8_t {
     too_many_constants,     // a 33rd
     too_many_positives,     // a 65th positive clause in one system
     too_many_disequations,  // a 32nd in one system
-    names_nothing,          // a variable that the question has not, or Constant{}
+    names_nothing,          // a variable that the question has not, for a row one above 11, or Constant{}
     own_variable_in_first,  // an own variable in the first system
     no_second_system,       // a clause of the second system in a satisfiability question
     not_tree_text,          // a text over 94 characters, or no tree text
@@ -98,7 +98,7 @@ constexpr std::string_view describe(Error error) noexcept {
         case Error::too_many_constants: return "a 33rd constant";
         case Error::too_many_positives: return "a 65th positive clause in one system";
         case Error::too_many_disequations: return "a 32nd disequation in one system";
-        case Error::names_nothing: return "a term that names nothing";
+        case Error::names_nothing: return "a variable or a constant that names nothing";
         case Error::own_variable_in_first: return "an own variable in the first system";
         case Error::no_second_system: return "a clause of the second system in a satisfiability question";
         case Error::not_tree_text: return "a text over 94 bytes, or no tree text";
@@ -291,7 +291,7 @@ namespace detail {
 // Why the library turned a tree text away.
 constexpr Error error_of(int refusal) noexcept {
     switch (refusal) {
-        case ZIMORGAL_ACCEPTED: return Error::none;
+        case ZIMORGAL_NOT_REFUSED: return Error::none;
         case ZIMORGAL_NOT_FOLDED: return Error::not_folded;
         case ZIMORGAL_TOO_TALL: return Error::too_tall;
         case ZIMORGAL_NOT_TREE_TEXT:
@@ -344,6 +344,11 @@ inline std::size_t place_of_fault(Error error, std::string_view text) noexcept {
     return scan<most>(text, error == Error::too_tall ? tallest : most).at;
 }
 
+// Two texts in braces, which C++20 would take for the beginning and the end of one text.
+struct TwoTexts {
+    TwoTexts(std::string_view, std::string_view) noexcept {}
+};
+
 }  // namespace detail
 
 // The share that a tree text stands for: o empty, * full, ( left right ) a pair, folded, at most five pairs deep, no
@@ -358,6 +363,7 @@ inline std::size_t place_of_fault(Error error, std::string_view text) noexcept {
     return {Error::none, zimorgal_constant_leaves(number), 0};
 }
 Parsed from_text(std::nullptr_t) = delete;
+Parsed from_text(detail::TwoTexts) = delete;
 
 // ---------------------------------------------------------------- Join and height of constants
 
@@ -461,6 +467,7 @@ class Question {
     NewConstant constant(const Other&) = delete;  // a constant is made of Leaves (std::uint32_t), a tree text or a join
     template <class Other = std::nullptr_t, detail::IfNoShare<Other> = 0>
     NewConstant constant(std::initializer_list<Other>) = delete;  // in braces too
+    NewConstant constant(detail::TwoTexts) = delete;
 
     // A clause of the first or of the second system. Own variables in the first do not compile.
     [[nodiscard]] Error first(const FirstClause& clause) noexcept { return add(System::first, clause); }
@@ -498,8 +505,8 @@ class Question {
     std::size_t own_variables() const noexcept { return bytes_[3]; }
     std::size_t constants() const noexcept { return constants_; }
 
-    // How many clauses a system has, positive ones and disequations together. The next one has this number: judging counts
-    // the clauses of the first system so, in the order in which they were added.
+    // How many clauses a system has, positive ones and disequations together. The next one has this number: judging
+    // counts the clauses of the first system so, in the order in which they were added.
     std::size_t clauses(System system) const noexcept {
         if (system > System::second) return 0;
         const std::uint8_t* const counts = clauses_[static_cast<std::size_t>(system)];
@@ -596,6 +603,7 @@ class Draft {
     Constant constant(const Other&) = delete;  // a constant is made of Leaves (std::uint32_t), a tree text or a join
     template <class Other = std::nullptr_t, detail::IfNoShare<Other> = 0>
     Constant constant(std::initializer_list<Other>) = delete;  // in braces too
+    Constant constant(detail::TwoTexts) = delete;
 
     // The first error, which step had it, from 0, and the place of a fault in a tree text.
     Error error() const noexcept { return error_; }
@@ -642,7 +650,7 @@ class Draft {
 enum class Verdict : std::uint8_t { refused = ZIMORGAL_REFUSED, yes = ZIMORGAL_YES, no = ZIMORGAL_NO };
 
 enum class Refusal : std::uint8_t {
-    none = ZIMORGAL_ACCEPTED,
+    none = ZIMORGAL_NOT_REFUSED,
     no_head = ZIMORGAL_NO_HEAD,
     cut_short = ZIMORGAL_CUT_SHORT,
     unknown_command = ZIMORGAL_UNKNOWN_COMMAND,
@@ -867,8 +875,9 @@ std::basic_ostream<char, Traits>& operator<<(std::basic_ostream<char, Traits>& o
 // No clause is longer as text: a negated join of three constants of 94 characters.
 inline constexpr std::size_t most_clause_text = 296;
 
-// One clause of a question as text, by its number in its system, from 0: the clause that judging names as broken. Variables
-// are named as in the text of the question, constants are tree texts. It is empty if the system has no such clause.
+// One clause of a question as text, by its number in its system, from 0: the clause that judging names as broken.
+// Variables are named as in the text of the question, constants are tree texts. It is empty if the system has no such
+// clause.
 class ClauseText : public detail::PutText<most_clause_text> {
   public:
     ClauseText(const Question& question, System system, std::size_t number) noexcept {
@@ -989,9 +998,10 @@ inline SetShare fault_of_row_text(std::string_view text) noexcept {
 //     if (judged.clause) std::cout << "broken: " << text_of(question, System::first, *judged.clause) << '\n';
 class Rows {
   public:
-    // The share of a variable: its leaves, its tree text, at most ten pairs deep, a join, set(v, join(a, b)), or the 128
-    // bytes of its row. With an error the rows are left as they were. A variable above 11 names nothing; one that the
-    // question has not as a free one is refused by judging, unless its share is empty.
+    // The share of a variable: its leaves, its tree text, at most ten pairs deep, a join, set(v, join(a, b)), or the
+    // 128 bytes of its row. With an error the rows are left as they were. A variable above 11 names nothing; one that
+    // the question has not as a free one is refused by judging, unless its share is empty. A tree text is read here and
+    // not by the library, whose reader stops at height 5: it is tested, not proved.
     [[nodiscard]] SetShare set(Free variable, Leaves leaves) noexcept {
         const auto row = detail::row_of(leaves);
         return set(variable, Bytes{row.data(), row.size()});
@@ -1017,6 +1027,7 @@ class Rows {
     SetShare set(Free, const Other&) = delete;  // a share is Leaves (std::uint32_t), a tree text, a join or a row
     template <class Other = std::nullptr_t, detail::IfNoShare<Other> = 0>
     SetShare set(Free, std::initializer_list<Other>) = delete;  // in braces too
+    SetShare set(Free, detail::TwoTexts) = delete;
 
     // The 128 bytes of a share, until the next step, and its tree text; none for a variable above 11.
     Bytes row(Free variable) const& noexcept {
@@ -1075,7 +1086,8 @@ struct Judged {
     Judgement judgement;
     Refusal refusal;
     std::uint16_t place;  // of a refusal: the offset in the question
-    // For Judgement::broken: the lowest clause of the first system that does not hold, counted as Question::clauses counts.
+    // For Judgement::broken: the lowest clause of the first system that does not hold, counted as Question::clauses
+    // counts.
     std::optional<std::size_t> clause;
 };
 
@@ -1083,17 +1095,21 @@ struct Judged {
 constexpr Judged decode_judged(std::uint64_t number) noexcept {
     const auto judgement = static_cast<Judgement>(zimorgal_judgement(number));
     const std::optional<std::size_t> clause = zimorgal_broken_clause(number);
-    return {judgement, static_cast<Refusal>(zimorgal_judge_refusal(number)),
-            static_cast<std::uint16_t>(zimorgal_judge_place(number)),
-            judgement == Judgement::broken ? clause : std::nullopt};
+    return {judgement, static_cast<Refusal>(zimorgal_refusal(number)),
+            static_cast<std::uint16_t>(zimorgal_place(number)), judgement == Judgement::broken ? clause : std::nullopt};
 }
 
-// Judges rows as a solution of a question: bytes from wherever they come, rows that were put together, or a shown solution.
-// For a satisfiability they are accepted exactly if they solve the system; for an entailment exactly if they solve the
-// first system and no own shares of any height extend them to the second. A solution that asking shows is accepted by the
-// question that was asked; an empty one has no rows, and is refused by Refusal::not_12_rows.
+// Judges rows as a solution of a question: bytes from wherever they come, rows that were put together, or a shown
+// solution. The question too may be bytes. For a satisfiability the rows are accepted exactly if they solve the system;
+// for an entailment exactly if they solve the first system and no own shares of any height extend them to the second. A
+// solution that asking shows is accepted by the question that was asked; an empty one has no rows, and is refused by
+// Refusal::not_12_rows.
 [[nodiscard]] inline Judged judge(Bytes question, Bytes rows) noexcept {
     return decode_judged(zimorgal_judge(question.data, question.size, rows.data, rows.size));
+}
+[[nodiscard]] inline Judged judge(Bytes question, const Rows& rows) noexcept { return judge(question, rows.bytes()); }
+[[nodiscard]] inline Judged judge(Bytes question, const Solution& solution) noexcept {
+    return judge(question, solution.bytes());
 }
 [[nodiscard]] inline Judged judge(const Question& question, Bytes rows) noexcept {
     return judge(question.bytes(), rows);

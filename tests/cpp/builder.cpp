@@ -127,8 +127,13 @@ static_assert(!stands_first<Clause> && !std::is_convertible_v<int, Term> && !std
 static_assert(noexcept(from_text(std::string_view())) && noexcept(join(1u, 2u)) && noexcept(height(1u)));
 static_assert(std::is_same_v<decltype(join(1u, 2u)), std::optional<Leaves>>);
 static_assert(Error{13} == Error::unknown_system && Error{14} == Error::undefined_join, "errors keep their values");
-static_assert(noexcept(judge(Bytes{nullptr, 0}, Bytes{nullptr, 0})) && noexcept(Rows().set(v0, "*")) && noexcept(
-    text_of(Question(), System::first, 0)));
+template <class Asked, class Shares>
+constexpr bool judged_without_throwing = noexcept(judge(std::declval<Asked>(), std::declval<Shares>()));
+static_assert(judged_without_throwing<Bytes, Bytes> && judged_without_throwing<Bytes, const Rows&> &&
+              judged_without_throwing<Bytes, const Solution&> && judged_without_throwing<const Question&, Bytes> &&
+              judged_without_throwing<const Question&, const Rows&> &&
+              judged_without_throwing<const Question&, const Solution&>);
+static_assert(noexcept(Rows().set(v0, "*")) && noexcept(text_of(Question(), System::first, 0)));
 static_assert(decode_judged(0x200000002).clause == 2u && !decode_judged(3).clause &&
               describe(Judgement::accepted) == "accepted");
 static_assert(describe(Verdict::no) == "no" && decode(2).verdict == Verdict::no, "at compile time too");
@@ -1097,6 +1102,11 @@ void rows_of_shares() {
     take(rows.set(v1, rows.row(Free{11})));
     take(rows.set(v0, rows.row(v0)));
     check(copy(rows) == with_row(with_row(with_row(zero, 0, full), 1, leaf), 11, leaf), "a row of its own");
+    take(rows.set(v1, Bytes{rows.bytes().data + 64, 128}));
+    String halves(128);
+    std::fill(halves.begin(), halves.begin() + 64, std::uint8_t{0xFF});
+    halves[65] = 0x04;
+    check(copy(rows) == with_row(with_row(with_row(zero, 0, full), 1, halves), 11, leaf), "halves of two of its own");
     take(rows.set(v1, "((((((((*o)o)o)o)o)o)o)o)"));
     take(rows.set(v1, "(((((((o(o((*o)o)))o)o)o)o)o)o)"));
     take(rows.set(Free{11}, "o"));
@@ -1127,6 +1137,7 @@ void rows_with_errors() {
     not_set(rows, Free{99}, join(1u, 2u), Error::names_nothing, 0, "variable 99, a join");
     not_set(rows, Free{12}, Bytes{bytes.data(), 128}, Error::names_nothing, 0, "variable 12, a row");
     not_set(rows, Free{12}, "(*", Error::names_nothing, 0, "before a fault in the text");
+    not_set(rows, Free{12}, join(3u, 6u), Error::names_nothing, 0, "before an undefined join");
     Free far{0};
     far.number = 256;
     not_set(rows, far, "*", Error::names_nothing, 0, "a number that was set");
@@ -1319,18 +1330,22 @@ void judged_as_shown() {
     const String asked = copy(question);
     check(judge(question, solution).judgement == Judgement::accepted &&
               judge(question, Bytes{rows.data(), rows.size()}).judgement == Judgement::accepted &&
-              judge(question.bytes(), solution.bytes()).judgement == Judgement::accepted,
+              judge(question.bytes(), solution.bytes()).judgement == Judgement::accepted &&
+              judge(question.bytes(), solution).judgement == Judgement::accepted,
           "what is shown is accepted");
     Rows again;
     for (std::size_t i = 0; i < solution.variables(); ++i) take(again.set(Free{i}, solution.text(Free{i}).str()));
-    check(copy(again) == rows && judge(question, again).judgement == Judgement::accepted, "and by its texts");
+    check(copy(again) == rows && judge(question, again).judgement == Judgement::accepted &&
+              judge(question.bytes(), again).judgement == Judgement::accepted,
+          "and by its texts");
     check(copy(question) == asked && String(workspace.answer.begin(), workspace.answer.end()) == rows,
           "and nothing changed");
 
     question = satisfiability(1);
     take(question.first(join(v0, v0, take(question.constant("*")))));
     const Solution none = ask(question, workspace).solution;
-    check(!none && none.bytes().size == 0 && judge(question, none).refusal == Refusal::not_12_rows,
+    check(!none && none.bytes().size == 0 && judge(question, none).refusal == Refusal::not_12_rows &&
+              judge(question.bytes(), none).refusal == Refusal::not_12_rows,
           "no solution has no rows");
 }
 
@@ -1398,8 +1413,8 @@ void judging_refused() {
 
 void judged_fields() {
     // Every byte of the number, each value unlike the others.
-    const Judged fields = decode_judged(0xFFFFFF'5E'039D'08'02);
-    check(fields.judgement == Judgement::broken && fields.refusal == Refusal::bad_term && fields.place == 925 &&
+    const Judged fields = decode_judged(0xFFFFFF'5E'A39D'08'02);
+    check(fields.judgement == Judgement::broken && fields.refusal == Refusal::bad_term && fields.place == 0xA39D &&
               fields.clause == 94u,
           "each field of a judgement");
     for (const std::uint64_t number : {0u, 1u, 3u})

@@ -1,6 +1,6 @@
-// A judge of rows, written from docs/SPEC.md alone: section 2 for what clauses mean, 6.8 for what is accepted, rejected and
-// named, and section 7 for 18 and 19; refusals 1 to 10 are those of reader.hpp. It shares no code with the headers and the
-// library, which it is to be compared with.
+// A judge of rows, written from docs/SPEC.md alone: section 2 for what clauses mean, 6.8 for what is accepted, rejected
+// and named, and section 7 for 18 and 19; refusals 1 to 10 are those of reader.hpp. It shares no code with the headers
+// and the library, which it is to be compared with.
 #ifndef ZIMORGAL_TESTS_JUDGE_HPP
 #define ZIMORGAL_TESTS_JUDGE_HPP
 
@@ -77,7 +77,8 @@ inline int lowest_broken(const Question& question, const std::vector<Row>& rows)
 
 // ---------------------------------------------------------------- The second system
 
-// The values at one leaf: bit v that of free variable v, bit v of `own` that of own variable v; the leaf of the constants.
+// The values at one leaf: bit v that of free variable v, bit v of `own` that of own variable v; the leaf of the
+// constants.
 struct Values {
     unsigned free, own;
     std::size_t leaf;
@@ -120,9 +121,9 @@ inline std::set<std::pair<unsigned, std::size_t>> leaves_of(const Question& ques
     return leaves;
 }
 
-// Whether own shares of some height extend the rows to the second system. Below each leaf own variables may have as many
-// sub-leaves as are needed: so each leaf needs own values that meet the positive clauses, and each disequation one leaf
-// with own values that meet both them and it.
+// Whether own shares of some height extend the rows to the second system. Below each leaf own variables may have as
+// many sub-leaves as are needed: so each leaf needs own values that meet the positive clauses, and each disequation one
+// leaf with own values that meet both them and it.
 inline bool extends(const Question& question, const std::vector<Row>& rows) {
     std::set<const Clause*> wanted;
     for (const Clause& clause : question.clauses)

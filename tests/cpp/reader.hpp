@@ -235,8 +235,8 @@ inline bool full(const Tree& tree, unsigned path, unsigned bits) {
     return full(tree.halves[path >> (bits - 1) & 1], path, bits - 1);
 }
 
-// The refusal number of a text that is to be a tree of at most that height, in at most so many characters, and the place.
-// The tree is read too.
+// The refusal number of a text that is to be a tree of at most that height, in at most so many characters, and the
+// place. The tree is read too.
 inline unsigned tree_fault(const std::string& text, std::size_t most, unsigned tallest, Tree& made,
                            std::size_t& place) {
     place = 0;

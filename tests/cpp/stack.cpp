@@ -1,7 +1,7 @@
 // The stack that a call takes: threads with exactly ZIMORGAL_STACK_BYTES of it, and nothing that can be read or written
 // below, ask the dearest shapes of questions, judge rows for them and read the deepest tree texts. What they touched is
-// measured too: it must leave a quarter, and judging must take under 16 KB and any other call under 8 KB, that is, a thread
-// that calls more than one that does nothing. By itself, from the repository's top folder:
+// measured too: it must leave a quarter, and judging must take under 16 KB and any other call under 8 KB, that is, a
+// thread that calls more than one that does nothing. By itself, from the repository's top folder:
 //
 //     g++ -std=c++17 -O1 -pthread -Iinclude tests/cpp/stack.cpp target/staticlib/libzimorgal.a -o stack && ./stack
 //

@@ -141,16 +141,6 @@ std::vector<Row> rows(const Lent& answer) {
     return all;
 }
 
-void shown(const reader::Question& question, const Lent& answer, unsigned given) {
-    const std::vector<Row> all = rows(answer);
-    for (std::size_t variable = 0; variable < 12; ++variable) {
-        check(height(all[variable]) <= given, "a shown tree is too tall");
-        check(variable < question.free || all[variable].none(), "the row of no free variable");
-    }
-    for (const reader::Clause& clause : question.clauses)
-        check(clause.second || reader::holds(clause, all), "what is shown does not solve the first system");
-}
-
 // The height that is given with a shown solution.
 unsigned height_due(const reader::Question& question) {
     unsigned tallest = 0;
@@ -171,9 +161,13 @@ unsigned height_due(const reader::Question& question) {
 std::uint64_t judge(const Bytes& question, const Bytes& rows) {
     const Lent asked(question), judged(rows);
     const std::uint64_t result = zimorgal_judge(asked.data.get(), asked.size, judged.data.get(), judged.size);
-    check(result == reader::judge(question, rows), "judged otherwise");
     check(asked.now() == question && judged.now() == rows, "judging leaves every byte unchanged");
     return result;
+}
+
+// The same, compared with what ../cpp/judge.hpp gives.
+void judge_twice(const Bytes& question, const Bytes& rows) {
+    check(judge(question, rows) == reader::judge(question, rows), "judged otherwise");
 }
 
 // A solution of the first system alone; no bytes if there is none.
@@ -188,21 +182,62 @@ Bytes first_solution(const Bytes& question) {
     return answer;
 }
 
-// Judges a solution of the first system of an accepted question, also with up to three leaves turned round, and rows made
-// of the input.
-void judged(const Bytes& question, const std::uint8_t* data, std::size_t size) {
+void shown(const Bytes& bytes, const reader::Question& question, const Lent& answer, unsigned given) {
+    const std::vector<Row> all = rows(answer);
+    for (std::size_t variable = 0; variable < 12; ++variable) {
+        check(height(all[variable]) <= given, "a shown tree is too tall");
+        check(variable < question.free || all[variable].none(), "a row of no free variable");
+    }
+    for (const reader::Clause& clause : question.clauses)
+        check(clause.second || reader::holds(clause, all), "what is shown does not solve the first system");
+    const Bytes now = answer.now();
+    check(judge(bytes, Bytes(now.begin(), now.begin() + 1536)) == ZIMORGAL_ROWS_ACCEPTED, "what is shown is accepted");
+}
+
+// Judges whatever stands in the answer buffer, and however long it is. Of an accepted question it judges a solution of
+// the first system too, also with up to three leaves turned round, and rows made of the input.
+void judged(const Bytes& question, const Bytes& answer, bool accepted, const std::uint8_t* data, std::size_t size) {
+    judge_twice(question, answer);
+    if (!accepted) return;
     Bytes rows = first_solution(question);
     if (!rows.empty()) {
-        judge(question, rows);
+        judge_twice(question, rows);
         for (std::size_t i = 0; i + 2 < size && i < 9; i += 3) {
             const std::size_t leaf = data[i] % 4 * 256 + data[i + 1], row = data[i + 2] % (question[2] + 1) % 12;
             rows[128 * row + leaf / 8] ^= static_cast<std::uint8_t>(1u << leaf % 8);
-            judge(question, rows);
+            judge_twice(question, rows);
         }
     }
     Bytes made(1536);
     for (std::size_t i = 0; i < std::size_t{128} * question[2]; ++i) made[i] = data[i / 8 % size];
-    judge(question, made);
+    judge_twice(question, made);
+}
+
+// The number that asking gives if it refuses, 0 if it does not.
+std::uint64_t refusal_due(const reader::Reading& reading, std::size_t answer_bytes, std::size_t work_bytes) {
+    if (reading.refusal != 0) return reading.refusal << 8 | reading.place << 16;
+    if (answer_bytes < 1536) return 11 << 8;
+    return work_bytes < 4096 ? 12 << 8 : 0;
+}
+
+// The fields of what asking gives for an accepted question.
+void fields(const reader::Question& asked, std::uint64_t result, bool shows) {
+    const int verdict = zimorgal_verdict(result), reason = zimorgal_reason(result);
+    check((verdict == ZIMORGAL_YES || verdict == ZIMORGAL_NO) && result >> 56 == 0, "a verdict");
+    check(zimorgal_refusal(result) == 0 && zimorgal_place(result) == 0, "no refusal, no place");
+    check(zimorgal_height_given(result) == (shows ? height_due(asked) : 0), "the height given");
+    check(asked.entailment ? (verdict == ZIMORGAL_YES ? reason <= 1 : reason == 2 || reason == 3) : reason == 0,
+          "reason");
+    check(zimorgal_disequation(result) <= (reason == 3 ? 30 : 0), "a disequation");
+}
+
+// The answer buffer outside of what is shown is as it was, and the work area is cleared.
+void buffers(const Bytes& answer_before, Bytes answer, Bytes work_before, const Bytes& work, bool shows) {
+    std::fill(work_before.begin(), work_before.begin() + 4096, std::uint8_t{0});
+    check(work == work_before, "the work area is cleared");
+    if (shows) answer.erase(answer.begin(), answer.begin() + 1536);
+    check(answer == Bytes(answer_before.end() - static_cast<std::ptrdiff_t>(answer.size()), answer_before.end()),
+          "bytes that nothing is shown in");
 }
 
 }  // namespace
@@ -224,42 +259,19 @@ extern "C" int LLVMFuzzerTestOneInput(const std::uint8_t* data, std::size_t size
     const std::uint64_t result =
         zimorgal_ask(question.data.get(), question.size, answer.data.get(), answer.size, work.data.get(), work.size);
     check(question.now() == bytes, "the question is unchanged");
+    // Judging twice takes longer than all else here: about every eighth input is judged so, by the byte in its middle.
+    if (data[size / 2] % 8 == 3) judged(bytes, answer.now(), reading.refusal == 0, data, size);
 
-    judge(bytes, answer.now());  // whatever stands there, and however long it is
-    if (reading.refusal == 0) judged(bytes, data, size);
-
-    std::uint64_t refusal = reading.refusal << 8 | reading.place << 16;
-    if (refusal == 0 && answer_bytes < 1536) refusal = 11 << 8;
-    if (refusal == 0 && work_bytes < 4096) refusal = 12 << 8;
-    if (refusal != 0) {
+    if (const std::uint64_t refusal = refusal_due(reading, answer_bytes, work_bytes); refusal != 0) {
         check(result == refusal, "another refusal");
         check(answer.now() == answer_before && work.now() == work_before, "a refusal leaves every byte unchanged");
         return 0;
     }
 
-    const reader::Question& asked = reading.question;
-    const bool shows = zimorgal_shows(result, asked.entailment) != 0;
-    const int verdict = zimorgal_verdict(result), reason = zimorgal_reason(result);
-    check((verdict == ZIMORGAL_YES || verdict == ZIMORGAL_NO) && result >> 56 == 0, "a verdict");
-    check(zimorgal_refusal(result) == 0 && zimorgal_place(result) == 0, "no refusal, no place");
-    check(zimorgal_height_given(result) == (shows ? height_due(asked) : 0), "the height given");
-    check(asked.entailment ? (verdict == ZIMORGAL_YES ? reason <= 1 : reason == 2 || reason == 3) : reason == 0,
-          "reason");
-    check(zimorgal_disequation(result) <= (reason == 3 ? 30 : 0), "a disequation");
-
-    Bytes answer_due = answer.now(), work_due = work_before;
-    std::fill(work_due.begin(), work_due.begin() + 4096, std::uint8_t{0});
-    check(work.now() == work_due, "the work area is cleared");
-    if (shows) answer_due.erase(answer_due.begin(), answer_due.begin() + 1536);
-    check(
-        answer_due == Bytes(answer_before.end() - static_cast<std::ptrdiff_t>(answer_due.size()), answer_before.end()),
-        "bytes that nothing is shown in");
-    if (shows) {
-        shown(asked, answer, zimorgal_height_given(result));
-        const Bytes now = answer.now();
-        check(judge(bytes, Bytes(now.begin(), now.begin() + 1536)) == ZIMORGAL_ROWS_ACCEPTED,
-              "what is shown is accepted");
-    }
+    const bool shows = zimorgal_shows(result, reading.question.entailment) != 0;
+    fields(reading.question, result, shows);
+    buffers(answer_before, answer.now(), work_before, work.now(), shows);
+    if (shows) shown(bytes, reading.question, answer, zimorgal_height_given(result));
 
     const Lent again(answer_before), work_again(work_before);
     check(zimorgal_ask(question.data.get(), question.size, again.data.get(), again.size, work_again.data.get(),
