@@ -22,12 +22,7 @@ pub fn shown(question: &Question) -> Option<Vec<u8>> {
 
 /// The rows that asking shows of the first system alone, if it has a solution.
 pub fn solution(question: &Question) -> Option<Vec<u8>> {
-    shown(&Question {
-        entailment: false,
-        own: 0,
-        second: Vec::new(),
-        ..question.clone()
-    })
+    shown(&question.first_alone())
 }
 
 /// The row of each free variable from its leaves; the other rows are zero.
@@ -168,7 +163,7 @@ fn one_leaf_to_split(random: &mut Random) -> (Vec<u8>, Vec<u8>) {
     (worked::bytes(question), rows)
 }
 
-/// One to four own shares beside a row that is empty at one leaf of its height, or at two: mostly own trees must be taller than the row, and are no taller than 3.
+/// One to four own shares beside a row that is empty at one leaf of its height, or at two: mostly own trees must be taller than the row.
 pub fn own_parts(random: &mut Random) -> (Question, Vec<u8>) {
     let own = random.between(1, 4);
     let not_full = Clause {
