@@ -164,7 +164,10 @@ impl Asker<'_> {
         let fault = judger::fault(&self.question, &self.answer, ANSWER_BYTES, packed(due));
         self.report.case(match fault {
             None => Ok(()),
-            Some(fault) => Err(format!("{}: rows handed over: {fault}", hex(bytes))),
+            Some(fault) => {
+                let rows = &self.answer.part()[..ANSWER_BYTES];
+                Err(judger::told(bytes, rows, &fault))
+            }
         });
     }
 

@@ -301,8 +301,8 @@ fn each_choice(report: &mut Report) {
     enough(judger.report, "judgements", &given, 50_000);
 }
 
-/// The rows of the free variables are these shares. They extend if the share that must not be empty is not; with a leaf turned they never do. Without a free variable
-/// an empty share must not be, in place of the leaf.
+/// The rows of the free variables are these shares. They extend if a share with a full leaf must not be empty. They do not with a leaf turned, nor, where no variable is
+/// free, if a share that is empty must not be.
 fn one_choice(judger: &mut Judger, free: usize, shares: &[u32]) {
     let all = 0..MOST_VARIABLES;
     let (empty, full): (Vec<usize>, Vec<usize>) = all.partition(|v| shares[*v] == 0);

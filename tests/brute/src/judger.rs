@@ -188,7 +188,7 @@ pub fn fault(question: &Lent, rows: &Lent, length: usize, due: u64) -> Option<St
 }
 
 /// A fault, with the question and the rows but for the bytes 0 at their end.
-fn told(bytes: &[u8], rows: &[u8], fault: &str) -> String {
+pub fn told(bytes: &[u8], rows: &[u8], fault: &str) -> String {
     let last = rows.iter().rposition(|byte| *byte != 0);
     let shown = hex(&rows[..last.map_or(0, |at| at + 1)]);
     let (bytes, length) = (hex(bytes), rows.len());

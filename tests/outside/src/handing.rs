@@ -168,8 +168,8 @@ fn eight_threads(report: &mut Report) {
     }
 }
 
-/// Questions that grow by mutation, once in half of the rounds, with rows that someone made for another; what gives another sort of number is kept and mutated further.
-/// Of what is refused at the start one in four is kept.
+/// Questions that grow by mutation, by one in half of the rounds and by up to four in the others, with rows that someone made for another. What gives another sort of
+/// number is kept and mutated further. Of what is refused at the start one in four is kept.
 fn mutation(report: &mut Report) {
     let random = &mut report.random();
     let mut corpus: Vec<Vec<u8>> = Vec::new();
