@@ -1,8 +1,10 @@
 //! Asks the library and compares all that it gives with what is due: every field of the number, and every lent
-//! byte before and after. Rows that it shows are handed over to be judged, and must be accepted.
+//! byte before and after. Rows that it shows are handed over to be judged, and must be accepted. If an entailment holds, rows that it shows of the first system alone
+//! must extend.
 
 use crate::due::{decided, due, Answered, Decided};
-use crate::handed::{packed, Judgement};
+use crate::handed::{judged, packed, Judged, Judgement};
+use crate::handed_rows::changed;
 use crate::judge::{judge, ANSWER_BYTES};
 use crate::judger;
 use crate::lent::{Lent, CONTENTS};
@@ -11,7 +13,7 @@ use crate::question::{hex, write, write_in_order, Question};
 use crate::random::Random;
 use crate::report::Report;
 use crate::seen::Seen;
-use crate::single::{decide, Outcome};
+use crate::single::{decide, satisfiable, Outcome};
 
 /// How much longer than need be a buffer is at most, mostly.
 const MORE: usize = 300;
@@ -131,19 +133,60 @@ impl Asker<'_> {
             None => Ok(()),
             Some(fault) => Err(format!("{} with {lengths:?}: {fault}", hex(bytes))),
         });
-        if right && !due(decided, lengths.0, lengths.1).answer.is_empty() {
-            self.hand_over(bytes);
+        let Decided::Answered(one) = decided else {
+            return;
+        };
+        if !right || lengths.0 < ANSWER_BYTES || lengths.1 < ASK_WORK_BYTES {
+            return;
+        }
+        if one.rows.is_some() {
+            self.hand_over(bytes, &one.question, Judgement::Accepted);
+        }
+        if one.question.entailment && (one.outcome.yes, one.outcome.reason) == (true, 0) {
+            self.hand_over_first_alone(bytes, &one.question);
         }
     }
 
-    /// One case of judging: the rows that were shown are accepted, from the very buffer.
-    fn hand_over(&mut self, bytes: &[u8]) {
-        let accepted = packed(Ok(Judgement::Accepted));
-        let fault = judger::fault(&self.question, &self.answer, ANSWER_BYTES, accepted);
+    /// Cases of judging: the rows in the answer buffer are judged so, from the very buffer. Once in 8 they are handed over with a change too, and what is due comes from
+    /// the leaves.
+    fn hand_over(&mut self, bytes: &[u8], question: &Question, due: Judgement) {
+        self.judging(bytes, Ok(due));
+        if self.random.once_in(8) {
+            let rows = &self.answer.part()[..ANSWER_BYTES];
+            let rows = changed(&mut self.random, question, rows);
+            self.answer.lend_holding(&mut self.random, &rows);
+            self.judging(bytes, judged(bytes, &rows));
+        }
+    }
+
+    /// One case of judging, of the question that is lent and the rows in the answer buffer.
+    fn judging(&mut self, bytes: &[u8], due: Judged) {
+        let fault = judger::fault(&self.question, &self.answer, ANSWER_BYTES, packed(due));
         self.report.case(match fault {
             None => Ok(()),
-            Some(fault) => Err(format!("{}: shown rows handed over: {fault}", hex(bytes))),
+            Some(fault) => {
+                let rows = &self.answer.part()[..ANSWER_BYTES];
+                Err(judger::told(bytes, rows, &fault))
+            }
         });
+    }
+
+    /// The first system of an entailment that holds is asked alone, which is a case of asking. All its solutions extend, so the rows that are shown do.
+    fn hand_over_first_alone(&mut self, bytes: &[u8], question: &Question) {
+        let alone = question.first_alone();
+        let alone_bytes = write_in_order(&alone);
+        let outcome = satisfiable(&alone);
+        let answered = Decided::Answered(Answered::new(alone, outcome));
+        let fault = self.fault_of_call(&alone_bytes, EXACT, &answered);
+        let right = fault.is_none();
+        self.report.case(match fault {
+            None => Ok(()),
+            Some(fault) => Err(format!("{}: {fault}", hex(&alone_bytes))),
+        });
+        if right {
+            self.question.lend_holding(&mut self.random, bytes);
+            self.hand_over(bytes, question, Judgement::Extends);
+        }
     }
 
     /// Lends the question and the buffers, which hold something of each sort in turn.

@@ -34,7 +34,7 @@ pub fn packed(judged: Judged) -> u64 {
 }
 
 /// The values of the free variables and of the constants at one leaf.
-#[derive(Clone, Debug, PartialEq, Eq)]
+#[derive(Clone, Debug, PartialEq, Eq, Hash)]
 pub struct Leaf {
     pub choice: Vec<bool>,
     pub constants: Vec<bool>,

@@ -34,6 +34,19 @@ const FIRST_TWO: &str = "(((((((((*o)o)o)o)o)o)o)o)o)";
 const ALL_BUT_LAST: &str = "(*(*(*(*(*(*(*(*(*(*o))))))))))";
 
 pub const SPLIT: &str = "01 01 01 02 | E | 13 00 20 | 20 01 02 00 | 23 01 20 | 23 02 20 | 00";
+/// v0 is split into three.
+pub const THREE_PARTS: &str =
+    "01 01 01 04 | E | 13 00 20 | 20 01 02 03 | 20 03 04 00 | 23 01 20 | 23 02 20 | 23 04 20 | 00";
+/// Ten own readers are held together, and beside v0.
+pub const TEN_READERS: &str = "01 01 01 0A \
+    | 3A 00 01 | 3A 00 02 | 3A 00 03 | 3A 00 04 | 3A 00 05 | 3A 00 06 | 3A 00 07 | 3A 00 08 | 3A 00 09 | 3A 00 0A \
+    | 3A 01 02 | 3A 01 03 | 3A 01 04 | 3A 01 05 | 3A 01 06 | 3A 01 07 | 3A 01 08 | 3A 01 09 | 3A 01 0A \
+    | 3A 02 03 | 3A 02 04 | 3A 02 05 | 3A 02 06 | 3A 02 07 | 3A 02 08 | 3A 02 09 | 3A 02 0A \
+    | 3A 03 04 | 3A 03 05 | 3A 03 06 | 3A 03 07 | 3A 03 08 | 3A 03 09 | 3A 03 0A \
+    | 3A 04 05 | 3A 04 06 | 3A 04 07 | 3A 04 08 | 3A 04 09 | 3A 04 0A \
+    | 3A 05 06 | 3A 05 07 | 3A 05 08 | 3A 05 09 | 3A 05 0A | 3A 06 07 | 3A 06 08 | 3A 06 09 | 3A 06 0A \
+    | 3A 07 08 | 3A 07 09 | 3A 07 0A | 3A 08 09 | 3A 08 0A | 3A 09 0A \
+    | 39 01 | 39 02 | 39 03 | 39 04 | 39 05 | 39 06 | 39 07 | 39 08 | 39 09 | 39 0A | 00";
 const LEFT_JOIN: &str = "01 01 02 01 | E R L | 13 00 20 | 12 01 21 | 20 22 02 00 | 00";
 const NOT_LEFT: &str = "01 00 02 00 | F L E | 10 00 01 20 | 13 00 21 | 13 01 22 | 00";
 const ENTAILS_NOT_EMPTY: &str = "01 01 02 00 | F E | 10 00 01 20 | 23 00 21 | 00";
@@ -373,6 +386,37 @@ const OF_WORDS: &[Handed] = &[
     (
         "two disequations of the second, one cannot be had",
         "01 01 01 00 | E F | 23 00 20 | 23 00 21 | 00",
+        &["*"],
+        ACCEPTED,
+    ),
+    (
+        "v0 split into three: own shares of height 2 beside height 0",
+        THREE_PARTS,
+        &["*"],
+        EXTENDS,
+    ),
+    (
+        "v0 split into three: own shares of height 12",
+        THREE_PARTS,
+        &[FIRST_LEAF],
+        EXTENDS,
+    ),
+    ("v0 split into three: empty", THREE_PARTS, &["o"], broken(0)),
+    (
+        "ten own readers beside v0: own shares of height 4 beside height 0",
+        TEN_READERS,
+        &["o"],
+        EXTENDS,
+    ),
+    (
+        "ten own readers beside v0: own shares of height 14",
+        TEN_READERS,
+        &[ALL_BUT_LAST],
+        EXTENDS,
+    ),
+    (
+        "ten own readers beside v0: full",
+        TEN_READERS,
         &["*"],
         ACCEPTED,
     ),

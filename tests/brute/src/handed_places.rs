@@ -9,8 +9,8 @@ use crate::judger::Judger;
 use crate::library::{self, ASK_WORK_BYTES};
 use crate::make::shuffle;
 use crate::question::{
-    hex, read, Clause, Question, Refusal, Relation, Term, MOST_DISEQUATIONS, MOST_POSITIVE,
-    MOST_VARIABLES, SORTS,
+    read, Clause, Question, Refusal, Relation, Term, MOST_CONSTANTS, MOST_DISEQUATIONS,
+    MOST_POSITIVE, MOST_VARIABLES, SORTS,
 };
 use crate::random::Random;
 use crate::refusals;
@@ -70,6 +70,17 @@ fn holds(clause: &Clause, leaves: impl Fn(Term) -> u32) -> bool {
     plain != clause.negated
 }
 
+/// Puts these values at random places, and tells the places.
+fn put(random: &mut Random, all: &mut [u32], values: &[u32]) -> Vec<usize> {
+    let mut places: Vec<usize> = (0..all.len()).collect();
+    shuffle(random, &mut places);
+    places.truncate(values.len());
+    for (place, value) in places.iter().zip(values) {
+        all[*place] = *value;
+    }
+    places
+}
+
 /// Clauses that hold of some rows and clauses that they break, the positive ones and the disequations.
 struct Pools {
     question: Question,
@@ -79,18 +90,22 @@ struct Pools {
 }
 
 impl Pools {
-    /// The rows of four variables: any share, the rest of it, a part of it, and full. The constants are empty, full and any share.
+    /// The clauses are of four variables, which are any share, the rest of it, a part of it, and full, and of three constants: empty, full and any share. They stand
+    /// anywhere among as many as there may be; the others are any shares.
     fn new(random: &mut Random, entailment: bool) -> Pools {
-        let any = random.number() as u32;
-        let shares = [any, !any, any & random.number() as u32, u32::MAX];
-        let constants = [0, u32::MAX, random.number() as u32];
+        let mut share = || random.number() as u32;
+        let (any, part) = (share(), share());
+        let mut shares = [(); MOST_VARIABLES].map(|()| share());
+        let mut constants = [(); MOST_CONSTANTS].map(|()| share());
+        let variables = put(random, &mut shares, &[any, !any, any & part, u32::MAX]);
+        let named = put(random, &mut constants, &[0, u32::MAX, part]);
         let leaves = |term| match term {
             Term::Variable(v) => shares[v],
             Term::Constant(c) => constants[c],
         };
-        let variables = (0..shares.len()).map(Term::Variable);
+        let variables = variables.into_iter().map(Term::Variable);
         let terms: Vec<Term> = variables
-            .chain((0..constants.len()).map(Term::Constant))
+            .chain(named.into_iter().map(Term::Constant))
             .collect();
         let pool = |held: bool, negated: bool| {
             let clauses = all_clauses(&terms).into_iter();
@@ -270,56 +285,65 @@ fn each_constant_leaf(report: &mut Report) {
     }
 }
 
-/// Each of the 4,096 choices of 12 variables, free and own, at one leaf of the constants, and all empty at the others.
+/// Each of the 4,096 choices of 12 variables, free and own, at one leaf of the constants, and all empty at the others, for each split.
 fn each_choice(report: &mut Report) {
     let mut judger = Judger::new(report);
-    let mut splits = [0; MOST_VARIABLES + 1];
     for choice in 0..1_u32 << MOST_VARIABLES {
-        let free = judger.random.below(MOST_VARIABLES + 1);
-        splits[free] += 1;
-        let full_at = 1 << judger.random.below(32);
-        let shares: Vec<u32> = (0..MOST_VARIABLES)
-            .map(|variable| (choice >> variable & 1) * full_at)
-            .collect();
-        one_choice(&mut judger, free, &shares);
+        for free in 0..=MOST_VARIABLES {
+            let full_at = 1 << judger.random.below(32);
+            let shares: Vec<u32> = (0..MOST_VARIABLES)
+                .map(|variable| (choice >> variable & 1) * full_at)
+                .collect();
+            one_choice(&mut judger, free, &shares);
+        }
     }
     let given = [judger.given.accepted[1], judger.given.extends];
-    enough(judger.report, "judgements", &given, 1_000);
-    enough(judger.report, "splits", &splits, 200);
+    enough(judger.report, "judgements", &given, 50_000);
 }
 
-/// The second system says of each variable that it is the share given here, so that no other choice will do, and of one that it is not empty. The rows of
-/// the free ones are these shares: they extend if that one is not empty. With a leaf turned they never do.
+/// The rows of the free variables are these shares. They extend if a share with a full leaf must not be empty. They do not with a leaf turned, nor, where no variable is
+/// free, if a share that is empty must not be.
 fn one_choice(judger: &mut Judger, free: usize, shares: &[u32]) {
-    let wanted = judger.random.below(MOST_VARIABLES);
-    let term = Term::Variable(wanted);
+    let all = 0..MOST_VARIABLES;
+    let (empty, full): (Vec<usize>, Vec<usize>) = all.partition(|v| shares[*v] == 0);
+    let mut rows = rows_of_numbers(&shares[..free]);
+    if !full.is_empty() {
+        let bytes = pinned(judger, free, shares, &full);
+        judger.known_by_leaf(&bytes, &rows, Ok(Extends));
+    }
+    if free > 0 {
+        let at = judger.random.below(free * ROW_BYTES);
+        rows[at] ^= 1 << judger.random.below(8);
+    }
+    let wanted = if free > 0 && !full.is_empty() {
+        &full
+    } else {
+        &empty
+    };
+    if !wanted.is_empty() {
+        let bytes = pinned(judger, free, shares, wanted);
+        judger.known_by_leaf(&bytes, &rows, Ok(Accepted));
+    }
+}
+
+/// The second system says of each variable that it is the share given here, so that no other choice will do, and of one of these that it is not empty.
+fn pinned(judger: &mut Judger, free: usize, shares: &[u32], of_these: &[usize]) -> Vec<u8> {
+    let wanted = Term::Variable(judger.random.pick(of_these));
     let equal = |v| Relation::Equal(Term::Variable(v), Term::Constant(v));
     let clause = |relation, negated| Clause { relation, negated };
     let mut second: Vec<Clause> = (0..MOST_VARIABLES)
         .map(|v| clause(equal(v), false))
         .collect();
-    second.push(clause(Relation::Empty(term), true));
+    second.push(clause(Relation::Empty(wanted), true));
     shuffle(&mut judger.random, &mut second);
-    let question = Question {
+    judger.mixed(&Question {
         entailment: true,
         free,
         own: MOST_VARIABLES - free,
         constants: shares.iter().map(|share| tree_of_number(*share)).collect(),
         first: Vec::new(),
         second,
-    };
-    let bytes = judger.mixed(&question);
-    let mut rows = rows_of_numbers(&shares[..free]);
-    let due = match shares[wanted] {
-        0 => Accepted,
-        _ => Extends,
-    };
-    judger.known_by_leaf(&bytes, &rows, Ok(due));
-    if free > 0 {
-        let at = judger.random.below(free * ROW_BYTES);
-        rows[at] ^= 1 << judger.random.below(8);
-        judger.known_by_leaf(&bytes, &rows, Ok(Accepted));
-    }
+    })
 }
 
 /// The refusal that asking gives of these bytes with buffers that are long enough, as a number.
@@ -350,9 +374,7 @@ fn faults(report: &mut Report) {
         for rows in some_rows(&mut judger.random) {
             judger.bytes(&bytes, &rows);
             if let Some(number) = asked(&bytes) {
-                let what = hex(&bytes);
-                let given = library::judge(&bytes, &rows);
-                judger.report.same(&what, given, number);
+                judger.gives(&bytes, &rows, number);
             }
         }
     }

@@ -4,8 +4,8 @@ use crate::damage::damaged;
 use crate::fixed;
 use crate::handed_by_hand;
 use crate::judge::{ANSWER_BYTES, ROW_BYTES};
-use crate::make::{random_question, random_row, Size};
-use crate::question::{positive, write, Question};
+use crate::make::{random_question, random_row, shuffle, Size};
+use crate::question::{positive, write, Clause, Question, Relation, Term};
 use crate::random::Random;
 use crate::single::{choices, constants_by_leaf, decide, holds_at_leaf};
 use crate::slips::some_question;
@@ -22,12 +22,7 @@ pub fn shown(question: &Question) -> Option<Vec<u8>> {
 
 /// The rows that asking shows of the first system alone, if it has a solution.
 pub fn solution(question: &Question) -> Option<Vec<u8>> {
-    shown(&Question {
-        entailment: false,
-        own: 0,
-        second: Vec::new(),
-        ..question.clone()
-    })
+    shown(&question.first_alone())
 }
 
 /// The row of each free variable from its leaves; the other rows are zero.
@@ -90,6 +85,13 @@ pub fn some(random: &mut Random, question: &Question) -> Vec<u8> {
     })
 }
 
+/// Turns all leaves of a row.
+fn negate(row: &mut [u8]) {
+    for byte in row {
+        *byte ^= 0xFF;
+    }
+}
+
 /// Rows with one change of a free variable's row: a leaf turned, the first or the last one turned, a block of leaves filled; another row in its place, or
 /// any; its negation; two rows changed for each other. Now and then all are random.
 pub fn changed(random: &mut Random, question: &Question, rows: &[u8]) -> Vec<u8> {
@@ -116,11 +118,7 @@ pub fn changed(random: &mut Random, question: &Question, rows: &[u8]) -> Vec<u8>
             let height = random.below(ROW_HEIGHT as usize + 1) as u32;
             rows[one..one + ROW_BYTES].copy_from_slice(&random_row(random, height));
         }
-        5 => {
-            for byte in &mut rows[one..one + ROW_BYTES] {
-                *byte ^= 0xFF;
-            }
-        }
+        5 => negate(&mut rows[one..one + ROW_BYTES]),
         6 => {
             rows.copy_within(other..other + ROW_BYTES, one);
             rows[other..other + ROW_BYTES].copy_from_slice(&kept);
@@ -144,7 +142,8 @@ pub fn faulty(random: &mut Random, question: &Question, rows: &[u8]) -> Vec<u8> 
     rows
 }
 
-/// A share that is full at one leaf of some height and is to be split: own trees one taller are needed, half of the time of height 11.
+/// A share that is full at one leaf of some height and is to be split in two or in three, or one that is empty there alone beside ten own readers: own trees one, two
+/// or four taller are needed, half of the time taller than 10.
 fn one_leaf_to_split(random: &mut Random) -> (Vec<u8>, Vec<u8>) {
     let lower = random.below(ROW_HEIGHT as usize) as u32;
     let wide = ROW_LEAVES >> random.pick(&[ROW_HEIGHT, lower]);
@@ -153,7 +152,63 @@ fn one_leaf_to_split(random: &mut Random) -> (Vec<u8>, Vec<u8>) {
     for leaf in start..start + wide {
         rows[leaf / 8] |= 1 << (leaf % 8);
     }
-    (worked::bytes(handed_by_hand::SPLIT), rows)
+    let question = match random.below(8) {
+        0..=2 => handed_by_hand::SPLIT,
+        3..=6 => handed_by_hand::THREE_PARTS,
+        _ => {
+            negate(&mut rows[..ROW_BYTES]);
+            handed_by_hand::TEN_READERS
+        }
+    };
+    (worked::bytes(question), rows)
+}
+
+/// One to four own shares beside a row that is empty at one leaf of its height, or at two: mostly own trees must be taller than the row.
+pub fn own_parts(random: &mut Random) -> (Question, Vec<u8>) {
+    let own = random.between(1, 4);
+    let not_full = Clause {
+        relation: Relation::Equal(Term::Variable(0), Term::Constant(0)),
+        negated: true,
+    };
+    let question = Question {
+        entailment: true,
+        free: 1,
+        own,
+        constants: vec![Tree::Full],
+        first: vec![not_full],
+        second: parts(random, own),
+    };
+    let height = if own < 3 { random.below(3) } else { 0 };
+    let mut leaves = vec![true; 1 << height];
+    for _ in 0..random.between(1, 2) {
+        let at = random.below(leaves.len());
+        leaves[at] = false;
+    }
+    (question, rows_of_leaves(&[leaves]))
+}
+
+/// So many own shares lie beside v0, apart from each other, and are not empty; where there are one or two, the first does not fill up v0. Now and then a
+/// clause is left out.
+fn parts(random: &mut Random, own: usize) -> Vec<Clause> {
+    let mut clauses = Vec::new();
+    let mut mostly = |relation, negated| {
+        if !random.once_in(12) {
+            clauses.push(Clause { relation, negated });
+        }
+    };
+    for one in 1..=own {
+        for other in 0..one {
+            let (one, other) = (Term::Variable(one), Term::Variable(other));
+            mostly(Relation::Together(one, other), false);
+        }
+        mostly(Relation::Empty(Term::Variable(one)), true);
+    }
+    if own < 3 {
+        let [v0, one] = [0, 1].map(Term::Variable);
+        mostly(Relation::Join(v0, one, Term::Constant(0)), true);
+    }
+    shuffle(random, &mut clauses);
+    clauses
 }
 
 /// Questions for which own trees are soon taller than the rows.

@@ -29,20 +29,17 @@ pub fn judged(trees: &Trees, question: &Question, rows: &[u8]) -> Option<Judgeme
     }
 }
 
-/// Whether own trees extend a solution, unless there are too many to try.
+/// Whether own trees extend a solution, unless there are too many to try. One height more than is enough is tried if it can be.
 fn extended(trees: &Trees, question: &Question, solution: &[Tree]) -> Option<bool> {
     if question.own == 0 {
         let mut second = question.second.iter();
         return Some(second.all(|clause| holds(question, clause, solution)));
     }
     let height = own_height(question, solution);
-    if height > TALLEST {
-        return None;
-    }
-    let assignments = (0..question.own).fold(1_usize, |product, _| {
-        product.saturating_mul(tree_count(height))
-    });
-    (assignments <= MOST_ASSIGNMENTS).then(|| extends(trees, question, solution, height))
+    let assignments = |height: u32| tree_count(height).saturating_pow(question.own as u32);
+    let can_try = |height: &u32| *height <= TALLEST && assignments(*height) <= MOST_ASSIGNMENTS;
+    let tried = [height + 1, height].into_iter().find(can_try)?;
+    Some(extends(trees, question, solution, tried))
 }
 
 /// The height of own trees that is enough: k the height of the solution, max(k, h) + c(e).

@@ -1,19 +1,20 @@
 //! Families of judging: rows that someone hands over, of questions of every sort. What is due comes from the leaves; where own trees can be tried, whole
 //! trees must say the same.
 
-use crate::handed::Judgement;
+use crate::handed::{judged, packed, Judgement};
 use crate::handed_by_hand::{self, rows};
-use crate::handed_rows::{any, changed, faulty, mixture, some};
+use crate::handed_rows::{any, changed, faulty, mixture, own_parts, some};
 use crate::judge::{ANSWER_BYTES, ROW_BYTES};
 use crate::judger::Judger;
-use crate::library;
 use crate::make::{entailment, random_question, Counts, Size, CHANGES};
 use crate::question::{read, Question, MOST_VARIABLES};
 use crate::report::{Family, Report};
+use crate::seen::enough;
 use crate::slips::some_question;
 use crate::tree::{row_of_tree, ROW_HEIGHT};
 use crate::whole::all_trees;
 use crate::worked;
+use crate::wrong_judges::needs_taller;
 
 pub const FAMILIES: &[Family] = &[
     ("handed rows worked by hand", worked_rows),
@@ -62,9 +63,9 @@ fn refused_rows(judger: &mut Judger) {
         if let Some(bit) = bit {
             rows[bit / 8] = 1 << (bit % 8);
         }
-        judger.bytes(&question, &rows);
-        let given = library::judge(&question, &rows);
-        judger.report.same(name, given, *number);
+        let due = judged(&question, &rows);
+        judger.report.same_apart(name, packed(due), *number);
+        judger.gives(&question, &rows, *number);
     }
 }
 
@@ -98,7 +99,8 @@ fn low_rows(report: &mut Report) {
     judger.seen_by_trees(500);
 }
 
-/// Rows no taller than 2 that meet the positive clauses, or any, of questions for which own trees of height 3 must be tried.
+/// Rows no taller than 2 that meet the positive clauses, or any, of questions for which own trees of height 3 must be tried; every fourth time own shares that are
+/// crowded beside a row. Where whole trees say that rows extend, own trees must often be taller than all else, and often by two.
 fn taller_own_trees(report: &mut Report) {
     let size = Size {
         height: 2,
@@ -107,15 +109,30 @@ fn taller_own_trees(report: &mut Report) {
         ..SMALL
     };
     let mut judger = Judger::new(report);
-    for _ in 0..judger.report.rounds(12_000) {
-        let question = random_question(&mut judger.random, &size);
-        let height = judger.random.between(question.height() as usize, 2) as u32;
-        let rows = mixture(&mut judger.random, &question, height)
-            .unwrap_or_else(|| any(&mut judger.random, &question, height));
+    let mut needed = [0; 2];
+    for round in 0..judger.report.rounds(16_000) {
+        let random = &mut judger.random;
+        let (question, rows) = match round % 4 {
+            0 => own_parts(random),
+            _ => {
+                let question = random_question(random, &size);
+                let height = random.between(question.height() as usize, 2) as u32;
+                let rows = mixture(random, &question, height);
+                let rows = rows.unwrap_or_else(|| any(random, &question, height));
+                (question, rows)
+            }
+        };
+        let extended = judger.given.by_trees[2];
         judger.question(&question, &rows);
+        if judger.given.by_trees[2] > extended {
+            for (more, count) in needed.iter_mut().enumerate() {
+                *count += usize::from(needs_taller(&question, &rows, more as u32));
+            }
+        }
     }
     judger.seen_all(200);
     judger.seen_by_trees(500);
+    enough(judger.report, "taller own trees", &needed, 100);
 }
 
 /// Rows near to a solution, and each with a change; now and then they are refused.
@@ -152,7 +169,7 @@ fn mixtures(report: &mut Report) {
         let mut counts = || Counts {
             positive: random.below(6),
             disequations: random.below(8),
-            policies: round % 2 == 0,
+            policies: round / 4 % 2 == 0,
         };
         let clauses = (counts(), counts());
         let change = CHANGES[round % CHANGES.len()];
@@ -164,9 +181,7 @@ fn mixtures(report: &mut Report) {
         let bytes = judger.mixed(&question);
         judger.bytes(&bytes, &rows);
     }
-    let given = &judger.given;
-    let seen = [given.accepted[1], given.broken[1], given.extends].map(|count| count > 200);
-    judger.report.same_apart("each was given", seen, [true; 3]);
+    judger.seen_of_kind_1(200);
 }
 
 /// Every split of 12 variables into free and own ones.
@@ -188,9 +203,7 @@ fn rows_of_twelve(report: &mut Report) {
             rows_of_split(&mut judger, &question);
         }
     }
-    let given = &judger.given;
-    let seen = [given.accepted[1], given.broken[1], given.extends].map(|count| count > 100);
-    judger.report.same_apart("each was given", seen, [true; 3]);
+    judger.seen_of_kind_1(100);
 }
 
 /// Rows that meet the positive clauses, at a low height and at the tallest; one with a leaf turned; and any rows where the first system says

@@ -84,19 +84,15 @@ impl Judger<'_> {
     /// One case of judging that is to give this.
     pub fn told(&mut self, bytes: &[u8], rows: &[u8], due: Judged) {
         self.note(bytes, due);
-        let fault = self.fault_of_call(bytes, rows, packed(due));
+        self.gives(bytes, rows, packed(due));
+    }
+
+    /// The same of a number, which is not noted.
+    pub fn gives(&mut self, bytes: &[u8], rows: &[u8], number: u64) {
+        let fault = self.fault_of_call(bytes, rows, number);
         self.report.case(match fault {
             None => Ok(()),
             Some(fault) => Err(told(bytes, rows, &fault)),
-        });
-    }
-
-    /// Checks apart that a wrong number is noticed.
-    pub fn notices(&mut self, bytes: &[u8], rows: &[u8], wrong: u64) {
-        let fault = self.fault_of_call(bytes, rows, wrong);
-        self.report.apart(match fault {
-            Some(_) => Ok(()),
-            None => Err(format!("{}: a wrong result is not noticed", hex(bytes))),
         });
     }
 
@@ -157,6 +153,13 @@ impl Judger<'_> {
         enough(self.report, "judgements", &counts, least);
     }
 
+    /// The same of entailments alone.
+    pub fn seen_of_kind_1(&mut self, least: usize) {
+        let given = &self.given;
+        let counts = [given.accepted[1], given.broken[1], given.extends];
+        enough(self.report, "judgements", &counts, least);
+    }
+
     /// Whole trees said each of the three so often.
     pub fn seen_by_trees(&mut self, least: usize) {
         let counts = self.given.by_trees;
@@ -185,7 +188,7 @@ pub fn fault(question: &Lent, rows: &Lent, length: usize, due: u64) -> Option<St
 }
 
 /// A fault, with the question and the rows but for the bytes 0 at their end.
-fn told(bytes: &[u8], rows: &[u8], fault: &str) -> String {
+pub fn told(bytes: &[u8], rows: &[u8], fault: &str) -> String {
     let last = rows.iter().rposition(|byte| *byte != 0);
     let shown = hex(&rows[..last.map_or(0, |at| at + 1)]);
     let (bytes, length) = (hex(bytes), rows.len());

@@ -163,6 +163,16 @@ impl Question {
         self.free + self.own
     }
 
+    /// The question of kind 0 whether the first system has a solution.
+    pub fn first_alone(&self) -> Question {
+        Question {
+            entailment: false,
+            own: 0,
+            second: Vec::new(),
+            ..self.clone()
+        }
+    }
+
     /// The height of a shown solution of kind 0.
     pub fn height_if_satisfiable(&self) -> u32 {
         self.height() + splits(disequations(&self.first).len())

@@ -159,7 +159,8 @@ pub fn decide(question: &Question) -> Outcome {
     }
 }
 
-fn satisfiable(question: &Question) -> Outcome {
+/// What asking gives of a question of kind 0 that has a solution.
+pub fn satisfiable(question: &Question) -> Outcome {
     Outcome {
         yes: true,
         height: question.height_if_satisfiable(),

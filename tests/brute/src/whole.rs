@@ -198,13 +198,22 @@ pub struct Extension {
     pub had: Vec<bool>,
 }
 
+/// Whether own trees no taller than `own_height` meet these clauses beside a solution, which is given as numbers of trees.
+fn meet(
+    trees: &Trees,
+    question: &Question,
+    clauses: Vec<Clause>,
+    solution: &[usize],
+    own_height: u32,
+) -> bool {
+    let mut heights = vec![own_height; question.variables()];
+    heights[..question.free].fill(0);
+    search(trees, question, clauses, heights).from(solution, &mut |_| true)
+}
+
 /// How a solution, as numbers of trees, extends with own trees no taller than `own_height`.
 fn extension(trees: &Trees, question: &Question, solution: &[usize], own_height: u32) -> Extension {
-    let some = |clauses: Vec<Clause>| {
-        let mut heights = vec![own_height; question.variables()];
-        heights[..question.free].fill(0);
-        search(trees, question, clauses, heights).from(solution, &mut |_| true)
-    };
+    let some = |clauses| meet(trees, question, clauses, solution, own_height);
     let with = |disequation: Clause| {
         let mut clauses = positive(&question.second);
         clauses.push(disequation);
@@ -234,9 +243,8 @@ pub fn extension_of_trees(
 /// Whether own trees no taller than `own_height` extend a solution that is given as trees.
 pub fn extends(trees: &Trees, question: &Question, solution: &[Tree], own_height: u32) -> bool {
     let numbers: Vec<usize> = solution.iter().map(|tree| trees.number(tree)).collect();
-    let mut heights = vec![own_height; question.variables()];
-    heights[..question.free].fill(0);
-    search(trees, question, question.second.clone(), heights).from(&numbers, &mut |_| true)
+    let second = question.second.clone();
+    meet(trees, question, second, &numbers, own_height)
 }
 
 /// What the solutions of the first system up to a height say of an entailment.

@@ -1,10 +1,9 @@
-//! Wrong judges of handed rows: one word of what judging is to give is misread at a time. On many questions and rows each gives another number, and the
-//! comparison with the library notices.
+//! Wrong judges of handed rows: one word of what judging is to give is misread at a time. That each gives another number than is due on many questions and rows, for which
+//! the library is compared with what is due, is counted.
 
 use crate::handed::Judgement::{self, Accepted, Broken, Extends};
 use crate::handed::{
-    extends, judged, leaves, leaves_by, packed, Asked, Leaf, Words, AS_WRITTEN, FOREIGN_BIT,
-    WRONG_LENGTH,
+    extends, judged, leaves, leaves_by, Asked, Leaf, Words, AS_WRITTEN, FOREIGN_BIT, WRONG_LENGTH,
 };
 use crate::handed_rows::some_case;
 use crate::judge::{trees_of_rows, ANSWER_BYTES, ROW_BYTES};
@@ -16,14 +15,14 @@ use crate::report::{Family, Report};
 use crate::single::{beside, choices, holds_at_leaf};
 use crate::slips::enough;
 use crate::tree::{Tree, ROW_HEIGHT};
-use std::collections::HashSet;
+use std::collections::{HashMap, HashSet};
 use std::ops::Range;
 
 pub const FAMILIES: &[Family] = &[("slips in judging", slips_noticed)];
 
 const LEAVES: usize = 1 << ROW_HEIGHT;
 
-const SLIPS: [(&str, Words); 36] = [
+const SLIPS: [(&str, Words); 38] = [
     (
         "accepts everything",
         Words {
@@ -201,15 +200,25 @@ const SLIPS: [(&str, Words); 36] = [
     (
         "own trees no taller than the rows",
         by_extends(|question, leaves, rows| {
-            let height = trees_of_rows(question, rows).iter().map(Tree::height).max();
-            let height = height.unwrap_or(0).max(question.height());
-            extends(question, leaves) && extends_within(question, rows, height)
+            extends(question, leaves) && extends_within(question, rows, tallest(question, rows), 0)
+        }),
+    ),
+    (
+        "own trees one taller than the rows",
+        by_extends(|question, leaves, rows| {
+            extends(question, leaves) && extends_within(question, rows, tallest(question, rows), 1)
         }),
     ),
     (
         "own trees no taller than 10",
         by_extends(|question, leaves, rows| {
-            extends(question, leaves) && extends_within(question, rows, ROW_HEIGHT)
+            extends(question, leaves) && extends_within(question, rows, ROW_HEIGHT, 0)
+        }),
+    ),
+    (
+        "own trees no taller than 11",
+        by_extends(|question, leaves, rows| {
+            extends(question, leaves) && extends_within(question, rows, ROW_HEIGHT, 1)
         }),
     ),
     (
@@ -356,19 +365,36 @@ fn is_undefined(clause: &Clause, leaves: &[Leaf]) -> bool {
     !(AS_WRITTEN.holds)(&Clause { relation, negated }, leaves)
 }
 
-/// Whether own trees no taller than this, which is no less than the rows and the constants are, extend rows that can be extended: each leaf has one own choice.
-/// What is kept is which disequations are had together so far.
-fn extends_within(question: &Question, rows: &[u8], height: u32) -> bool {
+/// The height of the rows, or of the constants if they are taller.
+fn tallest(question: &Question, rows: &[u8]) -> u32 {
+    let heights = trees_of_rows(question, rows).iter().map(Tree::height).max();
+    heights.unwrap_or(0).max(question.height())
+}
+
+/// Whether rows that can be extended need own trees that are taller than the rows and the constants by more than this.
+pub fn needs_taller(question: &Question, rows: &[u8], more: u32) -> bool {
+    !extends_within(question, rows, tallest(question, rows), more)
+}
+
+/// Whether own trees no taller than `height` and so many more extend rows that can be extended. The rows and the constants are no taller than `height`, so each leaf
+/// of it has 2^`more` own choices. What is kept is which disequations are had together so far.
+fn extends_within(question: &Question, rows: &[u8], height: u32, more: u32) -> bool {
     let second = split(&question.second);
     let all = (1_u64 << second.disequations.len()) - 1;
     let mut together = HashSet::from([0]);
-    for leaf in (0..LEAVES).step_by(LEAVES >> height) {
-        if together.contains(&all) {
-            return true;
+    let mut seen = HashMap::new();
+    for number in (0..LEAVES).step_by(LEAVES >> height) {
+        let leaf = leaves(question, rows, [number]).remove(0);
+        let here: &HashSet<u64> = seen
+            .entry(leaf)
+            .or_insert_with_key(|leaf| had_together(&second, question.own, leaf));
+        for _ in 0..1 << more {
+            if together.contains(&all) {
+                return true;
+            }
+            let with = |one: &u64| here.iter().map(|other| one | other).collect::<Vec<u64>>();
+            together = together.iter().flat_map(with).collect();
         }
-        let here = had_together(&second, question.own, &leaves(question, rows, [leaf])[0]);
-        let with = |one: &u64| here.iter().map(|other| one | other).collect::<Vec<u64>>();
-        together = together.iter().flat_map(with).collect();
     }
     together.contains(&all)
 }
@@ -396,20 +422,16 @@ fn at_every_leaf(question: &Question, leaves: &[Leaf]) -> bool {
     })
 }
 
-/// The library judges each once for what is due, and once for each slip that gives another number, which must be found wrong.
+/// The library judges each once. A slip that gives another number for some of them would be noticed in its place.
 fn slips_noticed(report: &mut Report) {
     let mut judger = Judger::new(report);
     let mut changed = [0; SLIPS.len()];
     for _ in 0..judger.report.rounds(5_000) {
         let (bytes, rows) = some_case(&mut judger.random);
         judger.bytes(&bytes, &rows);
-        let right = packed(judged(&bytes, &rows));
+        let right = judged(&bytes, &rows);
         for (count, (_, slip)) in changed.iter_mut().zip(&SLIPS) {
-            let wrong = packed(slip.judge(&bytes, &rows));
-            if wrong != right {
-                *count += 1;
-                judger.notices(&bytes, &rows, wrong);
-            }
+            *count += usize::from(slip.judge(&bytes, &rows) != right);
         }
     }
     let names = SLIPS.map(|(name, _)| name);

@@ -3,8 +3,8 @@
 
 use crate::handed::judge;
 use crate::memory::{Heap, Null, ALIGNMENTS};
-use crate::mutation::mutated;
-use crate::pages::{large, Pages, SIDES};
+use crate::mutation::{mutated, MOST_MUTATIONS};
+use crate::pages::{large, Pages, LONGEST_QUESTION, SIDES};
 use crate::samples::{few_handed, handed, Handed};
 use crate::threads::at_once;
 use brute::handed::{judged, packed};
@@ -15,6 +15,8 @@ use brute::library;
 use brute::question::{hex, read};
 use brute::random::Random;
 use brute::report::{Family, Report};
+use brute::seen::enough;
+use std::collections::HashMap;
 
 pub const FAMILIES: &[Family] = &[
     ("judging with null pointers", nulls),
@@ -27,16 +29,17 @@ pub const FAMILIES: &[Family] = &[
     ("judging mutated questions and rows", mutation),
 ];
 
+/// What judging says, the refusal number and the clause number.
+type Sort = (u8, u8, u8);
+
 /// How far past 1,536 the lengths go.
 const PAST: usize = 70;
-/// Longer questions are left out at the edge of a page.
-const LONGEST_QUESTION: usize = 1500;
 
 /// Each buffer null or not.
 fn nulls(report: &mut Report) {
     let random = &mut report.random();
+    report.case(judge(&mut Null, &mut Null));
     for (bytes, rows) in few_handed() {
-        report.case(judge(&mut Null, &mut Null));
         report.case(judge(&mut Null, &mut Heap::holding(random, 0, &rows)));
         report.case(judge(&mut Heap::holding(random, 0, &bytes), &mut Null));
     }
@@ -144,12 +147,16 @@ fn again_and_again(report: &mut Report) {
     }
 }
 
+/// The number is what is due, and the question and the rows are afterwards what they were.
 fn eight_threads(report: &mut Report) {
     let mut random = report.random();
     let cases = handed(&mut random, 3_000);
     let due = |(bytes, rows): &Handed| packed(judged(bytes, rows));
-    let all_due: Vec<u64> = cases.iter().map(due).collect();
-    let judge = |(bytes, rows): &Handed| library::judge(bytes, rows);
+    let all_due: Vec<(u64, Handed)> = cases.iter().map(|c| (due(c), c.clone())).collect();
+    let judge = |(bytes, rows): &Handed| {
+        let number = library::judge(bytes, rows);
+        (number, (bytes.clone(), rows.clone()))
+    };
     for fault in at_once(&cases, &all_due, judge) {
         report.case(match fault {
             None => Ok(()),
@@ -161,20 +168,23 @@ fn eight_threads(report: &mut Report) {
     }
 }
 
-/// Questions that grow by mutation, with rows that someone made for another; what gives another sort of number is kept and mutated further.
+/// Questions that grow by mutation, by one in half of the rounds and by up to four in the others, with rows that someone made for another. What gives another sort of
+/// number is kept and mutated further. Of what is refused at the start one in four is kept.
 fn mutation(report: &mut Report) {
     let random = &mut report.random();
     let mut corpus: Vec<Vec<u8>> = Vec::new();
     let mut rows: Vec<Vec<u8>> = Vec::new();
-    for (bytes, handed) in handed(random, 300) {
-        if bytes.len() <= LONGEST_QUESTION {
+    for (bytes, handed) in handed(random, 600) {
+        let kept = judged(&bytes, &handed).is_ok() || random.once_in(4);
+        if kept && bytes.len() <= LONGEST_QUESTION {
             corpus.push(bytes);
             rows.push(handed);
         }
     }
-    let mut seen = std::collections::HashSet::new();
-    for _ in 0..report.rounds(60_000) {
-        let bytes = mutated(random, &corpus);
+    let mut seen: HashMap<Sort, usize> = HashMap::new();
+    for round in 0..report.rounds(100_000) {
+        let most = if round % 2 == 0 { 1 } else { MOST_MUTATIONS };
+        let bytes = mutated(random, &corpus, most);
         let mut handed = rows[random.below(rows.len())].clone();
         mutate_rows(random, &bytes, &mut handed);
         let given = judge(
@@ -182,28 +192,39 @@ fn mutation(report: &mut Report) {
             &mut Heap::holding(random, 0, &handed),
         );
         report.case(given);
-        let [sort, refusal, _, _, clause, ..] = packed(judged(&bytes, &handed)).to_le_bytes();
-        if seen.insert((sort, refusal, clause)) {
+        let [said, refusal, _, _, clause, ..] = packed(judged(&bytes, &handed)).to_le_bytes();
+        let count = seen.entry((said, refusal, clause)).or_default();
+        *count += 1;
+        if *count == 1 {
             corpus.push(bytes);
             rows.push(handed);
         }
     }
-    let refusals = (1..=10).chain([18, 19]).map(|number| (0, number));
-    for (sort, refusal) in refusals.chain([(1, 0), (2, 0), (3, 0)]) {
-        let there = seen.iter().any(|s| (s.0, s.1) == (sort, refusal));
-        report.same_apart(
-            "a result was seen",
-            (sort, refusal, there),
-            (sort, refusal, true),
-        );
-    }
+    sorts_seen(report, &seen);
 }
 
-/// Some bits are turned; mostly the rows of no free variable become zero.
-fn mutate_rows(random: &mut Random, bytes: &[u8], rows: &mut [u8]) {
+/// Each refusal was there, and each judgement often.
+fn sorts_seen(report: &mut Report, seen: &HashMap<Sort, usize>) {
+    let count = |said: u8, number: u8| -> usize {
+        let sorts = seen.iter().filter(|(s, _)| (s.0, s.1) == (said, number));
+        sorts.map(|(_, count)| count).sum()
+    };
+    let refusals = (1..=10).chain([18, 19]).map(|number| count(0, number));
+    enough(report, "refusals", &refusals.collect::<Vec<usize>>(), 1);
+    let judgements = [1, 2, 3].map(|said| count(said, 0));
+    println!("accepted, broken and extending: {judgements:?}");
+    enough(report, "judgements", &judgements, 1_000);
+}
+
+/// Some bits are turned; mostly the rows become 1,536 bytes, and those of no free variable zero.
+fn mutate_rows(random: &mut Random, bytes: &[u8], rows: &mut Vec<u8>) {
+    if !random.once_in(8) {
+        rows.resize(ANSWER_BYTES, 0);
+    }
     for _ in 0..random.below(4) {
         if !rows.is_empty() {
-            rows[random.below(rows.len())] ^= 1 << random.below(8);
+            let at = random.below(rows.len());
+            rows[at] ^= 1 << random.below(8);
         }
     }
     let free = bytes

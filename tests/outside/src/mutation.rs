@@ -91,7 +91,7 @@ impl Run {
 
     fn one_round(&mut self, report: &mut Report) {
         self.round += 1;
-        let bytes = mutated(&mut self.random, &self.corpus);
+        let bytes = mutated(&mut self.random, &self.corpus, MOST_MUTATIONS);
         if too_dear(&mut self.random, &bytes) {
             return;
         }
@@ -192,10 +192,13 @@ fn too_dear(random: &mut Random, bytes: &[u8]) -> bool {
     choices > CHOICES && !random.once_in(choices / CHOICES * 8)
 }
 
-/// One to four mutations of a question of the corpus.
-pub fn mutated(random: &mut Random, corpus: &[Vec<u8>]) -> Vec<u8> {
+/// The most mutations of one question.
+pub const MOST_MUTATIONS: usize = 4;
+
+/// One mutation of a question of the corpus, or more, up to `most`.
+pub fn mutated(random: &mut Random, corpus: &[Vec<u8>], most: usize) -> Vec<u8> {
     let mut bytes = corpus[random.below(corpus.len())].clone();
-    for _ in 0..random.between(1, 4) {
+    for _ in 0..random.between(1, most) {
         let other = &corpus[random.below(corpus.len())];
         if random.once_in(3) {
             mutate_bytes(random, &mut bytes, other);

@@ -120,7 +120,7 @@ struct Buffers {
 /// How much longer than need be a buffer is at most.
 const MORE: usize = 300;
 /// Longer questions are left out here.
-const LONGEST_QUESTION: usize = 1500;
+pub const LONGEST_QUESTION: usize = 1500;
 
 fn buffers() -> Buffers {
     Buffers {

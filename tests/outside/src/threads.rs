@@ -25,10 +25,11 @@ const PAIRS: usize = 4000;
 /// How often a pair is joined and measured in a row. A call is so short that threads would otherwise be done one after the other.
 const IN_A_ROW: usize = 100;
 
-/// What the calls give for one question: asking, the text of the first row, and the constant that is read from it.
+/// What the calls give for one question: asking, the text of the first row, and the constant that is read from it; and the question afterwards.
 #[derive(PartialEq, Eq)]
 struct Given {
     number: u64,
+    question: Vec<u8>,
     answer: Vec<u8>,
     work: Vec<u8>,
     text: Vec<u8>,
@@ -47,6 +48,7 @@ fn given(bytes: &[u8]) -> Given {
     text.truncate(length);
     Given {
         number,
+        question: bytes.to_vec(),
         answer,
         work,
         constant: library::constant(&text),
@@ -62,6 +64,7 @@ fn given_due(bytes: &[u8]) -> Given {
     let text = tree_of_row(&answer[..ROW_BYTES]).text().into_bytes();
     Given {
         number: due.number,
+        question: bytes.to_vec(),
         answer,
         work,
         constant: constant_due(&text),
