@@ -7,16 +7,29 @@ use format::Section;
 use format::Shape;
 use format::Test;
 ghost use mathlib.Core.Path.{_≡_};
+ghost use Prim.Native.Nat.{_≤_, _<_};
 ghost use Rattle.format.specs.Format.{entryOf, termCount, operands};
 ghost use Rattle.format.specs.Stored.{four, joinFor};
 
-pub fn entry_of(byte: u8) -> Entry
+// The commands that are no clauses.
+fn plain_entry(byte: u8) -> Entry
+    requires { ⌜ byte < 0x10 ⌝ }
     ensures { λ r. ⌜ r ≡ entryOf byte ⌝ }
 {
     match byte {
         0x00 => Entry::Known(Shape::End),
         0x01 => Entry::Known(Shape::Head),
         0x03 => Entry::Known(Shape::Constant),
+        _ => Entry::Unknown,
+    }
+}
+
+// Joins, equalities and their negations.
+fn clause_entry(byte: u8) -> Entry
+    requires { ⌜ (0x10 ≤ byte) × (byte < 0x30) ⌝ }
+    ensures { λ r. ⌜ r ≡ entryOf byte ⌝ }
+{
+    match byte {
         0x10 => Entry::Known(Shape::Clause(Section::FirstPositive, Test::Join)),
         0x11 => Entry::Known(Shape::Clause(Section::FirstDisequation, Test::Join)),
         0x12 => Entry::Known(Shape::Clause(Section::FirstPositive, Test::Equality)),
@@ -25,6 +38,16 @@ pub fn entry_of(byte: u8) -> Entry
         0x21 => Entry::Known(Shape::Clause(Section::SecondDisequation, Test::Join)),
         0x22 => Entry::Known(Shape::Clause(Section::SecondPositive, Test::Equality)),
         0x23 => Entry::Known(Shape::Clause(Section::SecondDisequation, Test::Equality)),
+        _ => Entry::Unknown,
+    }
+}
+
+// Permission policies.
+fn policy_entry(byte: u8) -> Entry
+    requires { ⌜ 0x30 ≤ byte ⌝ }
+    ensures { λ r. ⌜ r ≡ entryOf byte ⌝ }
+{
+    match byte {
         0x30 => Entry::Known(Shape::Clause(Section::FirstPositive, Test::Full)),
         0x31 => Entry::Known(Shape::Clause(Section::FirstDisequation, Test::Empty)),
         0x32 => Entry::Known(Shape::Clause(Section::FirstPositive, Test::Together)),
@@ -33,6 +56,19 @@ pub fn entry_of(byte: u8) -> Entry
         0x3A => Entry::Known(Shape::Clause(Section::SecondPositive, Test::Together)),
         _ => Entry::Unknown,
     }
+}
+
+// What a command byte announces. One long table would be a function of its own for the compiler, called for each command of a question.
+pub fn entry_of(byte: u8) -> Entry
+    ensures { λ r. ⌜ r ≡ entryOf byte ⌝ }
+{
+    if byte < 0x10 {
+        return plain_entry(byte);
+    }
+    if byte < 0x30 {
+        return clause_entry(byte);
+    }
+    policy_entry(byte)
 }
 
 pub fn term_count(test: Test) -> usize
