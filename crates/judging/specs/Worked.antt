@@ -60,7 +60,7 @@ pub first-judged : (judgementOf (judged unlike) (rowsWith full full) ≡ Broken 
 unfolding everyBelow firstBelow joinLeaf joins bit positives disequations termAt partAt readingAt rowLeaf rowRange rowPart zeros everywhere
 first-judged = (refl, refl, refl)
 
--- one leaf is not full; but it is the join of its two halves, which are taller than the rows
+-- a share with one full leaf is not full; but it is the join of two, which are taller than the rows
 pub second-judged : (judgementOf (judged whole) (rowsWith last (zeros 4)) ≡ Accepted) × (judgementOf (judged parted) (rowsWith last (zeros 4)) ≡ Extending)
 unfolding everyBelow someBelow firstBelow joinLeaf joins bit someChoice at table pickRow plainAt specialAt solvable positives disequations termAt partAt readingAt allAt bothAt rowLeaf rowRange rowPart zeros everywhere
 second-judged = (refl, refl)

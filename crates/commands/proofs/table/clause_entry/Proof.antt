@@ -1,11 +1,9 @@
 -- `commands::table::clause_entry` meets its contract: the rows from 10 to 2F, and no other. Assumes nothing.
-use mathlib.Core.Path.{_≡_, refl}
-use mathlib.Core.Bool.{false}
-use Prim.Native.Nat.{ℕ, _<_, _≤_}
+use mathlib.Core.Path.{refl}
 use native.Mathlib.Omega.{arith}
 use borrow.Author.Tests.{ne-eqb}
-use lib.Dec.{eqb}
 use Rattle.format.specs.Format.{entryOf}
+use Rattle.commands.proofs.CommandFacts.{not-above, not-below}
 use Rattle.commands.proofs.table.clause_entry.Statement.{statement}
 use Rattle.commands.proofs.table.clause_entry.Tie as tie
 
@@ -44,10 +42,9 @@ returns-8 c = rw (c .match .keys8) refl
 returns-9 : tie.Need-returns-9
 unfolding entryOf
 returns-9 c =
-    let b = c .before .args .byte in
     let r = c .match .rest in
-    let below : (k : ℕ) → k < 0x10 → eqb b k ≡ false = λ k l. ne-eqb b k (λ e. omega (arith, c .before .pre)) in
-    let above : (k : ℕ) → 0x30 ≤ k → eqb b k ≡ false = λ k l. ne-eqb b k (λ e. omega (arith, c .before .pre)) in
+    let below = not-below (c .before .pre .0) in
+    let above = not-above (c .before .pre .1) in
     simp (below 0x00 (omega arith), below 0x01 (omega arith), below 0x03 (omega arith), ne-eqb _ _ (r .0 .0 .0 .0 .0 .0 .0 .1), ne-eqb _ _ (r .0 .0 .0 .0 .0 .0 .1), ne-eqb _ _ (r .0 .0 .0 .0 .0 .1), ne-eqb _ _ (r .0 .0 .0 .0 .1), ne-eqb _ _ (r .0 .0 .0 .1), ne-eqb _ _ (r .0 .0 .1), ne-eqb _ _ (r .0 .1), ne-eqb _ _ (r .1), above 0x30 (omega arith), above 0x31 (omega arith), above 0x32 (omega arith), above 0x38 (omega arith), above 0x39 (omega arith), above 0x3A (omega arith))
 
 pub clause-entry-spec : {M : Type 1} → statement M

@@ -1,11 +1,9 @@
 -- `commands::table::policy_entry` meets its contract: the rows from 30 on, and no other. Assumes nothing.
-use mathlib.Core.Path.{_≡_, refl}
-use mathlib.Core.Bool.{false}
-use Prim.Native.Nat.{ℕ, _<_}
+use mathlib.Core.Path.{refl}
 use native.Mathlib.Omega.{arith}
 use borrow.Author.Tests.{ne-eqb}
-use lib.Dec.{eqb}
 use Rattle.format.specs.Format.{entryOf}
+use Rattle.commands.proofs.CommandFacts.{not-below}
 use Rattle.commands.proofs.table.policy_entry.Statement.{statement}
 use Rattle.commands.proofs.table.policy_entry.Tie as tie
 
@@ -36,9 +34,8 @@ returns-6 c = rw (c .match .keys6) refl
 returns-7 : tie.Need-returns-7
 unfolding entryOf
 returns-7 c =
-    let b = c .before .args .byte in
     let r = c .match .rest in
-    let below : (k : ℕ) → k < 0x30 → eqb b k ≡ false = λ k l. ne-eqb b k (λ e. omega (arith, c .before .pre)) in
+    let below = not-below (c .before .pre) in
     simp (below 0x00 (omega arith), below 0x01 (omega arith), below 0x03 (omega arith), below 0x10 (omega arith), below 0x11 (omega arith), below 0x12 (omega arith), below 0x13 (omega arith), below 0x20 (omega arith), below 0x21 (omega arith), below 0x22 (omega arith), below 0x23 (omega arith), ne-eqb _ _ (r .0 .0 .0 .0 .0 .1), ne-eqb _ _ (r .0 .0 .0 .0 .1), ne-eqb _ _ (r .0 .0 .0 .1), ne-eqb _ _ (r .0 .0 .1), ne-eqb _ _ (r .0 .1), ne-eqb _ _ (r .1))
 
 pub policy-entry-spec : {M : Type 1} → statement M
