@@ -142,9 +142,9 @@ enum zimorgal_judgement {
        bits 16 to 31   place of the fault: the offset of the command at fault; for bytes after the end that of the first
                        of them, for a missing command the length of the question, for a buffer 0
        bits 32 to 39   the height given with a shown solution: h + c(d) for a satisfiability, h + c(d+1) for an
-                       entailment, where h is the height of the tallest constant, d counts the disequations of the
-                       first system and c(n) is the least k with n <= 2^k. The solution is no taller; it may be
-                       lower. 0 if none is shown
+                       entailment, where h is the height of the tallest constant that some clause names, 0 if none is
+                       named, d counts the disequations of the first system and c(n) is the least k with n <= 2^k. The
+                       solution is no taller; it may be lower. 0 if none is shown
        bits 40 to 47   reason
        bits 48 to 55   disequation number, for reason 3: which disequation of the second system, in order, from 0
        bits 56 to 63   0

@@ -694,7 +694,7 @@ struct Result {
     Verdict verdict;
     Refusal refusal;
     std::uint16_t place;  // of a refusal: the offset in the question
-    std::uint8_t height;  // given with a shown solution, which is no taller
+    std::uint8_t height;  // given with a shown solution, which is no taller; it goes by the constants that clauses name
     Reason reason;
     std::uint8_t disequation;  // for Reason::disequation_unmet: of the second system, in order, from 0
 };

@@ -2,8 +2,8 @@
 // (crates/leaves/specs/Problem.antt and Second.antt) is given to it for nothing.
 //
 // The clauses are handed over once for each question, with a variable for each constant. A leaf is then one
-// call with the values of the constants there as assumptions, and a disequation is switched on by a variable
-// of its own, so that the solver keeps what it has learnt.
+// call with the values there of the constants that clauses name as assumptions, and a disequation is switched
+// on by a variable of its own, so that the solver keeps what it has learnt.
 #pragma once
 
 #include <array>
@@ -153,6 +153,7 @@ class Decider {
     Literals at(int leaf) const {
         Literals values;
         for (size_t constant = 0; constant < question.constants.size(); constant++) {
+            if (!question.names(constant)) continue;
             const int variable = literal(uint8_t(0x20 + constant));
             values.push_back(question.full(constant, leaf) ? variable : -variable);
         }

@@ -48,18 +48,24 @@ struct Question {
     int free = 0;
     int own = 0;
     std::vector<uint32_t> constants;
+    // Which constants some clause names, constant i at bit i.
+    uint32_t named = 0;
     System first, second;
 
     int variables() const { return free + own; }
 
-    // How many leaves the question falls into: those of its tallest constant.
+    bool names(size_t constant) const { return named >> constant & 1; }
+
+    // How many leaves the question falls into: those of the tallest constant that some clause names.
     int leaves() const {
         uint32_t height = 0;
-        for (uint32_t constant : constants) height = std::max(height, zimorgal_height(constant));
+        for (size_t constant = 0; constant < constants.size(); constant++) {
+            if (names(constant)) height = std::max(height, zimorgal_height(constants[constant]));
+        }
         return 1 << height;
     }
 
-    // A constant's value at one of these leaves.
+    // The value at one of these leaves of a constant that is named.
     bool full(size_t constant, int leaf) const { return constants[constant] >> (leaf * (32 / leaves())) & 1; }
 };
 
@@ -81,6 +87,9 @@ inline Question read(const std::vector<uint8_t> &bytes) {
         System &system = command == sort.second ? question.second : question.first;
         auto &section = sort.disequation ? system.disequations : system.positive;
         section.push_back({sort.relation, {bytes.begin() + at, bytes.begin() + at + sort.terms}});
+        for (uint8_t term : section.back().terms) {
+            if (term >= 0x20) question.named |= uint32_t(1) << (term - 0x20);
+        }
         at += sort.terms;
     }
     return question;

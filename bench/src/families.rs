@@ -3,6 +3,8 @@
 // With paths, since others/families has this file as a module too.
 #[path = "families/constants.rs"]
 mod constants;
+#[path = "families/habit.rs"]
+pub mod habit;
 #[path = "families/policies.rs"]
 mod policies;
 #[path = "families/twelve.rs"]
@@ -18,6 +20,7 @@ use brute::question::{
 use brute::random::Random;
 use brute::tree::{tree_of_number, Tree};
 use brute::worked::{self, Worked};
+use std::collections::BTreeSet;
 use std::ops::Range;
 
 pub struct Family {
@@ -43,6 +46,7 @@ pub fn all() -> Vec<Family> {
         largest_entailments(),
     ];
     families.extend(constants::all());
+    families.extend(habit::all());
     families.extend(twelve::all());
     for shape in [Shape::Any, Shape::OnlyLast] {
         for own in 0..=MOST_VARIABLES {
@@ -65,6 +69,17 @@ fn family(name: &str, questions: impl Iterator<Item = Question>) -> Family {
             .map(|question| write_in_order(&question))
             .collect(),
     }
+}
+
+/// The numbers of the constants that clauses name.
+fn named(question: &Question) -> BTreeSet<usize> {
+    let clauses = question.first.iter().chain(&question.second);
+    let constant = |term| match term {
+        Term::Constant(number) => Some(number),
+        Term::Variable(_) => None,
+    };
+    let terms = clauses.flat_map(|clause| clause.terms());
+    terms.filter_map(constant).collect()
 }
 
 fn by_hand(name: &str, worked: &[Worked]) -> Family {
@@ -258,7 +273,7 @@ pub fn clauses_of_split(variables: usize, fixed: Range<usize>) -> Vec<Clause> {
 
 #[cfg(test)]
 mod tests {
-    use super::{split, Shape};
+    use super::{largest_entailments, largest_satisfiable, split, Shape};
     use brute::question::{read, Clause, Question, MOST_POSITIVE, MOST_VARIABLES};
     use brute::single::{constants_by_leaf, decide, holds_at_leaf};
 
@@ -279,6 +294,16 @@ mod tests {
         }
         let outcome = decide(&question(0, Shape::Missed));
         assert_eq!((outcome.reason, outcome.disequation), (3, 30));
+    }
+
+    /// The largest questions name a constant of height 5.
+    #[test]
+    fn heights() {
+        for family in [largest_satisfiable(), largest_entailments()] {
+            for bytes in &family.inputs {
+                assert_eq!(read(bytes).expect("accepted").height(), 5);
+            }
+        }
     }
 
     /// Each clause of a system, where it holds: whether in no choice, in all, or else, at each leaf.

@@ -1,10 +1,12 @@
-//! Prints one table: nanoseconds and instructions per question, judgement, tree text, join or height for the library, and nanoseconds for route B,
-//! asking, a plain reader or a loop over the leaves, family by family. The library must be linked: set ZIMORGAL_LIB_DIR to the folder of
-//! libzimorgal.a. A second archive is measured beside it through this same program, built with that one.
+//! Prints a table: nanoseconds and instructions per question, judgement, tree text, join or height for the library, and nanoseconds for route B,
+//! asking, a plain reader or a loop over the leaves, family by family. Then a second one, of questions behind a list of constants beside the same
+//! without it. The library must be linked: set ZIMORGAL_LIB_DIR to the folder of libzimorgal.a. A second archive is measured beside it through this
+//! same program, built with that one.
 
 mod asking;
 mod by_leaves;
 mod families;
+mod habit;
 mod instructions;
 mod judged;
 mod lines;

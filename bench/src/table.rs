@@ -1,5 +1,6 @@
-//! The table.
+//! The tables.
 
+use crate::habit;
 use crate::instructions;
 use crate::lines::{self, Line};
 use crate::route_b::TOO_LONG;
@@ -10,10 +11,10 @@ const LEGEND: &str = "ns and instructions: per question, judgement, tree text, j
 compared: route B of tests/brute, for judging the library's asking of the same questions, a plain reader of tree text, a loop over the 32 leaves";
 
 /// An archive that is measured.
-struct Archive {
-    program: Program,
+pub struct Archive {
+    pub program: Program,
     /// The instructions of each family, or why they are not counted.
-    counts: Result<Vec<u64>, String>,
+    pub counts: Result<Vec<u64>, String>,
 }
 
 impl Archive {
@@ -33,7 +34,7 @@ impl Archive {
     }
 }
 
-/// Prints the table of the library that is linked here, and of another program's beside it.
+/// Prints the table of the library that is linked here, and of another program's beside it; then that of a list of constants, of the library alone.
 pub fn print(other: Option<&Path>) {
     let own = std::env::current_exe().expect("the path of this program");
     let mut archives = vec![Archive::new(&own)];
@@ -54,6 +55,7 @@ pub fn print(other: Option<&Path>) {
     if differs {
         println!("differs: the other archive gives another result, shows other rows to be judged or has no such call, and is not measured");
     }
+    habit::print(&lines, &mut archives[0]);
     if let Some(why) = archives
         .iter()
         .find_map(|archive| archive.counts.as_ref().err())
@@ -62,7 +64,7 @@ pub fn print(other: Option<&Path>) {
     }
 }
 
-fn print_line(family: &str, inputs: &str, cells: &[String]) {
+pub fn print_line(family: &str, inputs: &str, cells: &[String]) {
     print!("{family:<60} {inputs:>9}");
     for cell in cells {
         print!(" {cell:>14}");
@@ -118,7 +120,7 @@ fn cells(number: usize, line: &Line, archives: &[Archive], times: &[Option<f64>]
 }
 
 /// With a digit behind the point below 100, and two below 10.
-fn few_digits(number: f64) -> String {
+pub fn few_digits(number: f64) -> String {
     let behind = match number {
         n if n < 10.0 => 2,
         n if n < 100.0 => 1,

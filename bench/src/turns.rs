@@ -12,6 +12,8 @@ use std::time::Duration;
 /// The argument with which this program serves.
 pub const SERVE: &str = "serve";
 const TURNS: usize = 5;
+/// How many turns two lines take that are set beside each other.
+const LINE_TURNS: usize = 15;
 /// How long the rounds of one turn go on.
 const TURN: Duration = Duration::from_millis(30);
 
@@ -110,6 +112,17 @@ pub fn by_turns(programs: &mut [&mut Program], number: usize) -> Vec<f64> {
         }
     }
     times.into_iter().map(median).collect()
+}
+
+/// The nanoseconds per input of two lines by one program, their median turns, and the median of what the first is beside the second. The lines
+/// take turns, so that both have their share of what else the machine does.
+pub fn lines_by_turns(program: &mut Program, numbers: [usize; 2]) -> ([f64; 2], f64) {
+    let turns: Vec<[f64; 2]> = (0..LINE_TURNS)
+        .map(|_| numbers.map(|number| program.time(number)))
+        .collect();
+    let of_line = |line: usize| median(turns.iter().map(|turn| turn[line]).collect());
+    let ratios = turns.iter().map(|[one, other]| one / other);
+    ([of_line(0), of_line(1)], median(ratios.collect()))
 }
 
 fn median(mut times: Vec<f64>) -> f64 {

@@ -701,6 +701,32 @@ void results() {
     check(wild.place == 0xFFFF && wild.height == 0xFF && wild.disequation == 0xFF, "every number is decoded");
 }
 
+// Constants that no clause names do not count for the height given.
+void unnamed_constants() {
+    Question question = satisfiability(1);
+    for (Leaves i = 0; i < 30; ++i) take(question.constant(Leaves{1} << i));
+    const Constant left = take(question.constant("(*o)")), whole = take(question.constant("*"));
+    take(question.first(join(v0, left, whole)));
+    answers("two of 32 constants named", question, {Verdict::yes, Refusal::none, 0, 1, Reason::none, 0}, {"(o*)"},
+            true);
+
+    question = satisfiability(1);
+    const Constant one = take(question.constant("(*(*o))")), other = take(question.constant("(o(o*))"));
+    take(question.first(equal(v0, take(question.constant(join(one.leaves(), other.leaves()))))));
+    answers("a join named, its parts not", question, {Verdict::yes, Refusal::none, 0, 0, Reason::none, 0}, {"*"}, true);
+
+    question = entailment(1, 0);
+    take(question.constant(1u));
+    take(question.second(equal(v0, take(question.constant("(o*)")))));
+    answers("a tall one that is not named", question, {Verdict::no, Refusal::none, 0, 1, Reason::positives_unmet, 0},
+            {"(*o)"}, true);
+
+    question = entailment(1, 0);
+    take(question.second(not_equal(v0, take(question.constant(1u)))));
+    answers("a tall one that the second system names", question,
+            {Verdict::no, Refusal::none, 0, 5, Reason::disequation_unmet, 0}, {"(((((*o)o)o)o)o)"}, true);
+}
+
 // One that may write and one that may read, held together.
 Question writer_and_reader(Question question, Free writer, Free reader) {
     take(question.first(may_write(writer)));
@@ -1468,6 +1494,7 @@ int main() {
     drafts();
     drafts_with_joins();
     results();
+    unnamed_constants();
     policies();
     right_texts();
     wrong_texts();

@@ -86,16 +86,54 @@ def test_random_lets():
     check("joins were defined and undefined", [truth for truth in (True, False) if seen.count(truth) < 100], [])
 
 
+def tall(tree):
+    """The height of a tree text: how many pairs stand one in the other."""
+    depths = [0]
+    for sign in tree:
+        depths.append(depths[-1] + {"(": 1, ")": -1}.get(sign, 0))
+    return max(depths)
+
+
+def said(height, tree):
+    """What is printed of a question of satisfiability with the share c."""
+    return 0, f"answer yes\nheight {height}\nc {tree}\n".encode()
+
+
 def test_let_and_clause():
-    """What 'let' defines is what the clause 'a join b is c' has as c, and where the clause has none, 'let' has an error."""
+    """What 'let' defines is what the clause 'a join b is c' has as c, and where the clause has none, 'let' has an error. The clause names a and b, and
+    after 'let' only their join is named: its height is given."""
     random = Random(23)
     seen = []
     for _ in range(150):
         one = random_tree(random, [0] * LEAVES)
-        head = f"satisfiable\nfree c\nlet a = {one}\nlet b = {random_tree(random, unfolded(one))}\n"
-        by_clause = command("ask", "-", given=f"{head}a join b is c".encode())
-        by_let = command("ask", "-", given=f"{head}let d = a join b\nc is d".encode())
-        defined = by_clause[0] == 0
-        check(f"{head!r}: the clause and 'let'", by_let[:2], by_clause[:2] if defined else (2, b""))
-        seen.append(defined)
-    check("clauses had a join and none", [truth for truth in (True, False) if seen.count(truth) < 10], [])
+        other = random_tree(random, unfolded(one))
+        head = f"satisfiable\nfree c\nlet a = {one}\nlet b = {other}\n"
+        by_clause = command("ask", "-", given=f"{head}a join b is c".encode())[:2]
+        by_let = command("ask", "-", given=f"{head}let d = a join b\nc is d".encode())[:2]
+        whole = [sum(pair) for pair in zip(unfolded(one), unfolded(other))]
+        defined = 2 not in whole
+        tree = folded(whole) if defined else None
+        check(f"{head!r}: the clause", by_clause, said(max(tall(one), tall(other)), tree) if defined else (1, b"answer no\n"))
+        check(f"{head!r}: 'let'", by_let, said(tall(tree), tree) if defined else (2, b""))
+        seen.append((defined, defined and tall(tree) < max(tall(one), tall(other))))
+    check("clauses had a join and none", [truth for truth in (True, False) if [defined for defined, _ in seen].count(truth) < 10], [])
+    check("a join was lower than its parts", any(lower for _, lower in seen), True)
+
+
+T, U = "(((((*o)o)o)o)o)", "(((((o*)*)*)*)*)"  # one leaf of 32, and the other 31
+# Texts with constants that no clause names, and what is printed: the height is told by those that are named.
+UNNAMED = [
+    (f"satisfiable\nfree a\nlet t = {T}\nlet l = (*o)\na join l is *", "answer yes\nheight 1\na (o*)\n"),
+    (f"satisfiable\nfree a\nlet t = {T}\nlet u = {U}\nlet f = t join u\na is f", "answer yes\nheight 0\na *\n"),
+    (f"satisfiable\nfree a\nlet t = {T}\nlet u = {U}\nlet f = t join u\na join t is f", f"answer yes\nheight 5\na {U}\n"),
+    (f"satisfiable\nfree a\nlet t = {T}\na may read", "answer yes\nheight 0\na *\n"),
+    ("satisfiable\nfree a\n" + "".join(f"let c{n} = {T}\n" for n in range(30)) + "let l = (*o)\nlet f = *\na join l is f", "answer yes\nheight 1\na (o*)\n"),
+    (f"entails\nfree a\nlet t = {T}\nlet r = (o*)\nthen\na is r", "answer no\nheight 1\na (*o)\nreason 2\n"),
+    (f"entails\nfree a\nlet t = {T}\nlet r = (o*)\nthen\na is not t", f"answer no\nheight 5\na {T}\nreason 3 0\n"),
+]
+
+
+def test_lets_that_no_clause_names():
+    for text, due in UNNAMED:
+        status = int(due.startswith("answer no"))
+        check(f"printed for {text!r}", command("ask", "-", given=text.encode()), (status, due.encode(), ""))

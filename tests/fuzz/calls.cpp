@@ -141,19 +141,27 @@ std::vector<Row> rows(const Lent& answer) {
     return all;
 }
 
-// The height that is given with a shown solution.
-unsigned height_due(const reader::Question& question) {
-    unsigned tallest = 0;
-    std::size_t disequations = 0;
+// The constants, each written and read again, and measured.
+void constants(const reader::Question& question) {
     for (const std::uint32_t leaves : question.constants) {
         unsigned tall = 0;
         const std::string written = text(reader::row_of_leaves(leaves), 0, 1024, tall);
         const Lent lent(Bytes(written.begin(), written.end()));
         check(zimorgal_height(leaves) == tall, "height of a constant");
         check(zimorgal_constant(lent.data.get(), lent.size) == leaves, "a constant written and read again");
-        tallest = std::max(tallest, tall);
     }
-    for (const reader::Clause& clause : question.clauses) disequations += clause.negated && !clause.second;
+}
+
+// The height that is given with a shown solution: it is told by the constants that some clause names.
+unsigned height_due(const reader::Question& question) {
+    unsigned tallest = 0;
+    std::size_t disequations = 0;
+    for (const reader::Clause& clause : question.clauses) {
+        for (const reader::Term& term : clause.terms)
+            if (term.sort == reader::Sort::share)
+                tallest = std::max(tallest, height(reader::row_of_leaves(term.value)));
+        disequations += clause.negated && !clause.second;
+    }
     return tallest + c(disequations + question.entailment);
 }
 
@@ -268,6 +276,7 @@ extern "C" int LLVMFuzzerTestOneInput(const std::uint8_t* data, std::size_t size
         return 0;
     }
 
+    constants(reading.question);
     const bool shows = zimorgal_shows(result, reading.question.entailment) != 0;
     fields(reading.question, result, shows);
     buffers(answer_before, answer.now(), work_before, work.now(), shows);

@@ -97,10 +97,12 @@ fn ends(free: usize) -> Question {
     }
 }
 
+/// Questions that name a constant of height 5.
 fn at_random(name: &str, make: fn(&mut Random) -> Question) -> Family {
     let mut random = Random::new(110);
     let questions = std::iter::repeat_with(|| make(&mut random));
-    family(name, questions.take(QUESTIONS))
+    let tall = questions.filter(|question| question.height() == 5);
+    family(name, tall.take(QUESTIONS))
 }
 
 fn satisfiable(random: &mut Random) -> Question {
@@ -114,7 +116,7 @@ fn entailed(random: &mut Random) -> Question {
 
 #[cfg(test)]
 mod tests {
-    use super::all;
+    use super::{all, QUESTIONS};
     use brute::question::{read, Clause, Question, Relation, MOST_VARIABLES};
     use brute::single::decide;
 
@@ -142,6 +144,15 @@ mod tests {
                 assert_eq!((outcome.yes, outcome.reason), due);
             }
         }
+    }
+
+    /// The questions that are made at random name a constant of height 5.
+    #[test]
+    fn heights() {
+        let all = questions();
+        let at_random = all[4..].iter().flatten();
+        assert_eq!(at_random.clone().count(), 2 * QUESTIONS);
+        assert!(at_random.into_iter().all(|q| q.height() == 5));
     }
 
     /// Each family has all 12 variables in some question, and each sort of policy stands somewhere in each system.

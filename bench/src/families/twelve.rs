@@ -5,6 +5,7 @@ use brute::make::{hidden_question, Counts};
 use brute::question::{positive, Clause, Question, Relation, Term, MOST_VARIABLES};
 use brute::random::Random;
 use brute::tree::tree_of_number;
+use std::iter::repeat_with;
 
 const QUESTIONS: usize = 20;
 const CONSTANTS: usize = 8;
@@ -22,15 +23,16 @@ pub fn all() -> [Family; 3] {
     ]
 }
 
-/// Questions round a hidden solution, each changed.
+/// Questions round a hidden solution, each changed, that name a constant of height 5.
 fn round(name: &str, change: fn(&mut Random, &mut Question)) -> Family {
     let mut random = Random::new(109);
-    let make = || {
+    let questions = repeat_with(|| {
         let mut question = hidden_question(&mut random, MOST_VARIABLES, CONSTANTS, 5, COUNTS);
         change(&mut random, &mut question);
         question
-    };
-    family(name, std::iter::repeat_with(make).take(QUESTIONS))
+    });
+    let tall = questions.filter(|question| question.height() == 5);
+    family(name, tall.take(QUESTIONS))
 }
 
 /// The last clause with this sign.

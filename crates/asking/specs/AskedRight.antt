@@ -16,7 +16,7 @@ use Rattle.systems.specs.Answers.{unsatisfied, vacuous, verdict, reason, shows,
 use Rattle.systems.specs.PolicyLaws.{no-solution}
 use Rattle.systems.specs.Decide.{decide, shownAt}
 use Rattle.systems.specs.ShownLaws.{shown-past, shown-low, shown-fixed}
-use Rattle.systems.specs.Heights.{height-rule, exact, verdict-exact}
+use Rattle.systems.specs.Heights.{height-rule, exact, decide-by-all, verdict-exact}
 use Rattle.format.specs.FormatLaws.{Limited, accepted-formed, accepted-limited}
 use Rattle.rows.specs.Rows.{rowLevels, answerBytes, filledWith}
 use Rattle.rows.specs.RowLaws.{filled-tree, filled-zero}
@@ -67,6 +67,7 @@ module _ (s answer work : List ℕ) (q : Question) (e : askedWith s answer work 
     right = decide q;
     answers = exact q formed (decide q) .1 refl;
     only = λ a r. sym (exact q formed a .0 r);
+    unmoved = decide-by-all q formed;
     verdict-given = refl;
     reason-given = refl;
     number-given = refl;

@@ -3,8 +3,9 @@ use mathlib.Core.Path.{_≡_}
 use mathlib.Core.Logic.{_↔_}
 use Rattle.leaves.specs.Heights.{anyHeight}
 use Rattle.systems.specs.Clauses.{Term}
-use Rattle.systems.specs.Questions.{Kind, satisfiability, entailment, Question}
+use Rattle.systems.specs.Questions.{Kind, satisfiability, entailment, Question, heightOfAll}
 use Rattle.systems.specs.Answers.{Answer, Answers, Yes, verdict, reason, disequationNumber}
+use Rattle.systems.specs.Decide.{decideAt}
 use Rattle.systems.specs.Policies.{WriterAndReader}
 use Rattle.asking.specs.declared.Outcome.{Outcome}
 
@@ -18,6 +19,8 @@ pub record Exact (q : Question) (r : Outcome) : Type 0 where
   pub right : Answer
   pub answers : Answers anyHeight q right
   pub only : (a : Answer) → Answers anyHeight q a → a ≡ right
+  -- decided by the tallest constant of all, named or not, it is the same
+  pub unmoved : decideAt (heightOfAll q) q ≡ right
   -- its numbers are given, and no refusal
   pub verdict-given : r .verdict ≡ verdict right
   pub reason-given : r .reason ≡ reason right

@@ -120,7 +120,13 @@ pub fn ask(question: &[u8], answer: &mut [u8], work: &mut [u8]) -> Outcome
     }
     let sizes = decide::sizes_of(reading.question, &reading.question.constants);
     let mut firsts = [0u64; 128];
-    let finding = decide::decide(reading.question, sizes, &clauses, &mut firsts);
+    let finding = decide::decide(
+        reading.question,
+        sizes,
+        &clauses,
+        &reading.question.constants,
+        &mut firsts,
+    );
     show_solution(answer, sizes, finding, &firsts);
     clear_work(work);
     found(sizes, finding)

@@ -15,7 +15,7 @@ use Rattle.shares.specs.Constant.{bit}
 use Rattle.shares.specs.BitLaws.{bit-and}
 use Rattle.shares.specs.BitParts.{bit-not, bit-digit}
 use Rattle.words.specs.ClauseLaws.{not-bits}
-use Rattle.words.specs.Shifts.{power-shift}
+use Rattle.shares.specs.Shifts.{power-shift}
 use Rattle.beside.specs.Beside.{Left, Taken, TakenAll}
 
 -- the bits of y taken out of x

@@ -20,9 +20,9 @@ pub struct Sizes {
     pub own: usize,
     // how many clauses each section has: the first system's positive clauses and disequations, then the second's
     pub counts: [usize; 4],
-    // how many constants are defined
-    pub defined: usize,
-    // the height of the question
+    // which constants some clause names, constant i at bit i
+    pub named: u64,
+    // the height of the question: that of the tallest of these
     pub height: usize,
 }
 

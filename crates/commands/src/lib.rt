@@ -12,6 +12,10 @@ ghost use mathlib.Core.Path.{_≡_};
 ghost use Prim.Native.Nat.{_+_, _≤_};
 ghost use lib.ListN.{length};
 ghost use Rattle.format.specs.Format.{termCount, operands, termByte, clauseAt, commandOf, readAt};
+ghost use Rattle.format.specs.Stored.{constantAt};
+
+// A constant's command has this many bytes.
+pub const CONSTANT_SIZE: usize = 5;
 
 // The byte of term number k of a clause with so many terms, 0 where it has none.
 pub fn term_byte(bytes: &[u8], i: usize, count: usize, k: usize) -> u8
@@ -52,6 +56,17 @@ fn command_of(bytes: &[u8], i: usize, shape: Shape) -> Command
         Shape::Constant => Command::Constant(basics::four_bytes(bytes, i)),
         Shape::Clause(section, test) => clause_at(bytes, i, section, test),
     }
+}
+
+// Whether a constant stands at an offset, with all its bytes.
+pub fn constant_at(bytes: &[u8], at: usize) -> bool
+    requires { ⌜ at ≤ length (now bytes) ⌝ }
+    ensures { λ r. ⌜ r ≡ constantAt (now (bytes .entry)) at ⌝ }
+{
+    if bytes.len() - at < CONSTANT_SIZE {
+        return false;
+    }
+    bytes[at] == 0x03
 }
 
 // What stands at an offset where a command is due.

@@ -1,15 +1,17 @@
 -- What deciding hands over: the model's answer, and the first words of the question's fixed solution, with its plan. Assumes nothing.
 use mathlib.Core.Path.{_≡_}
-use mathlib.Core.Bool.{true}
+use mathlib.Core.Bool.{true, cond}
 use mathlib.Core.List.{List}
-use Prim.Native.Nat.{ℕ, _<_}
+use Prim.Native.Nat.{ℕ, zero, suc, _<_, max}
 use lib.Dec.{T}
-use lib.ListN.{take}
-use Rattle.shares.specs.Constant.{constantLevels}
+use lib.ListN.{getD}
+use Rattle.shares.specs.Tree.{height}
+use Rattle.shares.specs.Constant.{constantLevels, numberTree, bit}
 use Rattle.leaves.specs.Heights.{c}
-use Rattle.systems.specs.Questions.{Kind, Question as Asked, WellFormed, tallestConstant, questionHeight, firstCount}
+use Rattle.systems.specs.Questions.{Kind, Question as Asked, WellFormed, questionHeight, firstCount}
 use Rattle.systems.specs.Answers.{Answer, satisfied, unsatisfied, vacuous, entailed, unmet, missed, shows, heightGiven}
 use Rattle.systems.specs.Decide.{decide, shownAt}
+use Rattle.format.specs.Format.{mostConstants}
 use Rattle.format.specs.Stored.{Stored, storedOf, Stands}
 use Rattle.format.specs.declared.Question.{Question}
 use Rattle.beside.specs.declared.Sizes.{Sizes}
@@ -22,7 +24,6 @@ use Rattle.steps.specs.Tests.{extraOf, roomOf}
 use Rattle.steps.specs.declared.Search.{Search}
 use Rattle.steps.specs.declared.Search.the-variants.{First, Unmet, Missed}
 use Rattle.search.specs.Found.{SolvedAs}
-use Rattle.named.specs.Names.{SameSearches}
 use Rattle.decide.specs.declared.Finding.{Finding}
 use Rattle.decide.specs.declared.Finding.the-variants.{Satisfied, Unsatisfied, Vacuous, Entailed, Unmet, Missed}
 
@@ -30,14 +31,23 @@ use Rattle.decide.specs.declared.Finding.the-variants.{Satisfied, Unsati
 abbrev pub Standing : Question → List ℕ → Type 0
 Standing x clauses = (q : Asked) × Stands (x .kind) (storedOf x clauses) q × WellFormed q
 
+-- the greatest f i of the i below n, 0 if there is none
+unfoldable pub mostBelow : ℕ → (ℕ → ℕ) → ℕ
+mostBelow zero f = 0
+mostBelow (suc n) f = max (f 0) (mostBelow n (λ i. f (suc i)))
+
+-- the height of the tallest of the constants that are named
+unfoldable pub tallestOf : ℕ → List ℕ → ℕ → ℕ
+tallestOf levels constants named = mostBelow mostConstants (λ i. cond (bit named i) (height (numberTree levels (getD constants i 0))) 0)
+
 -- the numbers of a question that was read, with its height
 abbrev pub sizesOf : Question → Sizes
 sizesOf x = record {
   free = x .free;
   own = x .own;
   counts = x .counts;
-  defined = x .defined;
-  height = tallestConstant constantLevels (take (x .defined) (x .constants));
+  named = x .named;
+  height = tallestOf constantLevels (x .constants) (x .named);
 }
 
 -- ---- findings
@@ -67,11 +77,10 @@ pub record Decided (x : Stored) (q : Asked) (r : Finding) (firsts : List ℕ) : 
   pub answer : answerOf r ≡ decide q
   pub solved : T (shows (decide q)) → SolvedAs x (questionHeight q) (searchOf r) true firsts
 
--- the same of every question of a kind that numbers, clauses' bytes and constants stand for, where those kept of the constants pose the same tests
+-- the same of every question of a kind that numbers, clauses' bytes and constants stand for
 abbrev pub DecidedAs : Kind → Sizes → List ℕ → List ℕ → Finding → List ℕ → Type 0
-DecidedAs kind sizes clauses kept r firsts =
-    (constants : List ℕ) → SameSearches (storedBy sizes clauses kept) (storedBy sizes clauses constants)
-    → (k : ℕ) (q : Asked) → Stands k (storedBy sizes clauses constants) q → q .kind ≡ kind → sizes .height ≡ questionHeight q
+DecidedAs kind sizes clauses constants r firsts =
+    (k : ℕ) (q : Asked) → Stands k (storedBy sizes clauses constants) q → q .kind ≡ kind → sizes .height ≡ questionHeight q
     → Decided (storedBy sizes clauses constants) q r firsts
 
 -- a question that was read stands for q, with some clauses

@@ -2,8 +2,8 @@ pub mod Decision
 pub mod DecideLaws
 pub mod OutlineLaws
 pub mod PlannedLaws
-pub mod QuestionHeightLaws
+pub mod TallestLaws
 pub mod StoredLaws
-pub mod StandsLaws
 pub mod NamedLaws
+pub mod StandsLaws
 pub mod ReadableLaws

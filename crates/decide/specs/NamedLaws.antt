@@ -1,72 +1,94 @@
--- What a search finds of a stored question holds of every other that poses the same tests. Assumes nothing.
-use mathlib.Core.Path.{_≡_, ap, ap₂, _∙_}
-use mathlib.Core.Bool.{Bool, _&&_}
-use mathlib.Core.List.{List}
-use Prim.Native.Nat.{ℕ, _+_, _*_, _^_, _<_}
-use lib.ListN.{getD}
-use Rattle.shares.specs.BelowLaws.{first-ext}
-use Rattle.leaves.specs.Choices.{least}
-use Rattle.leaves.specs.Problem.{Problem, solvable}
-use Rattle.leaves.specs.Numbers.{numbered, leafFor, specialChoice}
-use Rattle.leaves.specs.SameLaws.{solvable-same, leaf-same}
-use Rattle.format.specs.Stored.{Stored, stored}
-use Rattle.plans.specs.Pairs.{leafWidth, PairsOf}
-use Rattle.steps.specs.Tests.{Named}
-use Rattle.steps.specs.declared.Search.{Search}
-use Rattle.steps.specs.declared.Search.the-variants.{First, Unmet, Missed}
-use Rattle.search.specs.Found.{solvableIn, SolvedAs, SurveyedAs}
-use Rattle.search.specs.declared.Survey.{Survey}
-use Rattle.named.specs.Names.{SameTests, SameSearches}
+-- What stands for a question has a bit for each constant that some clause names, and for no other. Assumes nothing.
+use mathlib.Core.Path.{_≡_, sym, ap, _∙_, subst}
+use Prim.Native.Nat.{ℕ, _+_, _*_, _^_, _≤_, _<_}
+use native.Mathlib.Nat.{le-trans, le-antisymm}
+use native.Mathlib.Decide.{decLt}
+use native.Mathlib.Omega.{arith}
+use lib.Dec.{T}
+use lib.ListN.{length, getD, List·getD-map}
+use lib.Seq.{getD-take}
+use Rattle.shares.specs.Tree.{height}
+use Rattle.shares.specs.TreeLaws.{treeOf-height}
+use Rattle.shares.specs.Constant.{constantLevels, numberTree, bit}
+use Rattle.shares.specs.BitLaws.{number-lt, bit-number}
+use Rattle.shares.specs.BitParts.{bit-beyond}
+use Rattle.systems.specs.Clauses.{variable, equal, constantTree}
+use Rattle.systems.specs.Questions.{Question, InSystem, namedIn, namedBy, isAmong, questionHeight}
+use Rattle.systems.specs.SystemLaws.{InAtoms, in-positives, in-disequations, in-at}
+use Rattle.systems.specs.NamedLaws.{among-left, among-right, among-low, among-least, system-named}
+use Rattle.systems.specs.AtLeaves.{readAs}
+use Rattle.systems.specs.AtomLaws.{InReading, in-reading}
+use Rattle.format.specs.Format.{mostConstants, inSection}
+use Rattle.format.specs.Stored.{readingFrom, sectionStart, fourAt, Stored, countOf, definedBy, namedWord, Stands}
+use Rattle.format.specs.KeepingLaws.{section-count}
+use Rattle.format.specs.Callers.{levels-are, readings-at}
+use Rattle.format.specs.declared.Section.{Section}
+use Rattle.format.specs.declared.Section.the-variants.{FirstPositive, FirstDisequation, SecondPositive, SecondDisequation}
+use Rattle.decide.specs.Decision.{tallestOf}
+use Rattle.decide.specs.TallestLaws.{heightAt, tallest-is}
+use Rattle.decide.specs.StoredLaws.{Kept}
 
--- ---- two problems with the same tests
+-- ---- the bits of the word
 
-module _ (n h : ℕ) (P R : Problem ℕ) (S : SameTests P R) where
-  same-solvable : solvable (least n) h (numbered n P) ≡ solvable (least n) h (numbered n R)
-  same-solvable = solvable-same (least n) h (numbered n P) (numbered n R) (S .count) (λ b l v. S .pos b _) (λ j m b l v. S .dis j m b _)
+word-bit : (q : Question) (i : ℕ) → i < mostConstants → bit (namedWord q) i ≡ isAmong i (namedBy q)
+unfolding namedWord
+word-bit q i l = bit-number mostConstants _ i l
 
-  same-leaf : (e : ℕ) → e < P .count → leafFor n h P e ≡ leafFor n h R e
-  same-leaf = leaf-same (least n) h (numbered n P) (numbered n R) (S .count) (λ b l v. S .pos b _) (λ j m b l v. S .dis j m b _)
+word-lt : (q : Question) → namedWord q < 2 ^ mostConstants
+unfolding namedWord
+word-lt q = number-lt mostConstants _
 
-  same-choice : (e : ℕ) → e < P .count → specialChoice n h P e (leafFor n h P e) ≡ specialChoice n h R e (leafFor n h R e)
-  same-choice e l =
-      first-ext (2 ^ n) _ _ (λ z m. ap₂ _&&_ (S .pos (leafFor n h P e) z) (S .dis e l (leafFor n h P e) z))
-      ∙ ap (specialChoice n h R e) (same-leaf e l)
+module _ {kind : ℕ} (x : Stored) (q : Question) (St : Stands kind x q) where
+  pub named-lt : x .named < 2 ^ mostConstants
+  named-lt = rw (St .named) (word-lt q)
 
-  -- the same pairs
-  same-pairs : {extra : ℕ} {firsts : List ℕ} → PairsOf n h P extra firsts → PairsOf n h R extra firsts
-  same-pairs D = record {
-    plains = λ b l. D .plains b l ∙ first-ext (2 ^ n) _ _ (λ z m. S .pos b z);
-    entries = λ e l.
-        let m : e < P .count = rw (S .count) l in
-        D .entries e m ∙ ap₂ (λ a z. a * leafWidth n + z) (same-leaf e m) (same-choice e m);
-    within = λ e l. let m : e < P .count = rw (S .count) l in rw (same-choice e m) at (D .within e m);
-  }
+  -- a constant that some clause names has its bit
+  bit-set : (i : ℕ) → T (isAmong i (namedBy q)) → T (bit (x .named) i)
+  bit-set i t = rw (St .named) (subst T (sym (word-bit q i (omega (arith, St .namedDefined i t, St .constantCounted)))) t)
 
--- ---- two stored questions that pose the same tests
+  -- and one with a bit is named by some clause
+  bit-named : (i : ℕ) → T (bit (x .named) i) → T (isAmong i (namedBy q))
+  bit-named i t = go (decLt i mostConstants)
+    where
+      go : Dec (i < mostConstants) → T (isAmong i (namedBy q))
+      go (yes l) = subst T (ap (λ w. bit w i) (St .named) ∙ word-bit q i l) t
+      go (no g) = absurd (subst T (bit-beyond mostConstants (x .named) i named-lt (omega arith)) t)
 
-module _ (clauses counts kept constants : List ℕ) (defined n m : ℕ)
-    (same : SameSearches (stored clauses counts kept defined n m) (stored clauses counts constants defined n m)) (h : ℕ) where
-  abbrev S′ : Stored
-  S′ = stored clauses counts kept defined n m
+  pub bit-defined : (i : ℕ) → T (bit (x .named) i) → i < definedBy q
+  bit-defined i t = St .namedDefined i (bit-named i t)
 
-  abbrev S : Stored
-  S = stored clauses counts constants defined n m
+  -- ---- the height of the question
 
-  solvable-in : (search : Search) → Named counts search → solvableIn S′ h search ≡ solvableIn S h search
-  solvable-in search N = same-solvable n h _ _ (same h search N)
+  tree-is : (i : ℕ) → i < definedBy q → constantTree (q .constants) i ≡ numberTree constantLevels (getD (x .constants) i 0)
+  tree-is i l = ap (λ cs. constantTree cs i) (St .constants) ∙ ap (numberTree constantLevels) (getD-take (definedBy q) (x .constants) i 0 l)
 
-  pub solved-same : (search : Search) → Named counts search → {found : Bool} {firsts : List ℕ} → SolvedAs S′ h search found firsts → SolvedAs S h search found firsts
-  solved-same search N D = record {
-    found-is = D .found-is ∙ solvable-in search N;
-    pairs-are = λ t. same-pairs n h _ _ (same h search N) (D .pairs-are t);
-  }
+  pub height-is : tallestOf constantLevels (x .constants) (x .named) ≡ questionHeight q
+  height-is =
+      sym (tallest-is constantLevels (x .constants) (x .named) (questionHeight q) (λ i t. omega (arith, bit-defined i t, St .constantCounted))
+      (λ i t. rw (← tree-is i (bit-defined i t)) (among-low (q .constants) (namedBy q) i (bit-named i t)))
+      (λ k f. among-least (q .constants) (namedBy q) k (λ i t. rw (tree-is i (St .namedDefined i t)) (f i (bit-set i t)))))
 
-  pub surveyed-same : {r : Survey} {firsts : List ℕ} → SurveyedAs S′ h r firsts → SurveyedAs S h r firsts
-  surveyed-same D = record {
-    solvable-is = D .solvable-is ∙ solvable-in First tt;
-    unmet-is = λ t. D .unmet-is t ∙ solvable-in Unmet tt;
-    pairs-are = λ t u. same-pairs n h _ _ (same h Unmet tt) (D .pairs-are t u);
-    missed-is = λ t u. D .missed-is t u ∙ first-ext (getD counts 3 0) _ _ (λ j l. solvable-in (Missed j) l);
-    unmet-else = D .unmet-else;
-    missed-else = D .missed-else;
-  }
+  pub question-low : questionHeight q ≤ 5
+  question-low = among-least (q .constants) (namedBy q) 5 (λ i t. omega (arith, treeOf-height (q .constants .levels) (λ j. bit (getD (q .constants .numbers) i 0) j), levels-are x q St))
+
+  -- ---- every constant in a clause has its bit
+
+  pub first-kept : InSystem (Kept (x .named)) (q .first)
+  first-kept = system-named _ (λ v. tt) (q .first) (λ i t. bit-set i (among-left i (namedIn (q .first)) (namedIn (q .second)) t))
+
+  second-kept : InSystem (Kept (x .named)) (q .second)
+  second-kept = system-named _ (λ v. tt) (q .second) (λ i t. bit-set i (among-right i (namedIn (q .first)) (namedIn (q .second)) t))
+
+  section-kept : (σ : Section) → InAtoms (Kept (x .named)) (inSection q σ)
+  section-kept FirstPositive = in-positives _ (q .first) first-kept
+  section-kept FirstDisequation = in-disequations _ (q .first) first-kept
+  section-kept SecondPositive = in-positives _ (q .second) second-kept
+  section-kept SecondDisequation = in-disequations _ (q .second) second-kept
+
+  pub reading-kept : (σ : Section) (i : ℕ) → i < countOf (x .counts) σ → InReading (Kept (x .named)) (readingFrom (fourAt (x .clauses) (sectionStart σ + 4 * i)))
+  reading-kept σ i l =
+      let a = equal (variable 0) (variable 0) in
+      subst (InReading (Kept (x .named)))
+      (sym (List·getD-map readAs (inSection q σ) i a) ∙ ap (λ k. getD k i (readAs a)) (sym (St .sections σ))
+      ∙ readings-at (x .clauses) (sectionStart σ) (countOf (x .counts) σ) i (readAs a) l)
+      (in-reading (Kept (x .named)) (getD (inSection q σ) i a) (in-at (Kept (x .named)) (inSection q σ) a (section-kept σ) i (rw (section-count x q St σ) l)))

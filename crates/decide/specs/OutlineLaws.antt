@@ -3,11 +3,11 @@ use mathlib.Core.Path.{_≡_, refl, sym, _∙_}
 use mathlib.Core.Bool.{true, false, true≢false}
 use Prim.Native.Nat.{ℕ, _+_, _≤_}
 use native.Mathlib.Omega.{arith}
-use lib.ListN.{getD, take}
+use lib.ListN.{getD}
 use Rattle.shares.specs.Constant.{constantLevels}
 use Rattle.leaves.specs.Heights.{c}
 use Rattle.leaves.specs.HeightLaws.{c-most}
-use Rattle.systems.specs.Questions.{Question, tallestConstant, questionHeight, firstCount}
+use Rattle.systems.specs.Questions.{Question, questionHeight, firstCount}
 use Rattle.systems.specs.Answers.{shows, heightGiven}
 use Rattle.format.specs.Stored.{Stored, Stands}
 use Rattle.format.specs.KeepingLaws.{section-count}
@@ -16,8 +16,8 @@ use Rattle.steps.specs.Tests.{extraOf, roomOf}
 use Rattle.steps.specs.declared.Search.{Search}
 use Rattle.steps.specs.declared.Search.the-variants.{First, Unmet, Missed}
 use Rattle.beside.specs.declared.Sizes.{Sizes}
-use Rattle.decide.specs.ReadableLaws.{height-is, question-low}
-use Rattle.decide.specs.Decision.{answerOf, searchOf, SizedFor, outlineOf}
+use Rattle.decide.specs.NamedLaws.{height-is, question-low}
+use Rattle.decide.specs.Decision.{tallestOf, answerOf, searchOf, SizedFor, outlineOf}
 use Rattle.decide.specs.declared.Finding.{Finding}
 use Rattle.decide.specs.declared.Finding.the-variants.{Satisfied, Unsatisfied, Vacuous, Entailed, Unmet, Missed}
 
@@ -51,7 +51,7 @@ module _ {kind : ℕ} (x : Stored) (q : Question) (St : Stands kind x q) where
   pub splits-few : (search : Search) → c (roomOf search (firstCount q)) ≤ 5
   splits-few search = c-most (roomOf search (firstCount q)) 5 (omega (arith, room-most search (firstCount q), count-few))
 
-  pub outline-is : (search : Search) (height room splits extra : ℕ) → height ≡ tallestConstant constantLevels (take (x .defined) (x .constants))
+  pub outline-is : (search : Search) (height room splits extra : ℕ) → height ≡ tallestOf constantLevels (x .constants) (x .named)
       → room ≡ roomOf search (getD (x .counts) 1 0) → splits ≡ c room → extra ≡ extraOf search
       → record { free = x .free; height = height; splits = splits; extra = extra; count = getD (x .counts) 1 0 } ≡ outlineOf q search
   outline-is search height room splits extra h r s e = rw (St .free, h ∙ height-is x q St, s, r, e, count-is)

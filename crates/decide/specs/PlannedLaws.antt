@@ -46,7 +46,7 @@ use Rattle.steps.specs.declared.Search.the-variants.{First, Unmet, Missed}
 use Rattle.search.specs.Found.{solvableIn, SolvedAs}
 use Rattle.decide.specs.StoredLaws.{row-digit}
 use Rattle.decide.specs.StandsLaws.{withVariables, Same, same-first, same-unmet, same-missed}
-use Rattle.decide.specs.ReadableLaws.{question-low}
+use Rattle.decide.specs.NamedLaws.{question-low}
 use Rattle.decide.specs.OutlineLaws.{extra-most, room-enough, count-is, count-few, splits-few}
 use Rattle.decide.specs.Decision.{answerOf, searchOf, outlineOf, Planned, Decided}
 use Rattle.decide.specs.declared.Finding.{Finding}

@@ -1,5 +1,5 @@
--- What stands for a question can be read, and has the question's height. Assumes nothing.
-use mathlib.Core.Path.{_≡_, refl, sym, ap}
+-- What stands for a question can be read. Assumes nothing.
+use mathlib.Core.Path.{_≡_, refl}
 use mathlib.Core.Bool.{Bool, true, false, cond}
 use mathlib.Core.List.{List}
 use mathlib.Core.Logic.{_⊎_, inl, inr}
@@ -8,18 +8,15 @@ use native.Mathlib.Nat.{mod-lt}
 use native.Mathlib.Decide.{ℕ-discrete}
 use native.Mathlib.Omega.{arith}
 use lib.Dec.{T, ltb, ltb→lt}
-use lib.ListN.{getD, take}
+use lib.ListN.{getD}
 use borrow.Author.Tests.{ltb-false}
 use Rattle.shares.specs.Parts.{emptyPart, fullPart}
-use Rattle.shares.specs.Constant.{constantLevels}
-use Rattle.systems.specs.Questions.{Question, questionHeight, tallestConstant}
-use Rattle.systems.specs.Heights.{tallest-low}
+use Rattle.systems.specs.Questions.{Question}
 use Rattle.words.specs.Clause.{clauseTest, Clauses}
 use Rattle.format.specs.Format.{names}
-use Rattle.format.specs.Stored.{sectionStart, fourAt, Stored, countOf, partNamed, StoredClause, Stands}
-use Rattle.format.specs.KeepingLaws.{part-cases}
+use Rattle.format.specs.Stored.{sectionStart, fourAt, Stored, countOf, partNamed, StoredClause, definedBy, Stands}
+use Rattle.format.specs.KeepingLaws.{part-cases, parts-small}
 use Rattle.format.specs.SectionLaws.{section-room, variables-le}
-use Rattle.format.specs.Callers.{bytes-small}
 use Rattle.format.specs.declared.Section.{Section}
 use Rattle.format.specs.declared.Section.the-variants.{FirstPositive, FirstDisequation, SecondPositive, SecondDisequation}
 use Rattle.beside.specs.Beside.{ReadsFree, Readable}
@@ -69,7 +66,7 @@ module _ {kind : ℕ} (x : Stored) (q : Question) (St : Stands kind x q) where
       small : (k : ℕ) → k < 4 * countOf (x .counts) σ → getD (x .clauses) (sectionStart σ + k) 0 < 64
       small k l =
           let C = St .clauses σ (k / 4) (omega arith) in
-          let B = bytes-small _ _ _ C (omega (arith, variables-le (x .free) (x .own) σ, St .variables)) (omega (arith, St .constantCounted)) in
+          let B = parts-small _ _ _ C (omega (arith, variables-le (x .free) (x .own) σ, St .variables)) (omega (arith, St .constantCounted)) in
           let e : sectionStart σ + k ≡ sectionStart σ + 4 * (k / 4) + k % 4 = omega arith in
           rw e (one-of-four (x .clauses) (sectionStart σ + 4 * (k / 4)) (k % 4) (mod-lt k (omega arith)) (omega (arith, C .form)) (B .0) (B .1) (B .2))
 
@@ -80,15 +77,7 @@ module _ {kind : ℕ} (x : Stored) (q : Question) (St : Stands kind x q) where
     first-disequation = section-clauses FirstDisequation;
     second-positive = section-clauses SecondPositive;
     second-disequation = section-clauses SecondDisequation;
-    positive-free = λ k l. reads-free (x .clauses) (x .free) (x .defined) (0 + 4 * k) (St .clauses FirstPositive k l);
-    disequation-free = λ k l. reads-free (x .clauses) (x .free) (x .defined) (256 + 4 * k) (St .clauses FirstDisequation k l);
+    positive-free = λ k l. reads-free (x .clauses) (x .free) (definedBy q) (0 + 4 * k) (St .clauses FirstPositive k l);
+    disequation-free = λ k l. reads-free (x .clauses) (x .free) (definedBy q) (256 + 4 * k) (St .clauses FirstDisequation k l);
     few = (St .counted FirstDisequation, St .counted SecondDisequation);
   }
-
-  -- ---- its height
-
-  pub height-is : tallestConstant constantLevels (take (x .defined) (x .constants)) ≡ questionHeight q
-  height-is = ap (λ cs. tallestConstant (cs .levels) (cs .numbers)) (sym (St .constants))
-
-  pub question-low : questionHeight q ≤ 5
-  question-low = rw (← height-is) (tallest-low constantLevels (take (x .defined) (x .constants)))

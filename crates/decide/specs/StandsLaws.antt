@@ -21,7 +21,7 @@ use Rattle.words.specs.Clause.{termValue}
 use Rattle.words.specs.Choices.{allPass, clauseFails, allPassBut, someOwn}
 use Rattle.words.specs.TermLaws.{position-free, value-variable, value-free, value-own}
 use Rattle.format.specs.Format.{inSection, variablesFor}
-use Rattle.format.specs.Stored.{sectionStart, fourAt, Stored, countOf, StoredClause, Stands}
+use Rattle.format.specs.Stored.{sectionStart, fourAt, Stored, countOf, StoredClause, definedBy, Stands}
 use Rattle.format.specs.SectionLaws.{variables-le}
 use Rattle.format.specs.KeepingLaws.{section-count}
 use Rattle.format.specs.Callers.{readings-at}
@@ -31,11 +31,12 @@ use Rattle.leaves.specs.Numbers.{numbered}
 use Rattle.leaves.specs.SameLaws.{solvable-same, fixed-same}
 use Rattle.steps.specs.Tests.{leafValues, firstMeets, firstDiffers, secondMeets, secondDiffers, specialIn, testsOf}
 use Rattle.decide.specs.StoredLaws.{row-digit, allReadings, all-read, reading-same, section-same}
+use Rattle.decide.specs.NamedLaws.{reading-kept}
 use Rattle.steps.specs.declared.Search.the-variants.{First, Unmet, Missed}
 
 -- what is stored, with n free and m own variables
 abbrev pub withVariables : Stored → ℕ → ℕ → Stored
-withVariables x n m = record { clauses = x .clauses; counts = x .counts; constants = x .constants; defined = x .defined; free = n; own = m }
+withVariables x n m = record { clauses = x .clauses; counts = x .counts; constants = x .constants; named = x .named; free = n; own = m }
 
 module _ {kind : ℕ} (x : Stored) (q : Question) (St : Stands kind x q) (h : ℕ) where
   abbrev S : Stored
@@ -46,7 +47,7 @@ module _ {kind : ℕ} (x : Stored) (q : Question) (St : Stands kind x q) (h : �
 
   -- the stored clauses of a section, with the question's own numbers of variables
   clause-at : (σ : Section) (i : ℕ) → i < countOf (x .counts) σ
-      → StoredClause (variablesFor (q .free) (q .own) σ) (x .defined) (fourAt (x .clauses) (sectionStart σ + 4 * i))
+      → StoredClause (variablesFor (q .free) (q .own) σ) (definedBy q) (fourAt (x .clauses) (sectionStart σ + 4 * i))
   clause-at σ i l = rw (← (St .free), ← (St .own)) (St .clauses σ i l)
 
   -- a section of the question, where variables have values X and choice z has them as digits
@@ -61,7 +62,8 @@ module _ {kind : ℕ} (x : Stored) (q : Question) (St : Stands kind x q) (h : �
     all-same =
         all-read h (q .constants) b X (inSection q σ)
         ∙ ap₂ (λ k l. allReadings h k b X l) (St .constants) (sym (St .sections σ))
-        ∙ section-same S h b (St .constantCounted) (q .free) m few-m (variablesFor (q .free) (q .own) σ) few-named X z values (sectionStart σ) (countOf (x .counts) σ) (clause-at σ)
+        ∙ section-same S (definedBy q) h b (St .constantCounted) (q .free) m few-m (variablesFor (q .free) (q .own) σ) few-named X z values (sectionStart σ) (countOf (x .counts) σ)
+        (clause-at σ) (reading-kept x q St σ)
 
     one-same : (j : ℕ) (d : Atom) → j < countOf (x .counts) σ
         → not (atomAt h (q .constants) b X (getD (inSection q σ) j d))
@@ -72,7 +74,8 @@ module _ {kind : ℕ} (x : Stored) (q : Question) (St : Stands kind x q) (h : �
         (ap₂ (λ k t. readingAt h k b X t) (St .constants)
         (sym (List·getD-map readAs (inSection q σ) j d) ∙ ap (λ k. getD k j (readAs d)) (sym (St .sections σ))
         ∙ readings-at (x .clauses) (sectionStart σ) (countOf (x .counts) σ) j (readAs d) l)
-        ∙ reading-same S h b (St .constantCounted) (q .free) m few-m (variablesFor (q .free) (q .own) σ) few-named X z values (sectionStart σ + 4 * j) (clause-at σ j l))
+        ∙ reading-same S (definedBy q) h b (St .constantCounted) (q .free) m few-m (variablesFor (q .free) (q .own) σ) few-named X z values (sectionStart σ + 4 * j) (clause-at σ j l)
+        (reading-kept x q St σ j l))
 
   module _ (b : ℕ) (v : Row Bool (q .free)) where
     free-values : (t : ℕ) → t < q .free → at false v t ≡ termValue (q .free) 0 (leafValues S h b) (value v) t

@@ -1,5 +1,5 @@
 -- The tests of a question's stored clauses are the readings of its atoms at the leaves. Assumes nothing.
-use mathlib.Core.Path.{_≡_, refl, sym, ap, ap₂, _∙_}
+use mathlib.Core.Path.{_≡_, refl, sym, ap, ap₂, _∙_, subst}
 use mathlib.Core.Bool.{Bool, true, false, not, cond, _&&_, and-true, and-assoc}
 use mathlib.Core.List.{List, [], _∷_, _++_, map}
 use mathlib.Core.Logic.{_⊎_, inl, inr}
@@ -9,7 +9,7 @@ use native.Mathlib.Omega.{arith}
 use lib.Dec.{T, ltb, eqb, ltb→lt, lit<}
 use lib.ListN.{getD, take}
 use lib.Seq.{getD-take}
-use borrow.Author.Tests.{lt-ltb}
+use Rattle.shares.specs.Test.{is-true}
 use Rattle.shares.specs.Parts.{emptyPart, fullPart}
 use Rattle.shares.specs.Below.{everyBelow, one}
 use Rattle.shares.specs.Blocks.{firstOf}
@@ -19,8 +19,9 @@ use Rattle.shares.specs.BitLaws.{bit-number}
 use Rattle.leaves.specs.Choices.{Row, nil, cons, at}
 use Rattle.leaves.specs.RowNumbers.{value}
 use Rattle.leaves.specs.ChoiceLaws.{value-lt}
-use Rattle.systems.specs.Clauses.{variable, constant, Atom, Constants}
+use Rattle.systems.specs.Clauses.{Term, variable, constant, Atom, Constants}
 use Rattle.systems.specs.AtLeaves.{LeafReading, joinsTo, apart, readAs, termAt, partAt, readingAt, atomAt, allAt}
+use Rattle.systems.specs.AtomLaws.{InPart, InReading}
 use Rattle.words.specs.Clause.{testValue, clauseTest, allClauses, termValue}
 use Rattle.words.specs.Choices.{valuesAt}
 use Rattle.shares.specs.BitParts.{bit-low, bit-high}
@@ -66,48 +67,53 @@ all-append h cs b X (x ∷ l) t = ap (λ y. readingAt h cs b X x && y) (all-appe
 
 -- ---- terms
 
--- the constants as the model has them
-abbrev pub storedConstants : Stored → Constants
-storedConstants S = record { levels = constantLevels; numbers = take (S .defined) (S .constants) }
+-- the constants as the model has them, so many of them
+abbrev pub storedConstants : Stored → ℕ → Constants
+storedConstants S d = record { levels = constantLevels; numbers = take d (S .constants) }
 
-module _ (S : Stored) (h b : ℕ) (few : S .defined ≤ 32) where
+-- the bit of a term that is a constant is set among those that are named
+abbrev pub Kept : ℕ → Term → Type 0
+Kept named (variable v) = Unit {0}
+Kept named (constant i) = T (bit named i)
+
+module _ (S : Stored) (d h b : ℕ) (few : d ≤ 32) where
   -- the values of the constants
-  leaf-bit : (i : ℕ) → i < S .defined → bit (leafValues S h b) i ≡ bit (getD (S .constants) i 0) (firstOf h constantLevels b)
+  leaf-bit : (i : ℕ) → i < d → T (bit (S .named) i) → bit (leafValues S h b) i ≡ bit (getD (S .constants) i 0) (firstOf h constantLevels b)
   unfolding valuesAt
-  leaf-bit i l = bit-number 64 _ i (omega arith) ∙ rw (lt-ltb i (S .defined) l)
+  leaf-bit i l t = bit-number 64 _ i (omega arith) ∙ rw (is-true (bit (S .named) i) t)
 
   -- variables have the values X in the model, and choice z has them as digits
   module _ (n m : ℕ) (few-variables : n + m ≤ 12) (k : ℕ) (few-named : k ≤ 12) (X : ℕ → Bool) (z : ℕ)
       (values : (t : ℕ) → t < k → X t ≡ termValue n m (leafValues S h b) z t) where
-    term-same : (t : ℕ) → T (names k (S .defined) t) → n + m ≤ 32 → termAt h (storedConstants S) b X (termOf t) ≡ termValue n m (leafValues S h b) z t
+    term-same : (t : ℕ) → T (names k d t) → Kept (S .named) (termOf t) → n + m ≤ 32 → termAt h (storedConstants S d) b X (termOf t) ≡ termValue n m (leafValues S h b) z t
     unfolding termOf names termAt
     term-same t = cond-split (ltb t 32) refl
       where
-        cond-split : (v : Bool) → ltb t 32 ≡ v → T (cond v (ltb t k) (ltb (t - 32) (S .defined))) → n + m ≤ 32
-            → termAt h (storedConstants S) b X (cond v (variable t) (constant (t - 32))) ≡ termValue n m (leafValues S h b) z t
-        cond-split true e d u = values t (ltb→lt t k d)
-        cond-split false e d u =
-            let l : t - 32 < S .defined = ltb→lt (t - 32) (S .defined) d in
+        cond-split : (v : Bool) → ltb t 32 ≡ v → T (cond v (ltb t k) (ltb (t - 32) d)) → Kept (S .named) (cond v (variable t) (constant (t - 32))) → n + m ≤ 32
+            → termAt h (storedConstants S d) b X (cond v (variable t) (constant (t - 32))) ≡ termValue n m (leafValues S h b) z t
+        cond-split true e f p u = values t (ltb→lt t k f)
+        cond-split false e f p u =
+            let l : t - 32 < d = ltb→lt (t - 32) d f in
             let g : 32 ≤ t = borrow.Author.Tests.ltb-false t 32 e in
-            ap (λ x. bit x (firstOf h constantLevels b)) (getD-take (S .defined) (S .constants) (t - 32) 0 l)
-            ∙ sym (leaf-bit (t - 32) l)
+            ap (λ x. bit x (firstOf h constantLevels b)) (getD-take d (S .constants) (t - 32) 0 l)
+            ∙ sym (leaf-bit (t - 32) l p)
             ∙ sym (value-constant n m (leafValues S h b) z t (omega arith) g)
 
     -- a part's byte has the part's value
-    part-same : (t : ℕ) → T (partNamed k (S .defined) t) → partAt h (storedConstants S) b X (partOf t) ≡ termValue n m (leafValues S h b) z t
+    part-same : (t : ℕ) → T (partNamed k d t) → InPart (Kept (S .named)) (partOf t) → partAt h (storedConstants S d) b X (partOf t) ≡ termValue n m (leafValues S h b) z t
     unfolding partAt
-    part-same t d = go (part-cases k (S .defined) t d)
+    part-same t f = go (part-cases k d t f)
       where
-        go : (t ≡ emptyPart) ⊎ ((t ≡ fullPart) ⊎ T (names k (S .defined) t)) → partAt h (storedConstants S) b X (partOf t) ≡ termValue n m (leafValues S h b) z t
-        go (inl e) = rw (e, empty-part) (sym (value-none n m (leafValues S h b) z emptyPart (omega arith) (lit< tt)))
-        go (inr (inl e)) = rw (e, full-part) (sym (value-none n m (leafValues S h b) z fullPart (omega arith) (lit< tt)))
-        go (inr (inr u)) = rw (part-of k (S .defined) t few-named u) (term-same t u (omega arith))
+        go : (t ≡ emptyPart) ⊎ ((t ≡ fullPart) ⊎ T (names k d t)) → InPart (Kept (S .named)) (partOf t) → partAt h (storedConstants S d) b X (partOf t) ≡ termValue n m (leafValues S h b) z t
+        go (inl e) p = rw (e, empty-part) (sym (value-none n m (leafValues S h b) z emptyPart (omega arith) (lit< tt)))
+        go (inr (inl e)) p = rw (e, full-part) (sym (value-none n m (leafValues S h b) z fullPart (omega arith) (lit< tt)))
+        go (inr (inr u)) p = let e = part-of k d t few-named u in rw e (term-same t u (subst (InPart (Kept (S .named))) e p) (omega arith))
 
     -- the test of a stored clause is the reading that its bytes stand for
-    pub reading-same : (at : ℕ) → StoredClause k (S .defined) (fourAt (S .clauses) at)
-        → readingAt h (storedConstants S) b X (readingFrom (fourAt (S .clauses) at)) ≡ clauseTest (S .clauses) (termValue n m (leafValues S h b) z) at
+    pub reading-same : (at : ℕ) → StoredClause k d (fourAt (S .clauses) at) → InReading (Kept (S .named)) (readingFrom (fourAt (S .clauses) at))
+        → readingAt h (storedConstants S d) b X (readingFrom (fourAt (S .clauses) at)) ≡ clauseTest (S .clauses) (termValue n m (leafValues S h b) z) at
     unfolding readingFrom clauseTest testValue readingAt
-    reading-same at C = go (eqb (getD (S .clauses) at 0) 0)
+    reading-same at C p = go (eqb (getD (S .clauses) at 0) 0) p
       where
         j : LeafJoin
         j = fourAt (S .clauses) at
@@ -115,17 +121,19 @@ module _ (S : Stored) (h b : ℕ) (few : S .defined ≤ 32) where
         val : ℕ → Bool
         val = termValue n m (leafValues S h b) z
 
-        go : (v : Bool) → readingAt h (storedConstants S) b X (cond v (joinsTo (partOf (j .first)) (partOf (j .second)) (partOf (j .sum))) (apart (partOf (j .first)) (partOf (j .second))))
+        go : (v : Bool) → InReading (Kept (S .named)) (cond v (joinsTo (partOf (j .first)) (partOf (j .second)) (partOf (j .sum))) (apart (partOf (j .first)) (partOf (j .second))))
+            → readingAt h (storedConstants S d) b X (cond v (joinsTo (partOf (j .first)) (partOf (j .second)) (partOf (j .sum))) (apart (partOf (j .first)) (partOf (j .second))))
             ≡ cond v (joins (val (j .first)) (val (j .second)) (val (j .sum))) (not (val (j .first) && val (j .second)))
-        go true = rw (part-same (j .first) (C .first), part-same (j .second) (C .second), part-same (j .sum) (C .sum)) refl
-        go false = rw (part-same (j .first) (C .first), part-same (j .second) (C .second)) refl
+        go true g = rw (part-same (j .first) (C .first) (g .0), part-same (j .second) (C .second) (g .1), part-same (j .sum) (C .sum) (g .2)) refl
+        go false g = rw (part-same (j .first) (C .first) (g .0), part-same (j .second) (C .second) (g .1)) refl
 
     -- and so does a section
-    pub section-same : (start count : ℕ) → ((i : ℕ) → i < count → StoredClause k (S .defined) (fourAt (S .clauses) (start + 4 * i)))
-        → allReadings h (storedConstants S) b X (readingsAt (S .clauses) start count) ≡ allClauses (S .clauses) (termValue n m (leafValues S h b) z) start count
+    pub section-same : (start count : ℕ) → ((i : ℕ) → i < count → StoredClause k d (fourAt (S .clauses) (start + 4 * i)))
+        → ((i : ℕ) → i < count → InReading (Kept (S .named)) (readingFrom (fourAt (S .clauses) (start + 4 * i))))
+        → allReadings h (storedConstants S d) b X (readingsAt (S .clauses) start count) ≡ allClauses (S .clauses) (termValue n m (leafValues S h b) z) start count
     unfolding readingsAt allClauses everyBelow
-    section-same start zero C = refl
-    section-same start (suc count) C =
-        all-append h (storedConstants S) b X (readingsAt (S .clauses) start count) (readingFrom (fourAt (S .clauses) (start + 4 * count)))
-        ∙ ap₂ _&&_ (section-same start count (λ i l. C i (omega arith))) (reading-same (start + 4 * count) (C count (omega arith)))
+    section-same start zero C p = refl
+    section-same start (suc count) C p =
+        all-append h (storedConstants S d) b X (readingsAt (S .clauses) start count) (readingFrom (fourAt (S .clauses) (start + 4 * count)))
+        ∙ ap₂ _&&_ (section-same start count (λ i l. C i (omega arith)) (λ i l. p i (omega arith))) (reading-same (start + 4 * count) (C count (omega arith)) (p count (omega arith)))
         ∙ sym (every-more count (λ i. clauseTest (S .clauses) (termValue n m (leafValues S h b) z) (start + 4 * i)))

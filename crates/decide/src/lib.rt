@@ -8,14 +8,14 @@ use steps::Search;
 ghost use mathlib.Core.Path.{_≡_};
 ghost use Prim.Native.Nat.{ℕ, _^_, _<_, _≤_};
 ghost use lib.Dec.{T};
-ghost use lib.ListN.{length, getD, take};
-ghost use Rattle.shares.specs.Constant.{constantLevels};
-ghost use Rattle.systems.specs.Questions.{satisfiability, entailment, Question as Asked, WellFormed, tallestConstant, questionHeight};
+ghost use lib.ListN.{getD};
+ghost use Rattle.shares.specs.Constant.{constantLevels, bit};
+ghost use Rattle.systems.specs.Questions.{satisfiability, entailment, Question as Asked, WellFormed, questionHeight};
 ghost use Rattle.systems.specs.Answers.{shows, heightGiven};
 ghost use Rattle.format.specs.Stored.{storedOf, Stands};
 ghost use Rattle.beside.specs.Beside.{Readable};
 ghost use Rattle.steps.specs.Tests.{extraOf, roomOf};
-ghost use Rattle.decide.specs.Decision.{Standing, sizesOf, answerOf, searchOf, Decided, DecidedAs, StandsFor, SizedFor, DecidedFor, outlineOf, Planned};
+ghost use Rattle.decide.specs.Decision.{Standing, tallestOf, sizesOf, answerOf, searchOf, Decided, DecidedAs, StandsFor, SizedFor, DecidedFor, outlineOf, Planned};
 
 // What deciding finds. Of a question of satisfiability: a solution; none. Of an entailment: the first system has no solution; every
 // solution extends; some solution cannot meet the second's positive clauses; some solution cannot have this disequation of the second
@@ -37,17 +37,18 @@ fn number_of(constants: &[u64; 32], i: usize) -> u64
     constants[i]
 }
 
-// The height of a question: that of its tallest constant, by the leaves that are unlike their neighbours in any of them.
-fn question_height(constants: &[u64; 32], defined: usize) -> usize
-    requires { ⌜ (defined ≤ 32) × (length (now constants) ≡ 32) × ((i : ℕ) → i < defined → getD (now constants) i 0 < 2 ^ 32) ⌝ }
-    ensures { λ r. ⌜ r ≡ tallestConstant constantLevels (take defined (now (constants .entry))) ⌝ }
+// The height of a question: that of the tallest constant that is named, by the leaves that are unlike their neighbours in any of them.
+fn question_height(constants: &[u64; 32], named: u64) -> usize
+    requires { ⌜ (named < 2 ^ 32) × ((i : ℕ) → T (bit named i) → getD (now constants) i 0 < 2 ^ 32) ⌝ }
+    ensures { λ r. ⌜ r ≡ tallestOf constantLevels (now (constants .entry)) named ⌝ }
 {
     let mut leaves: u32 = 0;
-    let mut i: usize = 0;
-    while i < defined {
+    let mut rest = named;
+    while rest != 0 {
+        let i = words::lowest(rest);
         let x = number_of(constants, i);
         leaves = leaves | shares::unlike(x as u32);
-        i += 1;
+        rest = words::without_lowest(rest);
     }
     shares::unlike_height(leaves) as usize
 }
@@ -57,27 +58,28 @@ pub fn sizes_of(question: Question, constants: &[u64; 32]) -> Sizes
     requires { ⌜ (now constants ≡ question .constants) × ((q : Asked) × StandsFor question q) ⌝ }
     ensures { λ r. ⌜ r ≡ sizesOf question ⌝ }
 {
-    let height = question_height(constants, question.defined);
+    let named = question.named;
+    let height = question_height(constants, named);
     let counts = question.counts;
     Sizes {
         free: question.free,
         own: question.own,
         counts,
-        defined: question.defined,
+        named,
         height,
     }
 }
 
 // ---- deciding
 
-// Decides satisfiability, by those of the constants that are kept.
+// Decides satisfiability.
 fn decide_satisfiability(
     clauses: &[u8; CLAUSE_BYTES],
     sizes: Sizes,
     constants: &[u64; 32],
     firsts: &mut [u64; 128],
 ) -> Finding
-    requires { ⌜ Readable (now clauses) (sizes .counts) (sizes .free) (sizes .own) × (sizes .defined ≤ 32) × (sizes .height ≤ 5) ⌝ }
+    requires { ⌜ Readable (now clauses) (sizes .counts) (sizes .free) (sizes .own) × (sizes .named < 2 ^ 32) × (sizes .height ≤ 5) ⌝ }
     ensures { λ r. ⌜ DecidedAs satisfiability sizes (now (clauses .entry)) (now (constants .entry)) r (now (firsts .exit)) ⌝ }
 {
     if search::solve(clauses, sizes, constants, Search::First, firsts) {
@@ -86,15 +88,14 @@ fn decide_satisfiability(
     Finding::Unsatisfied
 }
 
-// Decides an entailment, by those of the constants that are kept: one pass says everything but the first words of a solution that misses a
-// disequation.
+// Decides an entailment: one pass says everything but the first words of a solution that misses a disequation.
 fn decide_entailment(
     clauses: &[u8; CLAUSE_BYTES],
     sizes: Sizes,
     constants: &[u64; 32],
     firsts: &mut [u64; 128],
 ) -> Finding
-    requires { ⌜ Readable (now clauses) (sizes .counts) (sizes .free) (sizes .own) × (sizes .defined ≤ 32) × (sizes .height ≤ 5) ⌝ }
+    requires { ⌜ Readable (now clauses) (sizes .counts) (sizes .free) (sizes .own) × (sizes .named < 2 ^ 32) × (sizes .height ≤ 5) ⌝ }
     ensures { λ r. ⌜ DecidedAs entailment sizes (now (clauses .entry)) (now (constants .entry)) r (now (firsts .exit)) ⌝ }
 {
     let survey = search::survey_leaves(clauses, sizes, constants, firsts);
@@ -112,23 +113,21 @@ fn decide_entailment(
     Finding::Entailed
 }
 
-// Decides a question that was read, whose numbers and clauses are lent with a table for the first words of the solution to show. Its height is that of all its
-// constants; the tests at the leaves read those that some clause names.
+// Decides a question that was read, whose numbers, clauses and constants are lent with a table for the first words of the solution to show.
 pub fn decide(
     question: Question,
     sizes: Sizes,
     clauses: &[u8; CLAUSE_BYTES],
+    constants: &[u64; 32],
     firsts: &mut [u64; 128],
 ) -> Finding
-    requires { ⌜ Standing question (now clauses) × (sizes ≡ sizesOf question) ⌝ }
+    requires { ⌜ Standing question (now clauses) × (sizes ≡ sizesOf question) × (now constants ≡ question .constants) ⌝ }
     ensures { λ r. ⌜ ((q : Asked) → Stands (question .kind) (storedOf question (now (clauses .entry))) q → WellFormed q → Decided (storedOf question (now (clauses .entry))) q r (now (firsts .exit))) ⌝ }
 {
-    let mut constants = question.constants;
-    named::keep_named(clauses, sizes, &mut constants);
     if question.kind == 0 {
-        return decide_satisfiability(clauses, sizes, &constants, firsts);
+        return decide_satisfiability(clauses, sizes, constants, firsts);
     }
-    decide_entailment(clauses, sizes, &constants, firsts)
+    decide_entailment(clauses, sizes, constants, firsts)
 }
 
 // ---- the solution that is shown

@@ -3,5 +3,6 @@ pub mod Order
 pub mod Worked
 pub mod OrderLaws
 pub mod ByteLaws
+pub mod ConstantFirst
 pub mod EncodeLaws
 pub mod AcceptedLaws

@@ -10,11 +10,7 @@ use lib.Dec.{eqb, lit<}
 use borrow.Author.Tests.{eq-eqb, ne-eqb}
 use Rattle.shares.specs.Constant.{bit}
 use Rattle.shares.specs.BitLaws.{bit-or}
-use Rattle.shares.specs.BitParts.{bit-digit}
-
-pub power-bit : (i k : ℕ) → bit (2 ^ i) k ≡ eqb k i
-unfolding bit
-power-bit i k = ap (λ x. bit x k) (sym (one-mul (2 ^ i))) ∙ bit-digit 1 i k (lit< tt) ∙ and-true (eqb k i)
+use Rattle.shares.specs.Shifts.{power-bit}
 
 -- set where a test passes: it was set already, or it is set now, or the test fails
 module _ (x i : ℕ) (p : Bool) where

@@ -24,9 +24,7 @@ use Rattle.shares.specs.NumberLaws.{zero-at}
 use Rattle.leaves.specs.Choices as rows
 use Rattle.leaves.specs.RowNumbers.{value}
 use Rattle.leaves.specs.ChoiceLaws.{value-lt}
-use Rattle.words.specs.LowestLaws.{lowest-lt}
-use Rattle.words.specs.Shifts.{power-shift}
-use Rattle.entries.specs.BitLaws.{power-bit}
+use Rattle.shares.specs.Shifts.{power-shift, power-bit}
 use Rattle.unfolded.specs.Unfolded.{rowWords, leafOf}
 use Rattle.unfolded.specs.UnfoldedLaws.{leaf-word}
 use Rattle.extending.specs.Extending.{choiceAt, over}
@@ -188,10 +186,6 @@ added-one old choice room = record {
 -- the given leaves that are no longer among the rest
 abbrev pub Done : ℕ → ℕ → ℕ → Type 0
 Done leaves rest k = BitOf leaves k × T (not (bit rest k))
-
--- the lowest bit of a word that is not 0 is set
-pub lowest-set : (rest i : ℕ) → rest < 2 ^ 64 → (rest ≡ 0 → ⊥) → i ≡ firstBelow 64 (bit rest) → BitOf rest i
-lowest-set rest i small some e = let l = lowest-lt rest small some in subst (BitOf rest) (sym e) (l, first-below 64 (bit rest) l)
 
 -- a set bit taken out makes a word smaller
 pub less-rest : (rest same i : ℕ) → same < 2 ^ 64 → BitOf rest i → BitOf same i → bitAnd rest ((2 ^ 64 - 1) - same) < rest

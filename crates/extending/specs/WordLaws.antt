@@ -18,9 +18,8 @@ use Rattle.shares.specs.BelowLaws.{every-at, every-intro}
 use Rattle.shares.specs.Constant.{bit}
 use Rattle.shares.specs.BitLaws.{bits-same}
 use Rattle.shares.specs.BitParts.{bit-not, bit-ones, bit-beyond, bit-raised, bit-raised-low}
-use Rattle.words.specs.Shifts.{power-shift}
+use Rattle.shares.specs.Shifts.{power-shift, power-bit}
 use Rattle.beside.specs.TakeLaws.{taken-out}
-use Rattle.entries.specs.BitLaws.{power-bit}
 use Rattle.extending.specs.Looks.{alike}
 
 -- ---- the bits that are like one

@@ -214,8 +214,8 @@ fn look_leaf(
     wanted: u64,
 ) -> Rest
     requires { ⌜ Readable (now clauses) (sizes .counts) (sizes .free) (sizes .own) ⌝ }
-    requires { ⌜ (b < 32) × (sizes .defined ≤ 32) × Within (sizes .defined) (getD (now keys) b 0) × PlacedWithin (sizes .free) (sizes .own) (sizes .defined) (now terms) ⌝ }
-    ensures { λ r. ⌜ PlacedWithin (sizes .free) (sizes .own) (sizes .defined) (now (terms .exit)) ⌝ }
+    requires { ⌜ (b < 32) × (sizes .named < 2 ^ 32) × Within (sizes .named) (getD (now keys) b 0) × PlacedWithin (sizes .free) (sizes .own) (sizes .named) (now terms) ⌝ }
+    ensures { λ r. ⌜ PlacedWithin (sizes .free) (sizes .own) (sizes .named) (now (terms .exit)) ⌝ }
     ensures { λ r. ⌜ ((constants : List ℕ) (start : ℕ) → KeysOf (storedBy sizes (now (clauses .entry)) constants) (now (keys .entry)) → LeavesLooked (storedBy sizes (now (clauses .entry)) constants) (now (table .entry)) b start (allMet wanted) → LeavesLooked (storedBy sizes (now (clauses .entry)) constants) (now (table .entry)) (b + 1) start r) ⌝ }
 {
     if pass::first_like(keys, keys[b], b) < b {
@@ -223,18 +223,18 @@ fn look_leaf(
     }
     let mut present = [0u64; 64];
     mark_alike(table, sizes.free, keys, b, &mut present);
-    words::set_constants(keys[b], sizes.defined, terms);
+    words::set_constants(keys[b], sizes.named, terms);
     look_words(terms, clauses, sizes, &present, wanted)
 }
 
-// The values of the constants at each of their leaves.
-fn put_keys(constants: &[u64; 32], defined: usize, keys: &mut [u64])
-    requires { ⌜ (defined ≤ 32) × (length (now keys) ≡ 32) ⌝ }
-    ensures { λ _. ⌜ ((a : ℕ) → a < 2 ^ constantLevels → getD (now (keys .exit)) a 0 ≡ valuesAt constantLevels (now (constants .entry)) defined constantLevels a) ⌝ }
+// The values of the constants that are named, at each leaf.
+fn put_keys(constants: &[u64; 32], named: u64, keys: &mut [u64])
+    requires { ⌜ (named < 2 ^ 32) × (length (now keys) ≡ 32) ⌝ }
+    ensures { λ _. ⌜ ((a : ℕ) → a < 2 ^ constantLevels → getD (now (keys .exit)) a 0 ≡ valuesAt constantLevels (now (constants .entry)) named constantLevels a) ⌝ }
 {
     let mut b: usize = 0;
     while b < LEAVES {
-        keys[b] = words::values_at(constants, defined, LEVELS, b);
+        keys[b] = words::values_at(constants, named, LEVELS, b);
         b += 1;
     }
 }
@@ -246,13 +246,13 @@ pub fn extends(
     sizes: Sizes,
     constants: &[u64; 32],
 ) -> bool
-    requires { ⌜ Readable (now clauses) (sizes .counts) (sizes .free) (sizes .own) × (sizes .defined ≤ 32) ⌝ }
+    requires { ⌜ Readable (now clauses) (sizes .counts) (sizes .free) (sizes .own) × (sizes .named < 2 ^ 32) ⌝ }
     ensures { λ r. ⌜ r ≡ extendsIn (storedBy sizes (now (clauses .entry)) (now (constants .entry))) (now (table .entry)) ⌝ }
 {
     let mut terms = [0u64; 64];
     words::start_terms(sizes.free, sizes.own, &mut terms);
     let mut keys = [0u64; 32];
-    put_keys(constants, sizes.defined, &mut keys);
+    put_keys(constants, sizes.named, &mut keys);
     let mut wanted: u64 = (1 << sizes.counts[3]) - 1;
     let mut b: usize = 0;
     while b < LEAVES {

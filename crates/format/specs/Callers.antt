@@ -15,7 +15,7 @@ use Rattle.format.specs.declared.Reading.{Reading}
 use Rattle.format.specs.Format.{Result, refused, accepted, read}
 use Rattle.format.specs.Stored.{kindNumber, readingFrom, fourAt, readingsAt, Stored, storedOf, StoredClause, Stands, readingOf}
 use Rattle.format.specs.FormatLaws.{accepted-formed, refusal-number}
-use Rattle.format.specs.KeepingLaws.{readings-length, part-small}
+use Rattle.format.specs.KeepingLaws.{readings-length}
 
 -- ---- the answer
 
@@ -77,8 +77,3 @@ readings-at l start (suc n) i t h = pick (eq-or-lt-of-le (le-of-suc-le-suc h)) (
     pick (inl e) ih =
         getD-at (readingsAt l start n) (readingFrom (fourAt l (start + 4 * n))) [] t i (readings-length l start n ∙ sym e) ∙ ap (λ j. readingFrom (fourAt l (start + 4 * j))) (sym e)
     pick (inr k) ih = List·getD-append (readingsAt l start n) (readingFrom (fourAt l (start + 4 * n)) ∷ []) t i (rw readings-length k) ∙ ih k
-
--- the bytes of a stored clause
-pub bytes-small : (n k : ℕ) (j : LeafJoin) → StoredClause n k j → n ≤ 32 → k ≤ 32 → (j .first < 64) × (j .second < 64) × (j .sum < 64)
-bytes-small n k j d hn hk =
-    (part-small n k (j .first) hn hk (d .first), part-small n k (j .second) hn hk (d .second), part-small n k (j .sum) hn hk (d .sum))

@@ -164,7 +164,7 @@ judged-take q (Take c′ next′) c next e = pick (eqb (fault q c′) 0) refl e
 
 -- ---- named terms are defined
 
-named-defined : (n : ℕ) (cs : Constants) (t : ℕ) → T (names n (length (cs .numbers)) t) → Defined n cs (termOf t)
+pub named-defined : (n : ℕ) (cs : Constants) (t : ℕ) → T (names n (length (cs .numbers)) t) → Defined n cs (termOf t)
 unfolding names termOf
 named-defined n cs t h = pick (ltb t 0x20) h
   where

@@ -1,17 +1,20 @@
 -- What the reader keeps from command to command, and how it judges a command by it. Assumes nothing.
-use mathlib.Core.Bool.{Bool, true, false, cond, _&&_}
+use mathlib.Core.Bool.{Bool, true, false, cond, _&&_, _||_}
 use mathlib.Core.List.{List}
-use Prim.Native.Nat.{ℕ, _+_, _*_, _≤_}
+use Prim.Native.Nat.{ℕ, zero, suc, _+_, _*_, _≤_, _<_}
+use lib.Bits.{bitOr}
 use lib.Dec.{eqb, ltb, leb}
-use lib.ListN.{getD, set}
+use lib.ListN.{getD, set, take, drop}
+use Rattle.shares.specs.Constant.{constantLevels, numberOf, number, bytesAt}
 use Rattle.format.specs.declared.Section.{Section}
+use Rattle.format.specs.declared.LeafJoin.{LeafJoin}
 use Rattle.format.specs.declared.Command.{Command}
 use Rattle.format.specs.declared.Step.{Step}
 use Rattle.format.specs.declared.Step.the-variants.{Take, Refused}
 use Rattle.format.specs.declared.Head.{Head}
 use Rattle.format.specs.declared.Head.the-variants.{Opens, Wrong}
 use Rattle.format.specs.Format.{mostConstants, isSecond, mostOf, allNamed, variablesFor, clauseFault, constantFault}
-use Rattle.format.specs.Stored.{sectionNumber, joinFor, clauseBytes, sectionStart, countOf, clauseWritten}
+use Rattle.format.specs.Stored.{constantAt, placeOf, sectionNumber, joinFor, clauseBytes, sectionStart, countOf, clauseWritten}
 
 -- ---- one command kept
 
@@ -43,12 +46,41 @@ clauseCounts counts Command.Head = counts
 clauseCounts counts (Command.Constant x) = counts
 clauseCounts counts (Command.Clause σ t a b c) = set counts (sectionNumber σ) (countOf counts σ + 1)
 
+-- the word with bit i set for each constant among the parts of a join
+unfoldable pub constantsIn : LeafJoin → ℕ
+constantsIn j = numberOf mostConstants (λ i. eqb (0x20 + i) (j .first) || (eqb (0x20 + i) (j .second) || eqb (0x20 + i) (j .sum)))
+
+-- which constants are named, with one command more
+abbrev pub keptNames : ℕ → Command → ℕ
+keptNames named Command.End = named
+keptNames named Command.Head = named
+keptNames named (Command.Constant x) = named
+keptNames named (Command.Clause σ t a b c) = bitOr named (constantsIn (joinFor t a b c))
+
+-- the numbers of a join's parts are below 64
+abbrev pub PartsSmall : LeafJoin → Type 0
+PartsSmall j = (j .first < 64) × (j .second < 64) × (j .sum < 64)
+
+-- so are those of the clause that a command announces
+abbrev pub SmallIn : Command → Type 0
+SmallIn Command.End = Unit {0}
+SmallIn Command.Head = Unit {0}
+SmallIn (Command.Constant x) = Unit {0}
+SmallIn (Command.Clause σ t a b c) = PartsSmall (joinFor t a b c)
+
 -- there is room for its four bytes
 abbrev pub Slot : List ℕ → Command → Type 0
 Slot counts Command.End = Unit {0}
 Slot counts Command.Head = Unit {0}
 Slot counts (Command.Constant x) = Unit {0}
 Slot counts (Command.Clause σ t a b c) = nextSlot counts σ + 4 ≤ clauseBytes
+
+-- ---- the constants that stand first
+
+-- after n of them: the list with the numbers of those that follow, if there are at most k more
+unfoldable pub leadInto : ℕ → List ℕ → ℕ → List ℕ → List ℕ
+leadInto zero s n l = l
+leadInto (suc k) s n l = cond (constantAt s (placeOf n)) (leadInto k s (n + 1) (set l n (number (take (bytesAt constantLevels) (drop (placeOf n + 1) s))))) l
 
 -- ---- what is wrong with a command, by the counts that are kept
 

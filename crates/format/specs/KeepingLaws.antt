@@ -8,6 +8,7 @@ use native.Mathlib.Nat.{eq-or-lt-of-le, le-of-suc-le-suc, le-trans}
 use native.Mathlib.Numerals.{add-one}
 use native.Mathlib.Omega.{arith}
 use borrow.Author.Tests.{ltb-false, ne-eqb}
+use lib.Bits.{bitOr}
 use lib.Dec.{T, eqb, ltb, leb, ltb→lt, eqb→eq, lit<}
 use lib.ListN.{length, length-map, getD, set, take, drop, replicate, length-set, length-append, length-take, length-drop, length-replicate, getD-replicate, take-append-drop}
 use lib.Pow.{pow-add, pow-mono}
@@ -16,9 +17,10 @@ use Rattle.shares.specs.Constant.{constantLevels, number, bytesAt}
 use Rattle.shares.specs.Parts.{emptyPart, fullPart}
 use Rattle.shares.specs.Test.{or-right, or-cases}
 use Rattle.systems.specs.Clauses.{Term, variable, constant}
-use Rattle.systems.specs.Questions.{Kind, satisfiability, entailment, Question}
+use Rattle.systems.specs.Questions.{Kind, satisfiability, entailment, Question, Defined, InAtom, termsOf, namedBy, isAmong}
 use Rattle.systems.specs.AtLeaves.{Part, of, always, LeafReading, joinsTo, apart, readAs}
 use Rattle.systems.specs.AtomLaws.{InPart, InReading, in-reading}
+use Rattle.systems.specs.NamedLaws.{atom-among}
 use Rattle.format.specs.declared.Section.{Section}
 use Rattle.format.specs.declared.Section.the-variants.{FirstPositive, FirstDisequation, SecondPositive, SecondDisequation}
 use Rattle.format.specs.declared.Test.{Test}
@@ -32,10 +34,11 @@ use Rattle.format.specs.declared.Step.{Step}
 use Rattle.format.specs.declared.Question.{Question as Struct}
 use Rattle.format.specs.declared.Step.the-variants.{Take, Refused}
 use Rattle.format.specs.Format.{mostVariables, mostConstants, termOf, entryOf, operands, commandOf, wholeAt, readAt, mostOf, inSection, names, variablesFor, allNamed, atomOf, isForeign, constantFault, fault, judged, withClause, withConstant, taken}
-use Rattle.format.specs.Stored.{kindNumber, sectionNumber, partByte, fourOf, joinFor, partOf, readingFrom, clauseBytes, sectionStart, fourAt, readingsAt, Stored, stored, countOf, Counted, partNamed, StoredClause, StoredAt, Stands, heldAs, clauseWritten, commandWritten}
-use Rattle.format.specs.Keeping.{nextSlot, keptConstants, constantCount, keptClauses, clauseCounts, Slot, clauseTotal, foreignTo, faultOf, judgedOf}
+use Rattle.format.specs.Stored.{kindNumber, sectionNumber, partByte, fourOf, joinFor, partOf, readingFrom, clauseBytes, sectionStart, fourAt, readingsAt, Stored, stored, countOf, Counted, partNamed, StoredClause, StoredAt, definedBy, namedWord, Stands, heldAs, clauseWritten, commandWritten}
+use Rattle.format.specs.Keeping.{nextSlot, keptConstants, constantCount, keptClauses, clauseCounts, constantsIn, keptNames, PartsSmall, SmallIn, Slot, clauseTotal, foreignTo, faultOf, judgedOf}
 use Rattle.format.specs.SectionLaws.{both-counts, added, Apart, Alike, same, other, alike, constant-sections, clause-keeps, section-below, slot-fits, variables-le}
-use Rattle.format.specs.FormatLaws.{branch, ClauseFits, clause-fits, ConstantFits, constant-fits, in-test}
+use Rattle.format.specs.FormatLaws.{branch, ClauseFits, clause-fits, ConstantFits, constant-fits, in-test, named-defined}
+use Rattle.format.specs.NameLaws.{LowTerm, low-term, among-clause, named-more}
 
 -- ---- what a command of bytes holds
 
@@ -259,37 +262,46 @@ part-small n k t hn hk h = pick (part-cases n k t h)
     pick (inr (inl e)) = omega arith
     pick (inr (inr u)) = named-small n k t hn hk u
 
+-- the bytes of a stored clause
+pub parts-small : (n k : ℕ) (j : LeafJoin) → StoredClause n k j → n ≤ 32 → k ≤ 32 → PartsSmall j
+parts-small n k j d hn hk =
+    (part-small n k (j .first) hn hk (d .first), part-small n k (j .second) hn hk (d .second), part-small n k (j .sum) hn hk (d .sum))
+
 foreign-same : (k : Kind) (σ : Section) → foreignTo (kindNumber k) σ ≡ isForeign k σ
 foreign-same satisfiability σ = refl
 foreign-same entailment σ = refl
 
 -- ---- what is stored, with one command more
 
-abbrev pub kept : Stored → Command → Stored
-kept x c = record {
+abbrev pub kept : Stored → ℕ → Command → Stored
+kept x defined c = record {
   free = x .free;
   own = x .own;
-  constants = keptConstants (x .constants) (x .defined) c;
-  defined = constantCount (x .defined) c;
+  constants = keptConstants (x .constants) defined c;
+  named = keptNames (x .named) c;
   clauses = keptClauses (x .clauses) (x .counts) c;
   counts = clauseCounts (x .counts) c;
 }
 
 -- the constants past those that are defined are 0
-abbrev pub ZerosPast : Stored → Type 0
-ZerosPast x = (i : ℕ) → x .defined ≤ i → getD (x .constants) i 0 ≡ 0
+abbrev pub ZerosPast : ℕ → List ℕ → Type 0
+ZerosPast defined constants = (i : ℕ) → defined ≤ i → getD constants i 0 ≡ 0
 
-pub zeros-kept : (x : Stored) (c : Command) → ZerosPast x → ZerosPast (kept x c)
-zeros-kept x Command.End z = z
-zeros-kept x Command.Head z = z
-zeros-kept x (Command.Constant v) z = λ i h. getD-set-other (x .constants) (x .defined) i v 0 (omega arith) ∙ z i (omega arith)
-zeros-kept x (Command.Clause σ t a b c) z = z
+pub zeros-kept : (defined : ℕ) (constants : List ℕ) (c : Command) → ZerosPast defined constants → ZerosPast (constantCount defined c) (keptConstants constants defined c)
+zeros-kept defined constants Command.End z = z
+zeros-kept defined constants Command.Head z = z
+zeros-kept defined constants (Command.Constant v) z = λ i h. getD-set-other constants defined i v 0 (omega arith) ∙ z i (omega arith)
+zeros-kept defined constants (Command.Clause σ t a b c) z = z
+
+-- the constants that are defined, counted
+pub defined-kept : (q : Question) (c : Command) → definedBy (taken q c) ≡ constantCount (definedBy q) c
+unfolding taken
+defined-kept q Command.End = refl
+defined-kept q Command.Head = refl
+defined-kept q (Command.Constant v) = simp length-append
+defined-kept q (Command.Clause σ t a b c) = ap (λ cs. length (cs .numbers)) (clause-keeps q σ (atomOf t a b c) .constants)
 
 module _ {kind : ℕ} (x : Stored) (q : Question) (d : Stands kind x q) where
-  pub defined-count : length (q .constants .numbers) ≡ x .defined
-  defined-count =
-      ap (λ cs. length (cs .numbers)) (d .constants) ∙ length-take-le (x .defined) (x .constants) (omega (arith, d .constantCounted, d .sizes .0))
-
   pub section-count : (σ : Section) → length (inSection q σ) ≡ countOf (x .counts) σ
   section-count σ =
       sym (length-map (inSection q σ) readAs) ∙ ap length (sym (d .sections σ)) ∙ readings-length (x .clauses) (sectionStart σ) (countOf (x .counts) σ)
@@ -306,15 +318,15 @@ module _ {kind : ℕ} (x : Stored) (q : Question) (d : Stands kind x q) where
         section-count SecondDisequation,
       )
 
-  fault-same : (c : Command) → faultOf kind (x .free) (x .own) (x .defined) (x .counts) c ≡ fault q c
+  fault-same : (c : Command) → faultOf kind (x .free) (x .own) (definedBy q) (x .counts) c ≡ fault q c
   unfolding faultOf fault
   fault-same Command.End = refl
   fault-same Command.Head = refl
-  fault-same (Command.Constant v) = ap₂ (λ m n. constantFault (ltb 0 m) (leb mostConstants n)) clause-count (sym defined-count)
-  fault-same (Command.Clause σ t a b c) = rw (d .kind, d .free, d .own, ← section-count σ, ← defined-count, foreign-same (q .kind) σ)
+  fault-same (Command.Constant v) = ap (λ m. constantFault (ltb 0 m) (leb mostConstants (definedBy q))) clause-count
+  fault-same (Command.Clause σ t a b c) = rw (d .kind, d .free, d .own, ← section-count σ, foreign-same (q .kind) σ)
 
   -- the counts that the code keeps judge as the definition does
-  pub judged-same : (r : Step) → judgedOf kind (x .free) (x .own) (x .defined) (x .counts) r ≡ judged q r
+  pub judged-same : (r : Step) → judgedOf kind (x .free) (x .own) (definedBy q) (x .counts) r ≡ judged q r
   judged-same (Refused n) = refl
   judged-same (Take c next) = ap (λ f. cond (eqb f 0) (Take c next) (Refused f)) (fault-same c)
 
@@ -324,31 +336,35 @@ module _ {kind : ℕ} (x : Stored) (q : Question) (d : Stands kind x q) where
   no-clause f SecondPositive = omega (arith, section-count SecondPositive, both-counts (q .second), f .before)
   no-clause f SecondDisequation = omega (arith, section-count SecondDisequation, both-counts (q .second), f .before)
 
-  stands-constant : (v : ℕ) → v < 2 ^ (8 * bytesAt constantLevels) → ConstantFits q → Stands kind (kept x (Command.Constant v)) (withConstant q v)
+  stands-constant : (v : ℕ) → v < 2 ^ (8 * bytesAt constantLevels) → ConstantFits q → Stands kind (kept x (definedBy q) (Command.Constant v)) (withConstant q v)
+  unfolding namedWord
   stands-constant v small f =
-      let n = x .defined in
+      let n = definedBy q in
       let l = x .constants in
-      let room : n < mostConstants = omega (arith, f .room, defined-count) in
+      let room : n < mostConstants = f .room in
       let fits : n < length l = omega (arith, d .sizes .0) in
+      let more : length (q .constants .numbers ++ (v ∷ [])) ≡ n + 1 = simp length-append in
       record {
         kind = d .kind;
         free = d .free;
         own = d .own;
         constants =
             ap (λ cs. record { levels = cs .levels; numbers = cs .numbers ++ (v ∷ []) }) (d .constants)
-            ∙ ap (λ k. record { levels = constantLevels; numbers = k }) (sym (rw add-one (take-suc-set l n v fits)));
+            ∙ ap (λ k. record { levels = constantLevels; numbers = k }) (sym (rw add-one (take-suc-set l n v fits)) ∙ ap (λ m. take m (set l n v)) (sym more));
+        named = d .named;
+        namedDefined = λ i t. omega (arith, d .namedDefined i t, more);
         sections = λ σ. d .sections σ ∙ ap (map readAs) (sym (constant-sections q v σ));
         variables = d .variables;
         counted = d .counted;
         constantCounted = omega arith;
-        small = λ i h. below i (eq-or-lt-of-le (le-of-suc-le-suc (rw add-one at h))) fits;
+        small = λ i h. below i (eq-or-lt-of-le (le-of-suc-le-suc (rw (more, add-one) at h))) fits;
         clauses = λ σ i h. absurd (omega (arith, no-clause f σ));
         sizes = (simp length-set (d .sizes .0), d .sizes .1, d .sizes .2);
       }
     where
-      below : (i : ℕ) → (i ≡ x .defined) ⊎ (i < x .defined) → x .defined < length (x .constants) → getD (set (x .constants) (x .defined) v) i 0 < 2 ^ (8 * bytesAt constantLevels)
-      below i (inl e) fits = rw e (rw (getD-set-same (x .constants) (x .defined) v 0 fits) small)
-      below i (inr h) fits = rw (getD-set-other (x .constants) (x .defined) i v 0 (omega arith)) (d .small i h)
+      below : (i : ℕ) → (i ≡ definedBy q) ⊎ (i < definedBy q) → definedBy q < length (x .constants) → getD (set (x .constants) (definedBy q) v) i 0 < 2 ^ (8 * bytesAt constantLevels)
+      below i (inl e) fits = rw e (rw (getD-set-same (x .constants) (definedBy q) v 0 fits) small)
+      below i (inr h) fits = rw (getD-set-other (x .constants) (definedBy q) i v 0 (omega arith)) (d .small i h)
 
   -- a clause more: σ is its section
   module _ (σ : Section) (t : Test) (a b c : ℕ) (f : ClauseFits q σ t a b c) where
@@ -389,8 +405,11 @@ module _ {kind : ℕ} (x : Stored) (q : Question) (d : Stands kind x q) where
     few : variablesFor (x .free) (x .own) σ ≤ mostVariables
     few = omega (arith, variables-le (x .free) (x .own) σ, d .variables)
 
-    its-terms : InReading (NamedTerm (variablesFor (x .free) (x .own) σ) (x .defined)) (readAs (atomOf t a b c))
-    its-terms = test-terms _ _ few t a b c (rw (d .free, d .own, ← defined-count) (f .named))
+    its-terms : InReading (NamedTerm (variablesFor (x .free) (x .own) σ) (definedBy q)) (readAs (atomOf t a b c))
+    its-terms = test-terms _ _ few t a b c (rw (d .free, d .own) (f .named))
+
+    its-low : InAtom LowTerm (atomOf t a b c)
+    its-low = in-test LowTerm _ _ (λ u m. low-term u) t a b c (f .named)
 
     its-bytes : fourAt clauses′ (nextSlot (x .counts) σ) ≡ joinFor t a b c
     unfolding clauses′
@@ -420,28 +439,28 @@ module _ {kind : ℕ} (x : Stored) (q : Question) (d : Stands kind x q) where
 
     -- what is stored after the clause
     abbrev after : Stored
-    after = stored clauses′ counts′ (x .constants) (x .defined) (x .free) (x .own)
+    after = stored clauses′ counts′ (x .constants) (x .named) (x .free) (x .own)
 
-    new-stored : StoredAt after σ (nextSlot (x .counts) σ)
-    new-stored = subst (StoredClause _ _) (sym its-bytes) (reading-stored (variablesFor (x .free) (x .own) σ) (x .defined) few (readAs (atomOf t a b c)) its-terms)
+    new-stored : StoredAt after (definedBy q) σ (nextSlot (x .counts) σ)
+    new-stored = subst (StoredClause _ _) (sym its-bytes) (reading-stored (variablesFor (x .free) (x .own) σ) (definedBy q) few (readAs (atomOf t a b c)) its-terms)
 
-    all-stored : (τ : Section) (i : ℕ) → i < countOf counts′ τ → StoredAt after τ (sectionStart τ + 4 * i)
+    all-stored : (τ : Section) (i : ℕ) → i < countOf counts′ τ → StoredAt after (definedBy q) τ (sectionStart τ + 4 * i)
     unfolding clauses′
     all-stored τ i h = pick (alike σ τ) before-it new-stored count-more elsewhere count-other h
       where
-        old : (υ : Section) → Agrees (x .clauses) clauses′ (sectionStart υ) (nextSlot (x .counts) υ) → i < countOf (x .counts) υ → StoredAt after υ (sectionStart υ + 4 * i)
+        old : (υ : Section) → Agrees (x .clauses) clauses′ (sectionStart υ) (nextSlot (x .counts) υ) → i < countOf (x .counts) υ → StoredAt after (definedBy q) υ (sectionStart υ + 4 * i)
         old υ g l = subst (StoredClause _ _) (sym (four-agrees (x .clauses) clauses′ (sectionStart υ + 4 * i) (λ j from to. g j (omega arith) (omega arith)))) (d .clauses υ i l)
 
-        ends : (υ : Section) → Agrees (x .clauses) clauses′ (sectionStart υ) (nextSlot (x .counts) υ) → StoredAt after υ (nextSlot (x .counts) υ)
-            → (i ≡ countOf (x .counts) υ) ⊎ (i < countOf (x .counts) υ) → StoredAt after υ (sectionStart υ + 4 * i)
+        ends : (υ : Section) → Agrees (x .clauses) clauses′ (sectionStart υ) (nextSlot (x .counts) υ) → StoredAt after (definedBy q) υ (nextSlot (x .counts) υ)
+            → (i ≡ countOf (x .counts) υ) ⊎ (i < countOf (x .counts) υ) → StoredAt after (definedBy q) υ (sectionStart υ + 4 * i)
         ends υ g w (inl e) = rw e w
         ends υ g w (inr l) = old υ g l
 
         pick : {σ τ : Section} → Alike σ τ → Agrees (x .clauses) clauses′ (sectionStart σ) (nextSlot (x .counts) σ)
-            → StoredAt after σ (nextSlot (x .counts) σ) → countOf counts′ σ ≡ countOf (x .counts) σ + 1
+            → StoredAt after (definedBy q) σ (nextSlot (x .counts) σ) → countOf counts′ σ ≡ countOf (x .counts) σ + 1
             → ((υ : Section) → Apart σ υ → Agrees (x .clauses) clauses′ (sectionStart υ) (nextSlot (x .counts) υ))
             → ((υ : Section) → Apart σ υ → countOf counts′ υ ≡ countOf (x .counts) υ)
-            → i < countOf counts′ τ → StoredAt after τ (sectionStart τ + 4 * i)
+            → i < countOf counts′ τ → StoredAt after (definedBy q) τ (sectionStart τ + 4 * i)
         pick (same {σ = υ}) h w n g m l = ends υ h w (eq-or-lt-of-le (le-of-suc-le-suc (rw (n, add-one (countOf (x .counts) υ)) at l)))
         pick (other {τ = υ} o) h w n g m l = old υ (g υ o) (rw (m υ o) at l)
 
@@ -453,7 +472,15 @@ module _ {kind : ℕ} (x : Stored) (q : Question) (d : Stands kind x q) where
         pick same r n m = omega arith
         pick (other {τ = υ} o) r n m = rw (m υ o) (d .counted υ)
 
-    stands-clause : Stands kind (kept x (Command.Clause σ t a b c)) (withClause q σ (atomOf t a b c))
+    -- a constant that it names is defined
+    its-defined : (i : ℕ) → T (isAmong i (termsOf (atomOf t a b c))) → i < definedBy q
+    its-defined i = atom-among (Defined _ (q .constants)) i (atomOf t a b c) (in-test (Defined _ (q .constants)) _ _ (named-defined _ (q .constants)) t a b c (f .named))
+
+    named-before : (i : ℕ) → T (isAmong i (namedBy q)) ⊎ T (isAmong i (termsOf (atomOf t a b c))) → i < definedBy q
+    named-before i (inl u) = d .namedDefined i u
+    named-before i (inr u) = its-defined i u
+
+    stands-clause : Stands kind (kept x (definedBy q) (Command.Clause σ t a b c)) (withClause q σ (atomOf t a b c))
     unfolding counts′ clauses′
     stands-clause =
         let k = clause-keeps q σ (atomOf t a b c) in
@@ -461,13 +488,15 @@ module _ {kind : ℕ} (x : Stored) (q : Question) (d : Stands kind x q) where
           kind = rw (k .kind) (d .kind);
           free = rw (k .free) (d .free);
           own = rw (k .own) (d .own);
-          constants = k .constants ∙ d .constants;
+          constants = rw (k .constants) (d .constants);
+          named = ap (λ w. bitOr w (constantsIn (joinFor t a b c))) (d .named) ∙ named-more q σ (atomOf t a b c) its-low;
+          namedDefined = λ i u. rw (k .constants) (named-before i (or-cases (isAmong i (namedBy q)) _ (subst T (among-clause i q σ (atomOf t a b c)) u)));
           sections = sections′;
           variables = d .variables;
           counted = counted′;
-          constantCounted = d .constantCounted;
-          small = d .small;
-          clauses = all-stored;
+          constantCounted = rw (k .constants) (d .constantCounted);
+          small = rw (k .constants) (d .small);
+          clauses = rw (k .constants) all-stored;
           sizes = (d .sizes .0, stored-length (x .clauses) (nextSlot (x .counts) σ) (joinFor t a b c) ∙ d .sizes .1, simp length-set (d .sizes .2));
         }
 
@@ -479,20 +508,23 @@ module _ {kind : ℕ} (x : Stored) (q : Question) (d : Stands kind x q) where
   written-same (Command.Clause σ t a b c) = ap (λ n. clauseWritten (x .clauses) (sectionStart σ + 4 * n) (joinFor t a b c)) (section-count σ)
 
   -- there is room for a command with no fault
-  pub room-constant : (c : Command) → fault q c ≡ 0 → constantCount (x .defined) c ≤ length (x .constants)
-  room-constant Command.End e = omega (arith, d .constantCounted, d .sizes .0)
-  room-constant Command.Head e = omega (arith, d .constantCounted, d .sizes .0)
-  room-constant (Command.Constant v) e = omega (arith, constant-fits q v e .room, defined-count, d .sizes .0)
-  room-constant (Command.Clause σ t a b c) e = omega (arith, d .constantCounted, d .sizes .0)
-
   pub room-clause : (c : Command) → fault q c ≡ 0 → Slot (x .counts) c
   room-clause Command.End e = tt
   room-clause Command.Head e = tt
   room-clause (Command.Constant v) e = tt
   room-clause (Command.Clause σ t a b c) e = slot-fits (x .counts) σ (omega (arith, clause-fits q σ t a b c e .room, section-count σ))
 
+  pub small-clause : (c : Command) → fault q c ≡ 0 → SmallIn c
+  small-clause Command.End e = tt
+  small-clause Command.Head e = tt
+  small-clause (Command.Constant v) e = tt
+  small-clause (Command.Clause σ t a b c) e =
+      let f = clause-fits q σ t a b c e in
+      parts-small (variablesFor (x .free) (x .own) σ) (definedBy q) _ (reading-stored _ _ (few σ t a b c f) (readAs (atomOf t a b c)) (its-terms σ t a b c f))
+      (omega (arith, few σ t a b c f)) (omega (arith, d .constantCounted))
+
   -- a command with no fault, kept, stands for the question that has it
-  pub stands-taken : (c : Command) → fault q c ≡ 0 → Proper c → Stands kind (kept x c) (taken q c)
+  pub stands-taken : (c : Command) → fault q c ≡ 0 → Proper c → Stands kind (kept x (definedBy q) c) (taken q c)
   unfolding taken
   stands-taken Command.End e p = d
   stands-taken Command.Head e p = d
@@ -509,23 +541,23 @@ module _ {kind : ℕ} (x : Stored) (q : Question) (d : Stands kind x q) where
   counts-are (a ∷ b ∷ c ∷ d ∷ []) e = refl
   counts-are (a ∷ b ∷ c ∷ d ∷ f ∷ l) e = absurd (omega arith)
 
-  zeros-past : ZerosPast x → drop (x .defined) (x .constants) ≡ replicate (mostConstants - x .defined) 0
+  zeros-past : ZerosPast (definedBy q) (x .constants) → drop (definedBy q) (x .constants) ≡ replicate (mostConstants - definedBy q) 0
   zeros-past z =
-      let n : length (drop (x .defined) (x .constants)) ≡ mostConstants - x .defined = length-drop (x .defined) (x .constants) ∙ ap (λ m. m - x .defined) (d .sizes .0) in
-      ext-getD 0 _ _ (n ∙ sym (length-replicate (mostConstants - x .defined) 0)) (λ i l.
-      getD-drop (x .defined) (x .constants) i 0 ∙ z (x .defined + i) (omega arith) ∙ sym (getD-replicate (mostConstants - x .defined) i 0 0 (rw n at l)))
+      let n : length (drop (definedBy q) (x .constants)) ≡ mostConstants - definedBy q = length-drop (definedBy q) (x .constants) ∙ ap (λ m. m - definedBy q) (d .sizes .0) in
+      ext-getD 0 _ _ (n ∙ sym (length-replicate (mostConstants - definedBy q) 0)) (λ i l.
+      getD-drop (definedBy q) (x .constants) i 0 ∙ z (definedBy q + i) (omega arith) ∙ sym (getD-replicate (mostConstants - definedBy q) i 0 0 (rw n at l)))
 
-  pub held-as : ZerosPast x
-      → record { kind = kind; free = x .free; own = x .own; constants = x .constants; defined = x .defined; counts = x .counts } ≡ heldAs q
-  held-as z =
-      let numbers : q .constants .numbers ≡ take (x .defined) (x .constants) = ap (λ cs. cs .numbers) (d .constants) in
+  pub held-as : (defined : ℕ) → defined ≡ definedBy q → ZerosPast (definedBy q) (x .constants)
+      → record { kind = kind; free = x .free; own = x .own; constants = x .constants; defined = defined; named = x .named; counts = x .counts } ≡ heldAs q
+  held-as defined e z =
+      let numbers : q .constants .numbers ≡ take (definedBy q) (x .constants) = ap (λ cs. cs .numbers) (d .constants) in
       let constants : x .constants ≡ q .constants .numbers ++ replicate (mostConstants - length (q .constants .numbers)) 0 =
-      sym (rw (defined-count, numbers, ← zeros-past z) (take-append-drop (x .defined) (x .constants))) in
+      sym (ap₂ _++_ numbers (sym (zeros-past z)) ∙ take-append-drop (definedBy q) (x .constants)) in
       let counts : x .counts ≡ length (inSection q FirstPositive) ∷ length (inSection q FirstDisequation) ∷ length (inSection q SecondPositive) ∷ length (inSection q SecondDisequation) ∷ [] =
       rw (section-count FirstPositive, section-count FirstDisequation, section-count SecondPositive, section-count SecondDisequation) (counts-are (x .counts) (d .sizes .2)) in
-      same (d .kind) (d .free) (d .own) constants (sym defined-count) counts
+      same (d .kind) (d .free) (d .own) constants e (d .named) counts
     where
-      same : {k k′ f f′ o o′ n n′ : ℕ} {cs cs′ cl cl′ : List ℕ} → k ≡ k′ → f ≡ f′ → o ≡ o′ → cs ≡ cs′ → n ≡ n′ → cl ≡ cl′
-          → _≡_ {A = Struct} (record { kind = k; free = f; own = o; constants = cs; defined = n; counts = cl })
-          (record { kind = k′; free = f′; own = o′; constants = cs′; defined = n′; counts = cl′ })
-      same e f g h i j = rw (e, f, g, h, i, j)
+      same : {k k′ f f′ o o′ n n′ m m′ : ℕ} {cs cs′ cl cl′ : List ℕ} → k ≡ k′ → f ≡ f′ → o ≡ o′ → cs ≡ cs′ → n ≡ n′ → m ≡ m′ → cl ≡ cl′
+          → _≡_ {A = Struct} (record { kind = k; free = f; own = o; constants = cs; defined = n; named = m; counts = cl })
+          (record { kind = k′; free = f′; own = o′; constants = cs′; defined = n′; named = m′; counts = cl′ })
+      same e f g h i j k = rw (e, f, g, h, i, j, k)

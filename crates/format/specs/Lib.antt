@@ -4,6 +4,8 @@ pub mod Worked
 pub mod Keeping
 pub mod SectionLaws
 pub mod FormatLaws
+pub mod NameLaws
 pub mod KeepingLaws
+pub mod LeadLaws
 pub mod PrefixLaws
 pub mod Callers

@@ -1,15 +1,15 @@
 -- A question as it is stored once it is read: the fields of a struct and the clauses' bytes, and when they stand for a question of the
 -- model. Assumes nothing.
 use mathlib.Core.Path.{_≡_}
-use mathlib.Core.Bool.{Bool, true, false, cond, _||_}
+use mathlib.Core.Bool.{Bool, true, false, not, cond, _&&_, _||_}
 use mathlib.Core.List.{List, [], _∷_, _++_, map}
 use Prim.Native.Nat.{ℕ, zero, suc, _+_, _-_, _*_, _^_, _≤_, _<_}
-use lib.Dec.{T, eqb}
+use lib.Dec.{T, eqb, ltb}
 use lib.ListN.{length, getD, set, take, replicate}
-use Rattle.shares.specs.Constant.{constantLevels, bytesAt}
+use Rattle.shares.specs.Constant.{constantLevels, numberOf, bytesAt}
 use Rattle.shares.specs.Parts.{emptyPart, fullPart}
 use Rattle.systems.specs.Clauses.{variable, constant}
-use Rattle.systems.specs.Questions.{Kind, satisfiability, entailment, Question as Asked}
+use Rattle.systems.specs.Questions.{Kind, satisfiability, entailment, Question as Asked, namedBy, isAmong}
 use Rattle.systems.specs.AtLeaves.{Part, of, always, LeafReading, joinsTo, apart, readAs}
 use Rattle.format.specs.declared.Section.{Section}
 use Rattle.format.specs.declared.Section.the-variants.{FirstPositive, FirstDisequation, SecondPositive, SecondDisequation}
@@ -89,22 +89,22 @@ readingsAt l start (suc n) = readingsAt l start n ++ (readingFrom (fourAt l (sta
 
 -- ---- what is stored of a question
 
--- the clauses' bytes and how many clauses each section has, the constants and how many are defined, and how many variables there are
+-- the clauses' bytes and how many clauses each section has, the constants and which of them some clause names, and how many variables there are
 pub record Stored : Type 0 where
   pub clauses : List ℕ
   pub counts : List ℕ
   pub constants : List ℕ
-  pub defined : ℕ
+  pub named : ℕ
   pub free : ℕ
   pub own : ℕ
 
 -- from its parts
 abbrev pub stored : List ℕ → List ℕ → List ℕ → ℕ → ℕ → ℕ → Stored
-stored clauses counts constants defined free own = record { clauses = clauses; counts = counts; constants = constants; defined = defined; free = free; own = own }
+stored clauses counts constants named free own = record { clauses = clauses; counts = counts; constants = constants; named = named; free = free; own = own }
 
 -- from the struct and the clauses' bytes
 abbrev pub storedOf : Question → List ℕ → Stored
-storedOf x clauses = stored clauses (x .counts) (x .constants) (x .defined) (x .free) (x .own)
+storedOf x clauses = stored clauses (x .counts) (x .constants) (x .named) (x .free) (x .own)
 
 -- how many clauses a section has
 abbrev pub countOf : List ℕ → Section → ℕ
@@ -125,34 +125,45 @@ pub record StoredClause (n k : ℕ) (j : LeafJoin) : Type 0 where
   pub second : T (partNamed n k (j .second))
   pub sum : T (partNamed n k (j .sum))
 
--- the four bytes at an offset are such a clause, of a section
-abbrev pub StoredAt : Stored → Section → ℕ → Type 0
-StoredAt x σ i = StoredClause (variablesFor (x .free) (x .own) σ) (x .defined) (fourAt (x .clauses) i)
+-- the four bytes at an offset are such a clause, of a section, where so many constants are defined
+abbrev pub StoredAt : Stored → ℕ → Section → ℕ → Type 0
+StoredAt x defined σ i = StoredClause (variablesFor (x .free) (x .own) σ) defined (fourAt (x .clauses) i)
+
+-- how many constants a question has
+abbrev pub definedBy : Asked → ℕ
+definedBy q = length (q .constants .numbers)
+
+-- the word with bit i set for each constant that some clause names
+unfoldable pub namedWord : Asked → ℕ
+namedWord q = numberOf mostConstants (λ i. isAmong i (namedBy q))
 
 -- a kind and what is stored stand for the question q, and what is safe to rely on in them
 pub record Stands (k : ℕ) (x : Stored) (q : Asked) : Type 0 where
   pub kind : k ≡ kindNumber (q .kind)
   pub free : x .free ≡ q .free
   pub own : x .own ≡ q .own
-  pub constants : q .constants ≡ record { levels = constantLevels; numbers = take (x .defined) (x .constants) }
+  pub constants : q .constants ≡ record { levels = constantLevels; numbers = take (definedBy q) (x .constants) }
+  pub named : x .named ≡ namedWord q
+  pub namedDefined : (i : ℕ) → T (isAmong i (namedBy q)) → i < definedBy q
   pub sections : (σ : Section) → readingsAt (x .clauses) (sectionStart σ) (countOf (x .counts) σ) ≡ map readAs (inSection q σ)
   pub variables : x .free + x .own ≤ mostVariables
   pub counted : Counted (x .counts)
-  pub constantCounted : x .defined ≤ mostConstants
-  pub small : (i : ℕ) → i < x .defined → getD (x .constants) i 0 < 2 ^ (8 * bytesAt constantLevels)
-  pub clauses : (σ : Section) (i : ℕ) → i < countOf (x .counts) σ → StoredAt x σ (sectionStart σ + 4 * i)
+  pub constantCounted : definedBy q ≤ mostConstants
+  pub small : (i : ℕ) → i < definedBy q → getD (x .constants) i 0 < 2 ^ (8 * bytesAt constantLevels)
+  pub clauses : (σ : Section) (i : ℕ) → i < countOf (x .counts) σ → StoredAt x (definedBy q) σ (sectionStart σ + 4 * i)
   pub sizes : (length (x .constants) ≡ mostConstants) × (length (x .clauses) ≡ clauseBytes) × (length (x .counts) ≡ 4)
 
 -- ---- what reading hands over
 
--- the struct of a question: its constants, then 0, and its number of clauses in each section
+-- the struct of a question: its constants, then 0, how many there are, which of them some clause names, and its number of clauses in each section
 abbrev pub heldAs : Asked → Question
 heldAs q = record {
   kind = kindNumber (q .kind);
   free = q .free;
   own = q .own;
-  constants = q .constants .numbers ++ replicate (mostConstants - length (q .constants .numbers)) 0;
-  defined = length (q .constants .numbers);
+  constants = q .constants .numbers ++ replicate (mostConstants - definedBy q) 0;
+  defined = definedBy q;
+  named = namedWord q;
   counts =
       length (inSection q FirstPositive)
       ∷ length (inSection q FirstDisequation)
@@ -163,7 +174,7 @@ heldAs q = record {
 
 -- a refusal holds no question: each field is 0
 abbrev pub noQuestion : Question
-noQuestion = record { kind = 0; free = 0; own = 0; constants = replicate mostConstants 0; defined = 0; counts = replicate 4 0 }
+noQuestion = record { kind = 0; free = 0; own = 0; constants = replicate mostConstants 0; defined = 0; named = 0; counts = replicate 4 0 }
 
 abbrev pub readingOf : Result → Reading
 readingOf (refused n place) = record { refusal = n; place = place; question = noQuestion }
@@ -200,3 +211,22 @@ writtenAfterHead s l (Wrong n) = l
 -- what the clauses' bytes hold once a byte string is read, refused or not: each clause before the end or the first fault is written
 unfoldable pub clausesAfter : List ℕ → List ℕ → List ℕ
 clausesAfter s l = writtenAfterHead s l (headOf s)
+
+-- ---- the constants that stand first
+
+-- a constant's command has this many bytes
+abbrev pub constantSize : ℕ
+constantSize = 1 + bytesAt constantLevels
+
+-- a constant stands at an offset, with all its bytes
+abbrev pub constantAt : List ℕ → ℕ → Bool
+constantAt s at = not (ltb (length s - at) constantSize) && eqb (getD s at 0) 0x03
+
+-- where constant number n stands, if all before it are constants
+abbrev pub placeOf : ℕ → ℕ
+placeOf n = 4 + constantSize * n
+
+-- after n constants: how many stand first in all, if there are at most k more
+unfoldable pub leading : ℕ → List ℕ → ℕ → ℕ
+leading zero s n = n
+leading (suc k) s n = cond (constantAt s (placeOf n)) (leading k s (n + 1)) n

@@ -3,11 +3,11 @@ use mathlib.Core.Path.{_≡_, refl}
 use mathlib.Core.List.{List, [], _∷_, _++_, map}
 use Prim.Native.Nat.{ℕ, zero, suc}
 use lib.ListN.{replicate}
-use Rattle.shares.specs.Constant.{constantLevels, number}
+use Rattle.shares.specs.Constant.{constantLevels, numberOf, number}
 use Rattle.systems.specs.Clauses.{variable, constant, joined, equal, isFull, isEmpty, together, positive, negated, positives, disequations}
-use Rattle.systems.specs.Questions.{Question, satisfiability, entailment}
+use Rattle.systems.specs.Questions.{Question, satisfiability, entailment, namedIn, isAmong}
 use Rattle.format.specs.Format.{Result, refused, accepted, entryOf, commandOf, wholeAt, readAt, termOf, names, fault, taken, ended, turn, run, headFits, opened, headOf, read}
-use Rattle.format.specs.Stored.{clauseBytes, readingOf, writtenBy, clausesAfter}
+use Rattle.format.specs.Stored.{clauseBytes, namedWord, readingOf, writtenBy, clausesAfter}
 
 pub record Worked : Type 0 where
   pub bytes : List ℕ
@@ -202,16 +202,16 @@ abbrev second : List ℕ
 second = alone ++ itself ++ (0x12 ∷ 0x00 ∷ 0x01 ∷ [])
 
 -- the struct of a question, and of a refusal; the clauses' bytes after a question, after a string that is refused at its second clause, and after
--- one whose head is refused; and after one with policies in both systems
+-- one whose head is refused; and after one with policies in both systems. Of 32 constants the longest question names the first and the last
 pub stored-right : (readingOf (read entails) ≡ record {
   refusal = 0;
   place = 0;
-  question = record { kind = 1; free = 1; own = 1; constants = 0x80000001 ∷ replicate 31 0; defined = 1; counts = 0 ∷ 1 ∷ 1 ∷ 1 ∷ [] };
+  question = record { kind = 1; free = 1; own = 1; constants = 0x80000001 ∷ replicate 31 0; defined = 1; named = 1; counts = 0 ∷ 1 ∷ 1 ∷ 1 ∷ [] };
 })
     × (readingOf (read second) ≡ record {
       refusal = 8;
       place = 7;
-      question = record { kind = 0; free = 0; own = 0; constants = replicate 32 0; defined = 0; counts = 0 ∷ 0 ∷ 0 ∷ 0 ∷ [] };
+      question = record { kind = 0; free = 0; own = 0; constants = replicate 32 0; defined = 0; named = 0; counts = 0 ∷ 0 ∷ 0 ∷ 0 ∷ [] };
     })
     × (map (λ s. clausesAfter s nines) (entails ∷ second ∷ (0x01 ∷ 0x02 ∷ []) ∷ policies ∷ [])
     ≡ (replicate 256 9 ++ (0x00 ∷ 0x00 ∷ 0x0C ∷ 0x20 ∷ replicate 124 9) ++ (0x00 ∷ 0x01 ∷ 0x0C ∷ 0x00 ∷ replicate 252 9) ++ (0x00 ∷ 0x00 ∷ 0x01 ∷ 0x20 ∷ replicate 124 9))
@@ -222,5 +222,6 @@ pub stored-right : (readingOf (read entails) ≡ record {
     ++ (0x00 ∷ 0x01 ∷ 0x0C ∷ 0x0D ∷ 0x01 ∷ 0x00 ∷ 0x01 ∷ 0x0C ∷ replicate 248 9) ++ (0x00 ∷ 0x00 ∷ 0x0C ∷ 0x0C ∷ replicate 124 9)
     )
     ∷ [])
-unfolding read headOf headFits opened run turn ended taken fault names termOf readAt wholeAt commandOf entryOf number positives disequations writtenBy clausesAfter
-stored-right = (refl, refl, refl)
+    × (readingOf (read (full ++ (0x00 ∷ []))) .question .named ≡ 0x80000001)
+unfolding times read headOf headFits opened run turn ended taken fault names termOf readAt wholeAt commandOf entryOf number positives disequations writtenBy clausesAfter namedWord numberOf isAmong namedIn
+stored-right = (refl, refl, refl, refl)

@@ -64,15 +64,16 @@ pub enum Head {
 }
 
 // A question that was read: its kind (0 satisfiability, 1 entailment), its free and own variables, its constants, of which so many are
-// defined, and how many clauses each section has. The clauses themselves are bytes beside it, four a clause: how it reads as a join at a
-// leaf. Sections: 0 first positive, from byte 0; 1 first disequations, from 256; 2 second positive, from 384; 3 second disequations,
-// from 640.
+// defined, which of them some clause names, constant i at bit i, and how many clauses each section has. The clauses themselves are bytes
+// beside it, four a clause: how it reads as a join at a leaf. Sections: 0 first positive, from byte 0; 1 first disequations, from 256;
+// 2 second positive, from 384; 3 second disequations, from 640.
 pub struct Question {
     pub kind: u8,
     pub free: usize,
     pub own: usize,
     pub constants: [u64; 32],
     pub defined: usize,
+    pub named: u64,
     pub counts: [usize; 4],
 }
 

@@ -21,7 +21,7 @@ use Rattle.shares.specs.BitParts.{bit-mod}
 use Rattle.shares.specs.NumberLaws.{zero-at, halved}
 use Rattle.words.specs.Kept.{lowestIn}
 use Rattle.words.specs.KeptLaws.{lowest-in-lt}
-use Rattle.words.specs.Shifts.{power-shift}
+use Rattle.shares.specs.Shifts.{power-shift}
 use Rattle.words.specs.Stores.{store-law}
 use Rattle.guesses.specs.Guesses.{Values, choiceNumber}
 

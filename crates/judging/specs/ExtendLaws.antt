@@ -27,8 +27,8 @@ use Rattle.unfolded.specs.Unfolded.{rowWords, leafOf, Unfolded}
 use Rattle.extending.specs.Extending.{choiceAt, meetsOver, differsOver, extendsIn}
 use Rattle.judging.specs.Judging.{rowAt, extendsAt}
 
-module _ {kind : ℕ} (x : Stored) (q : Question) (St : Stands kind x q) (rows constants table : List ℕ) (count : ℕ)
-    (U : Unfolded constantLevels rows constants count table) where
+module _ {kind : ℕ} (x : Stored) (q : Question) (St : Stands kind x q) (rows constants table : List ℕ) (named : ℕ)
+    (U : Unfolded constantLevels rows constants named table) where
   abbrev height : ℕ
   height = rowLevels constantLevels
 

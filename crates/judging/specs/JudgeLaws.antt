@@ -3,7 +3,7 @@ use mathlib.Core.Path.{_≡_, sym, ap, ap₂, _∙_, subst}
 use mathlib.Core.Bool.{Bool, true, false}
 use mathlib.Core.List.{List}
 use mathlib.Core.Logic.{_↔_}
-use Prim.Native.Nat.{ℕ, _+_, _-_, _*_, _≤_, _<_}
+use Prim.Native.Nat.{ℕ, _+_, _-_, _*_, _^_, _≤_, _<_}
 use native.Mathlib.Omega.{arith}
 use lib.Dec.{T}
 use lib.ListN.{length, getD, drop, length-drop}
@@ -23,6 +23,7 @@ use Rattle.beside.specs.Beside.{Readable}
 use Rattle.steps.specs.Steps.{storedBy}
 use Rattle.decide.specs.Decision.{sizesOf}
 use Rattle.decide.specs.ReadableLaws.{readable}
+use Rattle.decide.specs.NamedLaws.{named-lt, first-kept}
 use Rattle.unfolded.specs.Unfolded.{Unfolded, ZeroBytes}
 use Rattle.extending.specs.Extending.{extendsIn}
 use Rattle.asking.specs.Demand3.{rowShares}
@@ -40,8 +41,8 @@ use Rattle.judging.specs.declared.Judgement.the-variants.{Refused, Accep
 
 module _ (x : stored.Question) (clauses rows : List ℕ) (q : Question) (St : Stands (x .kind) (storedOf x clauses) q) where
   -- a table of the rows and the constants
-  pub laid : (table : List ℕ) → Unfolded constantLevels rows (x .constants) (x .defined) table → Laid q rows (x .constants) (x .defined) table
-  laid table U = record { constants-are = St .constants; unfolded = U }
+  pub laid : (table : List ℕ) → Unfolded constantLevels rows (x .constants) (x .named) table → Laid q rows (x .constants) (x .named) table
+  laid table U = record { constants-are = St .constants; kept = first-kept (storedOf x clauses) q St; unfolded = U }
 
   -- how many clauses the first system has
   count-first : length (q .first) ≡ getD (x .counts) 0 0 + getD (x .counts) 1 0
@@ -50,13 +51,13 @@ module _ (x : stored.Question) (clauses rows : List ℕ) (q : Question) (St : St
 
   -- what the second system's clauses are asked with
   module _ (sizes : Sizes) (sized : sizes ≡ sizesOf x) where
-    pub sizes-readable : Readable clauses (sizes .counts) (sizes .free) (sizes .own) × (sizes .defined ≤ 32)
-    sizes-readable = rw sized (readable (storedOf x clauses) q St, St .constantCounted)
+    pub sizes-readable : Readable clauses (sizes .counts) (sizes .free) (sizes .own) × (sizes .named < 2 ^ 32)
+    sizes-readable = rw sized (readable (storedOf x clauses) q St, named-lt (storedOf x clauses) q St)
 
-    pub extends-found : (table : List ℕ) → Unfolded constantLevels rows (x .constants) (x .defined) table → (b : Bool)
+    pub extends-found : (table : List ℕ) → Unfolded constantLevels rows (x .constants) (x .named) table → (b : Bool)
         → b ≡ extendsIn (storedBy sizes clauses (x .constants)) table → b ≡ extendsAt q rows
     extends-found table U b e =
-        e ∙ ap (λ z. extendsIn (storedBy z clauses (x .constants)) table) sized ∙ extends-same (storedOf x clauses) q St rows (x .constants) table (x .defined) U
+        e ∙ ap (λ z. extendsIn (storedBy z clauses (x .constants)) table) sized ∙ extends-same (storedOf x clauses) q St rows (x .constants) table (x .named) U
 
   module _ (F : WellFormed q) (k : ℕ) (found : k ≡ lowestBroken q rows) where
     pub rows-broken : k < getD (x .counts) 0 0 + getD (x .counts) 1 0 → Broken k ≡ judgementOf (judged q) rows

@@ -9,17 +9,22 @@ use lib.ListN.{length, take, length-take}
 use lib.Seq.{getD-take}
 use Rattle.shares.specs.BelowLaws.{every-ext}
 use Rattle.shares.specs.Blocks.{blockOf}
-use Rattle.systems.specs.Clauses.{variable, constant, Constants, Atom}
+use Rattle.systems.specs.Clauses.{Term, variable, constant, Constants, Atom}
 use Rattle.systems.specs.Questions.{Defined, InAtom}
 use Rattle.systems.specs.AtLeaves.{Part, of, always, LeafReading, joinsTo, apart, readAs, termAt, partAt, readingAt}
 use Rattle.systems.specs.AtomLaws.{InPart, InReading, in-reading}
 use Rattle.format.specs.Stored.{partByte, fourOf}
 use Rattle.words.specs.Clause.{testValue}
+use Rattle.decide.specs.StoredLaws.{Kept}
 use Rattle.rows.specs.Rows.{rowLevels, rowCount}
 use Rattle.unfolded.specs.Unfolded.{rowWords, leafOf, Unfolded, joinAt, joinEverywhere, PartsIn}
 use Rattle.judging.specs.Judging.{rowAt, everywhere}
 
-module _ (levels : ℕ) (rows constants : List ℕ) (count : ℕ) (table : List ℕ) (U : Unfolded levels rows constants count table) where
+-- a term names something defined and, if it is a constant, its bit is set among those that are named
+abbrev pub DefinedKept : ℕ → Constants → ℕ → Term → Type 0
+DefinedKept n cs named t = Defined n cs t × Kept named t
+
+module _ (levels : ℕ) (rows constants : List ℕ) (named : ℕ) (table : List ℕ) (U : Unfolded levels rows constants named table) (count : ℕ) where
   -- the constants as the model has them
   abbrev cs : Constants
   cs = record { levels = levels; numbers = take count constants }
@@ -27,28 +32,28 @@ module _ (levels : ℕ) (rows constants : List ℕ) (count : ℕ) (table : List 
   module _ (n : ℕ) (few : n ≤ rowCount) where
     module _ (i : ℕ) (l : i < 2 ^ rowLevels levels) where
       -- a part at a leaf
-      part-leaf : (p : Part) → InPart (Defined n cs) p
+      part-leaf : (p : Part) → InPart (DefinedKept n cs named) p
           → leafOf (rowWords levels) table (partByte p) i ≡ partAt levels cs (blockOf levels (rowLevels levels) i) (rowAt levels rows i) p
       unfolding partAt termAt
-      part-leaf (of (variable v)) d = U .variable v i (omega arith) l
+      part-leaf (of (variable v)) d = U .variable v i (omega (arith, d .0)) l
       part-leaf (of (constant c)) d =
-          let m : c < count = omega (arith, length-take count constants) in
+          let m : c < count = omega (arith, d .0, length-take count constants) in
           let same : levels - levels ≡ 0 = omega arith in
-          U .constant c i m l ∙ rw (getD-take count constants c 0 m, same, mul-one (blockOf levels (rowLevels levels) i)) refl
+          U .constant c i (d .1) l ∙ rw (getD-take count constants c 0 m, same, mul-one (blockOf levels (rowLevels levels) i)) refl
       part-leaf (always false) d = U .empty i l
       part-leaf (always true) d = U .full i l
 
       -- a join there
-      join-leaf : (t : LeafReading) → InReading (Defined n cs) t
+      join-leaf : (t : LeafReading) → InReading (DefinedKept n cs named) t
           → joinAt (rowWords levels) table (fourOf t) i ≡ readingAt levels cs (blockOf levels (rowLevels levels) i) (rowAt levels rows i) t
       unfolding testValue readingAt
       join-leaf (joinsTo u v w) d = rw (part-leaf u (d .0), part-leaf v (d .1), part-leaf w (d .2)) refl
       join-leaf (apart u v) d = rw (part-leaf u (d .0), part-leaf v (d .1)) refl
 
     -- at every leaf
-    pub join-everywhere : (a : Atom) → InAtom (Defined n cs) a → joinEverywhere levels table (fourOf (readAs a)) ≡ everywhere cs rows a
+    pub join-everywhere : (a : Atom) → InAtom (DefinedKept n cs named) a → joinEverywhere levels table (fourOf (readAs a)) ≡ everywhere cs rows a
     unfolding everywhere
-    join-everywhere a d = every-ext (2 ^ rowLevels levels) _ _ (λ i l. join-leaf i l (readAs a) (in-reading (Defined n cs) a d))
+    join-everywhere a d = every-ext (2 ^ rowLevels levels) _ _ (λ i l. join-leaf i l (readAs a) (in-reading (DefinedKept n cs named) a d))
 
 -- ---- the parts of an atom have a place in the table
 

@@ -6,15 +6,16 @@ use Prim.Native.Nat.{ℕ, _+_, _<_}
 use lib.ListN.{length, take}
 use Rattle.shares.specs.Constant.{constantLevels}
 use Rattle.systems.specs.Clauses.{System}
-use Rattle.systems.specs.Questions.{Question}
+use Rattle.systems.specs.Questions.{Question, InSystem}
 use Rattle.format.specs.declared.Section.{Section}
 use Rattle.format.specs.declared.Section.the-variants.{FirstPositive, FirstDisequation, SecondPositive, SecondDisequation}
 use Rattle.format.specs.declared.Command.{Command}
 use Rattle.format.specs.Format.{accepted, isSecond, read}
-use Rattle.format.specs.Stored.{joinFor}
+use Rattle.format.specs.Stored.{joinFor, definedBy}
+use Rattle.decide.specs.StoredLaws.{Kept}
 use Rattle.encoding.specs.Order.{commandsFrom, firstClauses}
 use Rattle.unfolded.specs.Unfolded.{Unfolded, joinEverywhere, PartsIn}
-use Rattle.judging.specs.Judging.{lowestBroken}
+use Rattle.judging.specs.Judging.{clauseMet, clauseOf, lowestBroken}
 
 -- a clause of a section is broken, where its atom holds at every leaf or not: only those of the first system count
 abbrev pub breaksIn : Section → Bool → Bool
@@ -44,14 +45,15 @@ saysFirst Command.Head = false
 saysFirst (Command.Constant x) = false
 saysFirst (Command.Clause σ t a b c) = not (isSecond σ)
 
--- a table has the rows, and the constants of the question q, which are the first `count` of these
-pub record Laid (q : Question) (rows constants : List ℕ) (count : ℕ) (table : List ℕ) : Type 0 where
-  pub constants-are : q .constants ≡ record { levels = constantLevels; numbers = take count constants }
-  pub unfolded : Unfolded constantLevels rows constants count table
+-- a table has the rows, and those of the constants of the question q that some clause names
+pub record Laid (q : Question) (rows constants : List ℕ) (named : ℕ) (table : List ℕ) : Type 0 where
+  pub constants-are : q .constants ≡ record { levels = constantLevels; numbers = take (definedBy q) constants }
+  pub kept : InSystem (Kept named) (q .first)
+  pub unfolded : Unfolded constantLevels rows constants named table
 
 -- n is the lowest clause of the first system of a question in bytes that the rows of a table break, or their count
 abbrev pub Lowest : List ℕ → List ℕ → ℕ → Type 0
-Lowest s table n = (q : Question) (rows constants : List ℕ) (count : ℕ) → read s ≡ accepted q → Laid q rows constants count table → n ≡ lowestBroken q rows
+Lowest s table n = (q : Question) (rows constants : List ℕ) (named : ℕ) → read s ≡ accepted q → Laid q rows constants named table → n ≡ lowestBroken q rows
 
 -- at an offset of the question q, n clauses of its first system have been met: the commands from there on say the others
 pub record Walk (s : List ℕ) (q : Question) (at n : ℕ) : Type 0 where
@@ -60,3 +62,12 @@ pub record Walk (s : List ℕ) (q : Question) (at n : ℕ) : Type 0 where
   pub met : System
   pub count : length met ≡ n
   pub rest : q .first ≡ met ++ firstClauses (commandsFrom bound s at)
+
+-- the first n clauses of the first system hold
+abbrev pub HeldBelow : Question → List ℕ → ℕ → Type 0
+HeldBelow q rows n = (k : ℕ) → k < n → not (clauseMet (q .constants) rows (clauseOf (q .first) k)) ≡ false
+
+-- the commands before an offset have been gone over, and the n clauses of the first system among them hold
+abbrev pub Gone : List ℕ → List ℕ → ℕ → ℕ → Type 0
+Gone s table at n =
+    (q : Question) → read s ≡ accepted q → Walk s q at n × ((rows constants : List ℕ) (named : ℕ) → Laid q rows constants named table → HeldBelow q rows n)

@@ -1,18 +1,19 @@
 -- Going over the commands of an accepted question meets the clauses of its first system one by one. Assumes nothing.
 use mathlib.Core.Path.{_≡_, refl, sym, ap, _∙_, subst}
-use mathlib.Core.Bool.{true, false, not, Bool·not-not}
+use mathlib.Core.Bool.{Bool, true, false, not, cond, Bool·not-not}
 use mathlib.Core.List.{List, [], _∷_, _++_, append-nil, append-assoc}
 use mathlib.Core.Logic.{_⊎_, inl, inr}
-use Prim.Native.Nat.{ℕ, zero, suc, _+_, _-_, _≤_, _<_}
+use Prim.Native.Nat.{ℕ, zero, suc, _+_, _-_, _*_, _≤_, _<_}
 use native.Mathlib.Nat.{eq-or-lt-of-le, le-of-suc-le-suc, not-suc-le-zero}
 use native.Mathlib.Omega.{arith}
 use borrow.Author.Tests.{lt-ltb, le-ltb}
 use lib.ListN.{length, getD, length-append}
 use lib.Seq.{getD-at}
-use Rattle.shares.specs.Constant.{constantLevels}
+use Rattle.shares.specs.Constant.{constantLevels, bytesAt}
 use Rattle.shares.specs.BelowLaws.{first-is, first-none}
-use Rattle.systems.specs.Clauses.{Atom, Clause, positive, negated, Constants}
-use Rattle.systems.specs.Questions.{Question, Defined, InAtom, WellFormed}
+use Rattle.systems.specs.Clauses.{Term, Atom, Clause, positive, negated, Constants}
+use Rattle.systems.specs.Questions.{Question, Defined, InAtom, InSystem, WellFormed}
+use Rattle.systems.specs.SystemLaws.{in-system}
 use Rattle.format.specs.declared.Section.{Section}
 use Rattle.format.specs.declared.Section.the-variants.{FirstPositive, FirstDisequation, SecondPositive, SecondDisequation}
 use Rattle.format.specs.declared.Shape.{Shape}
@@ -22,14 +23,17 @@ use Rattle.format.specs.declared.Step.the-variants.{Take, Refused}
 use Rattle.format.specs.Format.{mostPositive, mostDisequations, accepted, read, entryOf, operands, commandOf, wholeAt, readAt, atomOf}
 use Rattle.format.specs.SectionLaws.{both-counts}
 use Rattle.format.specs.FormatLaws.{size-some, Whole, read-whole, Limited, accepted-formed, accepted-limited}
+use Rattle.format.specs.Stored.{definedBy, constantSize, constantAt, placeOf, leading}
 use Rattle.format.specs.Keeping.{isEnd}
+use Rattle.format.specs.LeadLaws.{constant-read}
+use Rattle.decide.specs.StoredLaws.{Kept}
 use Rattle.encoding.specs.Order.{readOn, commandsFrom, firstSaid, firstClause, firstClauses}
 use Rattle.encoding.specs.OrderLaws.{in-order}
 use Rattle.rows.specs.Rows.{rowCount}
 use Rattle.judging.specs.Judging.{everywhere, clauseMet, noClause, clauseOf, lowestBroken}
-use Rattle.judging.specs.Walk.{breaksIn, CommandFits, commandBreaks, saysFirst, Laid, Lowest, Walk}
+use Rattle.judging.specs.Walk.{breaksIn, CommandFits, commandBreaks, saysFirst, Laid, Lowest, Walk, HeldBelow, Gone}
 use Rattle.judging.specs.ModelLaws.{InClause, in-clause}
-use Rattle.judging.specs.TableLaws.{join-everywhere, parts-in}
+use Rattle.judging.specs.TableLaws.{DefinedKept, join-everywhere, parts-in}
 
 -- ---- what stands at an offset, by its byte and the bytes left
 
@@ -173,24 +177,24 @@ module _ (s : List ℕ) (q : Question) where
 
 -- ---- a clause and the rows of a table
 
--- the atom that a command's clause says or denies is defined
-abbrev InCommand : ℕ → Constants → Command → Type 0
-InCommand n cs Command.End = Unit {0}
-InCommand n cs Command.Head = Unit {0}
-InCommand n cs (Command.Constant x) = Unit {0}
-InCommand n cs (Command.Clause σ t a b c) = InAtom (Defined n cs) (atomOf t a b c)
+-- P holds of every term of the atom that a command's clause says or denies
+abbrev InCommand : (Term → Type 0) → Command → Type 0
+InCommand P Command.End = Unit {0}
+InCommand P Command.Head = Unit {0}
+InCommand P (Command.Constant x) = Unit {0}
+InCommand P (Command.Clause σ t a b c) = InAtom P (atomOf t a b c)
 
-in-command : (n : ℕ) (cs : Constants) (x : Clause) → InClause (Defined n cs) x → (c : Command) → firstClause c ≡ x ∷ [] → InCommand n cs c
-in-command n cs x d Command.End e = tt
-in-command n cs x d Command.Head e = tt
-in-command n cs x d (Command.Constant y) e = tt
-in-command n cs x d (Command.Clause FirstPositive t a b c) e = let f : x ≡ positive (atomOf t a b c) = cc in rw f at d
-in-command n cs x d (Command.Clause FirstDisequation t a b c) e = let f : x ≡ negated (atomOf t a b c) = cc in rw f at d
-in-command n cs x d (Command.Clause SecondPositive t a b c) e = let z : _≡_ {A = ℕ} 0 1 = cc in absurd (omega arith)
-in-command n cs x d (Command.Clause SecondDisequation t a b c) e = let z : _≡_ {A = ℕ} 0 1 = cc in absurd (omega arith)
+in-command : (P : Term → Type 0) (x : Clause) → InClause P x → (c : Command) → firstClause c ≡ x ∷ [] → InCommand P c
+in-command P x d Command.End e = tt
+in-command P x d Command.Head e = tt
+in-command P x d (Command.Constant y) e = tt
+in-command P x d (Command.Clause FirstPositive t a b c) e = let f : x ≡ positive (atomOf t a b c) = cc in rw f at d
+in-command P x d (Command.Clause FirstDisequation t a b c) e = let f : x ≡ negated (atomOf t a b c) = cc in rw f at d
+in-command P x d (Command.Clause SecondPositive t a b c) e = let z : _≡_ {A = ℕ} 0 1 = cc in absurd (omega arith)
+in-command P x d (Command.Clause SecondDisequation t a b c) e = let z : _≡_ {A = ℕ} 0 1 = cc in absurd (omega arith)
 
 -- its parts have a place in the table
-command-fits : (n : ℕ) (cs : Constants) → n ≤ rowCount → length (cs .numbers) ≤ 32 → (c : Command) → InCommand n cs c → CommandFits c
+command-fits : (n : ℕ) (cs : Constants) → n ≤ rowCount → length (cs .numbers) ≤ 32 → (c : Command) → InCommand (Defined n cs) c → CommandFits c
 command-fits n cs few some Command.End d = tt
 command-fits n cs few some Command.Head d = tt
 command-fits n cs few some (Command.Constant x) d = tt
@@ -211,37 +215,34 @@ module _ (s : List ℕ) (q : Question) (e : read s ≡ accepted q) where
   L = accepted-limited s q e
 
   module _ (n : ℕ) (c : Command) (l : n < length (q .first)) (f : firstClause c ≡ clauseOf (q .first) n ∷ []) where
-    defined : InCommand (q .free) (q .constants) c
-    defined =
-        in-command (q .free) (q .constants) (clauseOf (q .first) n)
-        (in-clause (Defined (q .free) (q .constants)) (q .first) noClause (F .first) n l) c f
+    -- what holds of every term of the first system holds of those of its clause
+    its-terms : (P : Term → Type 0) → InSystem P (q .first) → InCommand P c
+    its-terms P g = in-command P (clauseOf (q .first) n) (in-clause P (q .first) noClause g n l) c f
 
     clause-fits : CommandFits c
-    clause-fits = command-fits (q .free) (q .constants) (omega (arith, L .variables)) (L .constants) c defined
+    clause-fits = command-fits (q .free) (q .constants) (omega (arith, L .variables)) (L .constants) c (its-terms (Defined (q .free) (q .constants)) (F .first))
 
-    clause-breaks : (rows constants : List ℕ) (count : ℕ) (table : List ℕ) → Laid q rows constants count table
+    clause-breaks : (rows constants : List ℕ) (named : ℕ) (table : List ℕ) → Laid q rows constants named table
         → commandBreaks constantLevels table c ≡ not (clauseMet (q .constants) rows (clauseOf (q .first) n))
-    clause-breaks rows constants count table laid = go c f defined
+    clause-breaks rows constants named table laid =
+        go c f (its-terms _ (in-system (Defined (q .free) (q .constants)) (Kept named) (DefinedKept (q .free) (q .constants) named) (λ t d k. (d, k)) (q .first) (F .first) (laid .kept)))
       where
         few : q .free ≤ rowCount
         few = omega (arith, L .variables)
 
-        go : (c : Command) → firstClause c ≡ clauseOf (q .first) n ∷ [] → InCommand (q .free) (q .constants) c
+        go : (c : Command) → firstClause c ≡ clauseOf (q .first) n ∷ [] → InCommand (DefinedKept (q .free) (q .constants) named) c
             → commandBreaks constantLevels table c ≡ not (clauseMet (q .constants) rows (clauseOf (q .first) n))
         go Command.End g d = let z : _≡_ {A = ℕ} 0 1 = cc in absurd (omega arith)
         go Command.Head g d = let z : _≡_ {A = ℕ} 0 1 = cc in absurd (omega arith)
         go (Command.Constant x) g d = let z : _≡_ {A = ℕ} 0 1 = cc in absurd (omega arith)
         go (Command.Clause σ t a b c) g d =
             ap (breaksIn σ)
-            (join-everywhere constantLevels rows constants count table (laid .unfolded) (q .free) few (atomOf t a b c) (rw (laid .constants-are) at d)
+            (join-everywhere constantLevels rows constants named table (laid .unfolded) (definedBy q) (q .free) few (atomOf t a b c)
+            (subst (λ cs. InAtom (DefinedKept (q .free) cs named) (atomOf t a b c)) (laid .constants-are) d)
             ∙ ap (λ cs. everywhere cs rows (atomOf t a b c)) (sym (laid .constants-are)))
             ∙ breaks-same (q .constants) rows (clauseOf (q .first) n) σ (atomOf t a b c) g
 
 -- ---- the lowest clause that is broken
-
--- the first n clauses hold
-abbrev HeldBelow : Question → List ℕ → ℕ → Type 0
-HeldBelow q rows n = (k : ℕ) → k < n → not (clauseMet (q .constants) rows (clauseOf (q .first) k)) ≡ false
 
 lowest-there : (q : Question) (rows : List ℕ) (n : ℕ) → HeldBelow q rows n → n < length (q .first)
     → not (clauseMet (q .constants) rows (clauseOf (q .first) n)) ≡ true → lowestBroken q rows ≡ n
@@ -260,44 +261,59 @@ held-more q rows n held e k l = go (eq-or-lt-of-le (le-of-suc-le-suc (omega arit
 -- ---- a turn of going over the commands
 
 module _ (s table : List ℕ) where
-  -- so far: the clauses of the first system that were met hold
-  abbrev pub Gone : ℕ → ℕ → Type 0
-  Gone at n = (q : Question) → read s ≡ accepted q → Walk s q at n × ((rows constants : List ℕ) (count : ℕ) → Laid q rows constants count table → HeldBelow q rows n)
-
-  pub gone-start : Gone 4 0
+  pub gone-start : Gone s table 4 0
   gone-start q e = (walk-start s q e, λ _ _ _ _ k l. absurd (not-suc-le-zero l))
 
-  module _ {at n : ℕ} (g : Gone at n) where
+  module _ {at n : ℕ} (g : Gone s table at n) where
     pub lowest-refused : (m : ℕ) → readAt s at ≡ Refused m → Lowest s table n
-    lowest-refused m r q rows constants count e laid = sym (lowest-none q rows n (g q e .1 rows constants count laid) (walk-none s q (g q e .0) m r))
+    lowest-refused m r q rows constants named e laid = sym (lowest-none q rows n (g q e .1 rows constants named laid) (walk-none s q (g q e .0) m r))
 
     module _ {c : Command} {next : ℕ} (r : readAt s at ≡ Take c next) where
       pub lowest-end : isEnd c ≡ true → Lowest s table n
-      lowest-end d q rows constants count e laid = sym (lowest-none q rows n (g q e .1 rows constants count laid) (walk-end s q (g q e .0) c next r d))
+      lowest-end d q rows constants named e laid = sym (lowest-none q rows n (g q e .1 rows constants named laid) (walk-end s q (g q e .0) c next r d))
 
       module _ (d : isEnd c ≡ false) where
-        pub gone-other : saysFirst c ≡ false → Gone next n
+        pub gone-other : saysFirst c ≡ false → Gone s table next n
         gone-other f q e = (walk-other s q (g q e .0) c next r d f, g q e .1)
 
         module _ (f : saysFirst c ≡ true) where
           pub gone-fits : (q : Question) → read s ≡ accepted q → CommandFits c × (n < length (q .first))
           gone-fits q e = let w = walk-clause s q (g q e .0) c next r d f in (clause-fits s q e n c (w .0) (w .1), w .0)
 
-          breaks : (q : Question) (rows constants : List ℕ) (count : ℕ) → read s ≡ accepted q → Laid q rows constants count table
+          breaks : (q : Question) (rows constants : List ℕ) (named : ℕ) → read s ≡ accepted q → Laid q rows constants named table
               → commandBreaks constantLevels table c ≡ not (clauseMet (q .constants) rows (clauseOf (q .first) n))
-          breaks q rows constants count e laid =
+          breaks q rows constants named e laid =
               let w = walk-clause s q (g q e .0) c next r d f in
-              clause-breaks s q e n c (w .0) (w .1) rows constants count table laid
+              clause-breaks s q e n c (w .0) (w .1) rows constants named table laid
 
           pub lowest-broken : commandBreaks constantLevels table c ≡ true → Lowest s table n
-          lowest-broken b q rows constants count e laid =
-              sym (lowest-there q rows n (g q e .1 rows constants count laid) (gone-fits q e .1) (sym (breaks q rows constants count e laid) ∙ b))
+          lowest-broken b q rows constants named e laid =
+              sym (lowest-there q rows n (g q e .1 rows constants named laid) (gone-fits q e .1) (sym (breaks q rows constants named e laid) ∙ b))
 
-          pub gone-first : commandBreaks constantLevels table c ≡ false → Gone next (n + 1)
+          pub gone-first : commandBreaks constantLevels table c ≡ false → Gone s table next (n + 1)
           gone-first b q e = (
             walk-first s q (g q e .0) c next r d f,
-            λ rows constants count laid. held-more q rows n (g q e .1 rows constants count laid) (sym (breaks q rows constants count e laid) ∙ b),
+            λ rows constants named laid. held-more q rows n (g q e .1 rows constants named laid) (sym (breaks q rows constants named e laid) ∙ b),
           )
+
+-- a constant says nothing to the first system
+pub gone-constant : (s table : List ℕ) {at n : ℕ} → Gone s table at n → constantAt s at ≡ true → Gone s table (at + constantSize) n
+gone-constant s table {at} {n} g e =
+    let next : at + 1 + bytesAt constantLevels ≡ at + constantSize = omega arith in
+    subst (λ k. Gone s table k n) next (gone-other s table g (constant-read s at e) refl refl)
+
+-- so the constants that stand first are passed over
+pub gone-led : (s table : List ℕ) (k n : ℕ) → Gone s table (placeOf n) 0 → Gone s table (placeOf (leading k s n)) 0
+unfolding leading
+gone-led s table zero n g = g
+gone-led s table (suc k) n g = pick (constantAt s (placeOf n)) refl (gone-led s table k (n + 1))
+  where
+    pick : (b : Bool) → constantAt s (placeOf n) ≡ b → (Gone s table (placeOf (n + 1)) 0 → Gone s table (placeOf (leading k s (n + 1))) 0)
+        → Gone s table (placeOf (cond b (leading k s (n + 1)) n)) 0
+    pick true e f =
+        let next : placeOf n + constantSize ≡ placeOf (n + 1) = omega arith in
+        f (subst (λ k. Gone s table k 0) next (gone-constant s table g e))
+    pick false e f = g
 
 -- the first system of an accepted question has so few clauses
 pub first-few : (s : List ℕ) (q : Question) → read s ≡ accepted q → length (q .first) ≤ mostPositive + mostDisequations

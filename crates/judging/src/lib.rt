@@ -1,5 +1,6 @@
 // Judging: whether the rows that someone hands over solve a question's first system and, for an entailment, do not extend to the second.
 use basics::CLAUSE_BYTES;
+use commands::CONSTANT_SIZE;
 use commands::table;
 use faults::sections;
 use format::Entry;
@@ -17,8 +18,8 @@ ghost use Prim.Native.Nat.{ℕ, _+_, _≤_};
 ghost use lib.ListN.{length};
 ghost use Rattle.shares.specs.Constant.{constantLevels};
 ghost use Rattle.systems.specs.Questions as model;
-ghost use Rattle.format.specs.Format.{termCount, operands, termByte, commandOf, accepted, read};
-ghost use Rattle.format.specs.Stored.{joinFor, storedOf, Stands};
+ghost use Rattle.format.specs.Format.{mostConstants, termCount, operands, termByte, commandOf, accepted, read};
+ghost use Rattle.format.specs.Stored.{joinFor, storedOf, Stands, placeOf, leading};
 ghost use Rattle.format.specs.Keeping.{isEnd};
 ghost use Rattle.rows.specs.Rows.{answerBytes};
 ghost use Rattle.asking.specs.Demand3.{rowShares};
@@ -101,30 +102,30 @@ fn is_broken(leaves: &[u64; TABLE_WORDS], bytes: &[u8], i: usize, shape: Shape) 
     }
 }
 
-// The lowest clause of the first system that the rows of a table break, in the order of the question, or their count. The question is gone over once more, for
-// what was stored of it is apart by sections.
-fn lowest_broken(bytes: &[u8], leaves: &[u64; TABLE_WORDS]) -> usize
-    requires { ⌜ ((q : model.Question) × (read (now bytes) ≡ accepted q)) ⌝ }
+// The lowest clause of the first system that the rows of a table break, in the order of the question, or their count. The question is gone over once more from
+// behind its constants, for what was stored of it is apart by sections.
+fn lowest_broken(bytes: &[u8], from: usize, leaves: &[u64; TABLE_WORDS]) -> usize
+    requires { ⌜ ((q : model.Question) × (read (now bytes) ≡ accepted q)) × (from ≡ placeOf (leading mostConstants (now bytes) 0)) ⌝ }
     ensures { λ r. ⌜ Lowest (now (bytes .entry)) (now (leaves .entry)) r ⌝ }
 {
     let mut count: usize = 0;
-    let mut at: usize = 4;
+    let mut at = from;
     while at < bytes.len() {
         let entry = table::entry_of(bytes[at]);
         let Entry::Known(shape) = entry else {
             return count;
         };
         let width = table::operand_count(shape);
-        let from = at + 1;
-        if bytes.len() - from < width {
+        let first = at + 1;
+        if bytes.len() - first < width {
             return count;
         }
         if is_end(shape) {
             return count;
         }
-        let next = from + width;
+        let next = first + width;
         if is_first(shape) {
-            if is_broken(leaves, bytes, from, shape) {
+            if is_broken(leaves, bytes, first, shape) {
                 return count;
             }
             count += 1;
@@ -143,11 +144,12 @@ fn judge_rows(
 ) -> Judgement
     requires { ⌜ length (now rows) ≡ answerBytes constantLevels ⌝ }
     requires { ⌜ ((q : model.Question) × (read (now bytes) ≡ accepted q) × Stands (question .kind) (storedOf question (now clauses)) q) ⌝ }
+    requires { ⌜ question .defined ≡ leading mostConstants (now bytes) 0 ⌝ }
     ensures { λ r. ⌜ ((q : model.Question) → read (now (bytes .entry)) ≡ accepted q → Stands (question .kind) (storedOf question (now (clauses .entry))) q → r ≡ judgementOf (judged q) (now (rows .entry))) ⌝ }
 {
     let mut leaves = [0u64; TABLE_WORDS];
-    unfolded::unfold(rows, &question.constants, question.defined, &mut leaves);
-    let k = lowest_broken(bytes, &leaves);
+    unfolded::unfold(rows, &question.constants, question.named, &mut leaves);
+    let k = lowest_broken(bytes, 4 + CONSTANT_SIZE * question.defined, &leaves);
     if k < question.counts[0] + question.counts[1] {
         return Judgement::Broken(k);
     }

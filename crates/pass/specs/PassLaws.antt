@@ -28,14 +28,14 @@ use Rattle.steps.specs.declared.Search.{Search}
 use Rattle.steps.specs.declared.Search.the-variants.{Missed}
 use Rattle.steps.specs.declared.Seen.{Seen}
 
--- only the values of the constants that are defined are set
-pub values-within : (levels : ℕ) (constants : List ℕ) (defined h b : ℕ) → Within defined (valuesAt levels constants defined h b)
+-- only the values of the constants that are named are set
+pub values-within : (levels : ℕ) (constants : List ℕ) (named h b : ℕ) → Within named (valuesAt levels constants named h b)
 unfolding valuesAt
-values-within levels constants defined h b i l = go (decLt i 64)
+values-within levels constants named h b i e = go (decLt i 64)
   where
-    go : Dec (i < 64) → bit (valuesAt levels constants defined h b) i ≡ false
-    go (yes m) = bit-number 64 _ i m ∙ rw (le-ltb i defined l)
-    go (no m) = bit-beyond 64 (valuesAt levels constants defined h b) i (number-lt 64 _) (omega arith)
+    go : Dec (i < 64) → bit (valuesAt levels constants named h b) i ≡ false
+    go (yes m) = bit-number 64 _ i m ∙ rw e
+    go (no m) = bit-beyond 64 (valuesAt levels constants named h b) i (number-lt 64 _) (omega arith)
 
 -- one key more
 pub keys-more : (f : ℕ → ℕ) (keys : List ℕ) (b x : ℕ) → b < length keys → x ≡ f b → ((i : ℕ) → i < b → getD keys i 0 ≡ f i)

@@ -6,7 +6,7 @@ use steps::Seen;
 use steps::Spot;
 ghost use mathlib.Core.Path.{_≡_};
 ghost use mathlib.Core.List.{List};
-ghost use Prim.Native.Nat.{ℕ, _<_, _≤_};
+ghost use Prim.Native.Nat.{ℕ, _^_, _<_, _≤_};
 ghost use lib.ListN.{length, getD};
 ghost use Rattle.words.specs.Table.{Terms, Within};
 ghost use Rattle.beside.specs.Beside.{Readable};
@@ -92,8 +92,8 @@ fn visit(
     rows: &mut [u64; 96],
 ) -> Seen
     requires { ⌜ Readable (now clauses) (sizes .counts) (sizes .free) (sizes .own) ⌝ }
-    requires { ⌜ Named (sizes .counts) (leaf .search) × (leaf .number < 32) × (sizes .defined ≤ 32) × Within (sizes .defined) (leaf .values) × PlacedWithin (sizes .free) (sizes .own) (sizes .defined) (now terms) ⌝ }
-    ensures { λ r. ⌜ PlacedWithin (sizes .free) (sizes .own) (sizes .defined) (now (terms .exit)) ⌝ }
+    requires { ⌜ Named (sizes .counts) (leaf .search) × (leaf .number < 32) × (sizes .named < 2 ^ 32) × Within (sizes .named) (leaf .values) × PlacedWithin (sizes .free) (sizes .own) (sizes .named) (now terms) ⌝ }
+    ensures { λ r. ⌜ PlacedWithin (sizes .free) (sizes .own) (sizes .named) (now (terms .exit)) ⌝ }
     ensures { λ r. ⌜ ((h : ℕ) (constants : List ℕ) → leaf .values ≡ leafValues (storedBy sizes (now (clauses .entry)) constants) h (leaf .number) → (leaf .like < leaf .number → leafValues (storedBy sizes (now (clauses .entry)) constants) h (leaf .like) ≡ leaf .values) → After (storedBy sizes (now (clauses .entry)) constants) h (leaf .search) (leaf .number) seen (now (firsts .entry)) (now (rows .entry)) → Visited (storedBy sizes (now (clauses .entry)) constants) h (leaf .search) (leaf .number) r (now (firsts .exit)) (now (rows .exit))) ⌝ }
 {
     let number = leaf.number;
@@ -101,7 +101,7 @@ fn visit(
     if like < number {
         return copy_leaf(number, like, seen, firsts);
     }
-    words::set_constants(leaf.values, sizes.defined, terms);
+    words::set_constants(leaf.values, sizes.named, terms);
     pass_leaf(terms, clauses, sizes, leaf, seen, firsts, rows)
 }
 
@@ -130,7 +130,7 @@ pub fn pass_leaves(
     rows: &mut [u64; 96],
 ) -> Seen
     requires { ⌜ Readable (now clauses) (sizes .counts) (sizes .free) (sizes .own) ⌝ }
-    requires { ⌜ Named (sizes .counts) search × (sizes .defined ≤ 32) × (sizes .height ≤ 5) × ((k : ℕ) → getD (now rows) k 0 ≡ 0) ⌝ }
+    requires { ⌜ Named (sizes .counts) search × (sizes .named < 2 ^ 32) × (sizes .height ≤ 5) × ((k : ℕ) → getD (now rows) k 0 ≡ 0) ⌝ }
     ensures { λ r. ⌜ Passed (storedBy sizes (now (clauses .entry)) (now (constants .entry))) (sizes .height) search r (now (firsts .exit)) (now (rows .exit)) ⌝ }
 {
     let mut terms = [0u64; 64];
@@ -144,7 +144,7 @@ pub fn pass_leaves(
     };
     let mut b: usize = 0;
     while b < leaves {
-        let values = words::values_at(constants, sizes.defined, sizes.height, b);
+        let values = words::values_at(constants, sizes.named, sizes.height, b);
         let like = first_like(&keys, values, b);
         keys[b] = values;
         let leaf = Leaf {

@@ -1,4 +1,4 @@
-// A command that has no fault is kept: a constant, or a clause in its section.
+// A clause that has no fault is kept, in its section, and with it which constants it names.
 use commands::table;
 use faults::sections;
 use format::Command;
@@ -7,28 +7,7 @@ ghost use mathlib.Core.Path.{_≡_};
 ghost use Prim.Native.Nat.{_+_, _≤_};
 ghost use lib.ListN.{length};
 ghost use Rattle.format.specs.Stored.{clauseBytes, clauseWritten};
-ghost use Rattle.format.specs.Keeping.{keptConstants, constantCount, keptClauses, clauseCounts, Slot};
-
-pub fn keep_constant(constants: &mut [u64], count: usize, command: Command) -> usize
-    requires { ⌜ constantCount count command ≤ length (now constants) ⌝ }
-    ensures { λ r. ⌜ (now (constants .exit) ≡ keptConstants (now (constants .entry)) count command) × (r ≡ constantCount count command) ⌝ }
-{
-    match command {
-        Command::End => count,
-        Command::Head => count,
-        Command::Constant(x) => {
-            constants[count] = x;
-            count + 1
-        }
-        Command::Clause {
-            section: _,
-            test: _,
-            a: _,
-            b: _,
-            c: _,
-        } => count,
-    }
-}
+ghost use Rattle.format.specs.Keeping.{keptClauses, constantsIn, keptNames, PartsSmall, SmallIn, clauseCounts, Slot};
 
 fn store(clauses: &mut [u8], i: usize, join: LeafJoin)
     requires { ⌜ i + 4 ≤ length (now clauses) ⌝ }
@@ -40,15 +19,26 @@ fn store(clauses: &mut [u8], i: usize, join: LeafJoin)
     clauses[i + 3] = join.sum;
 }
 
-pub fn keep_clause(clauses: &mut [u8], counts: &[usize; 4], command: Command)
+// The constants among the parts of a join, constant i at bit i. The other parts have numbers below 32, which the shift drops.
+fn constants_in(join: LeafJoin) -> u64
+    requires { ⌜ PartsSmall join ⌝ }
+    ensures { λ r. ⌜ r ≡ constantsIn join ⌝ }
+{
+    let a: u64 = 1 << basics::index(join.first);
+    let b: u64 = 1 << basics::index(join.second);
+    let c: u64 = 1 << basics::index(join.sum);
+    (a | b | c) >> 32
+}
+
+pub fn keep_clause(clauses: &mut [u8], counts: &[usize; 4], named: u64, command: Command) -> u64
     requires { ⌜ length (now clauses) ≡ clauseBytes ⌝ }
-    requires { ⌜ Slot (now counts) command ⌝ }
-    ensures { λ _. ⌜ now (clauses .exit) ≡ keptClauses (now (clauses .entry)) (now (counts .entry)) command ⌝ }
+    requires { ⌜ Slot (now counts) command × SmallIn command ⌝ }
+    ensures { λ r. ⌜ (now (clauses .exit) ≡ keptClauses (now (clauses .entry)) (now (counts .entry)) command) × (r ≡ keptNames named command) ⌝ }
 {
     match command {
-        Command::End => {}
-        Command::Head => {}
-        Command::Constant(_) => {}
+        Command::End => named,
+        Command::Head => named,
+        Command::Constant(_) => named,
         Command::Clause {
             section,
             test,
@@ -57,7 +47,9 @@ pub fn keep_clause(clauses: &mut [u8], counts: &[usize; 4], command: Command)
             c,
         } => {
             let i = sections::section_start(section) + 4 * faults::section_count(counts, section);
-            store(clauses, i, table::join_for(test, a, b, c))
+            let join = table::join_for(test, a, b, c);
+            store(clauses, i, join);
+            named | constants_in(join)
         }
     }
 }

@@ -75,7 +75,7 @@ pub fn solve(
     firsts: &mut [u64; 128],
 ) -> bool
     requires { ⌜ Readable (now clauses) (sizes .counts) (sizes .free) (sizes .own) ⌝ }
-    requires { ⌜ Named (sizes .counts) search × (sizes .defined ≤ 32) × (sizes .height ≤ 5) × (extraOf search ≡ 0) ⌝ }
+    requires { ⌜ Named (sizes .counts) search × (sizes .named < 2 ^ 32) × (sizes .height ≤ 5) × (extraOf search ≡ 0) ⌝ }
     ensures { λ r. ⌜ SolvedAs (storedBy sizes (now (clauses .entry)) (now (constants .entry))) (sizes .height) search r (now (firsts .exit)) ⌝ }
 {
     let mut rows = [0u64; 96];
@@ -92,7 +92,7 @@ pub fn survey_leaves(
     firsts: &mut [u64; 128],
 ) -> Survey
     requires { ⌜ Readable (now clauses) (sizes .counts) (sizes .free) (sizes .own) ⌝ }
-    requires { ⌜ (sizes .defined ≤ 32) × (sizes .height ≤ 5) ⌝ }
+    requires { ⌜ (sizes .named < 2 ^ 32) × (sizes .height ≤ 5) ⌝ }
     ensures { λ r. ⌜ SurveyedAs (storedBy sizes (now (clauses .entry)) (now (constants .entry))) (sizes .height) r (now (firsts .exit)) ⌝ }
 {
     let second_count = sizes.counts[3];

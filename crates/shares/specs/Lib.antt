@@ -13,6 +13,7 @@ pub mod TreeLaws
 pub mod JoinLaws
 pub mod BitLaws
 pub mod BitParts
+pub mod Shifts
 pub mod ConstantLaws
 pub mod Unlike
 pub mod UnlikeLaws

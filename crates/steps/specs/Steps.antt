@@ -23,7 +23,7 @@ use Rattle.steps.specs.declared.Allowed.{Allowed}
 
 -- what is stored of a question, from its numbers, its clauses' bytes and its constants
 abbrev pub storedBy : Sizes → List ℕ → List ℕ → Stored
-storedBy sizes clauses constants = stored clauses (sizes .counts) constants (sizes .defined) (sizes .free) (sizes .own)
+storedBy sizes clauses constants = stored clauses (sizes .counts) constants (sizes .named) (sizes .free) (sizes .own)
 
 -- the table of terms is at word w, for some values of the constants
 abbrev pub Tabled : ℕ → ℕ → ℕ → List ℕ → Type 0
@@ -33,9 +33,9 @@ Tabled n m w terms = (values : ℕ) × Terms n m values w terms
 abbrev pub Placed : ℕ → ℕ → List ℕ → Type 0
 Placed n m terms = (values v : ℕ) × Terms n m values v terms
 
--- where only the first `defined` constants are set
+-- where only constants that are named are set
 abbrev pub PlacedWithin : ℕ → ℕ → ℕ → List ℕ → Type 0
-PlacedWithin n m defined terms = (values v : ℕ) × Within defined values × Terms n m values v terms
+PlacedWithin n m named terms = (values v : ℕ) × Within named values × Terms n m values v terms
 
 -- ---- tests of pairs
 

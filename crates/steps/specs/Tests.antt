@@ -13,7 +13,7 @@ use Rattle.steps.specs.declared.Search.the-variants.{First, Unmet, Misse
 
 -- the values of the constants at leaf b of 2 ^ h, constant i at bit i
 abbrev pub leafValues : Stored → ℕ → ℕ → ℕ
-leafValues S h b = valuesAt constantLevels (S .constants) (S .defined) h b
+leafValues S h b = valuesAt constantLevels (S .constants) (S .named) h b
 
 -- choice x of the free variables meets the first system's positive clauses at a leaf with these values
 abbrev pub firstMeets : Stored → ℕ → ℕ → Bool

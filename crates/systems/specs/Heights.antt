@@ -19,12 +19,13 @@ use Rattle.leaves.specs.LeafSolutions.{SolvesLeaves}
 use Rattle.leaves.specs.ProblemLaws.{cut-solvable, fixed-solves as solves-leaves, solution-glued}
 use Rattle.leaves.specs.Fixed.{fixedAt}
 use Rattle.leaves.specs.SecondLaws.{extension-room, unmet-first, unmet-counter, missed-first, missed-counter}
-use Rattle.systems.specs.Clauses.{Term, variable, constant, Constants, Assignment}
-use Rattle.systems.specs.Questions.{Kind, satisfiability, entailment, Question, Defined, WellFormed, tallestConstant, questionHeight, firstCount, secondCount}
+use Rattle.systems.specs.Clauses.{Term, variable, constant, Constants, constantTree, Assignment}
+use Rattle.systems.specs.Questions.{Kind, satisfiability, entailment, Question, Defined, WellFormed, namedIn, namedBy, isAmong, questionHeight, tallestConstant, heightOfAll, firstCount, secondCount}
 use Rattle.systems.specs.Bounds.{Within, Bounds}
 use Rattle.systems.specs.Solutions.{tallest, heightOf, SolvesFirst, Solution, Extends, ExtendsBy, MeetsPositives, MeetsWith, SomeNot, Entails}
 use Rattle.systems.specs.Answers.{Answer, satisfied, unsatisfied, vacuous, entailed, unmet, missed, kindOf, Says, Answers, Yes, verdict, needed, shows, Fails, Shown}
 use Rattle.systems.specs.SystemLaws.{in-system}
+use Rattle.systems.specs.NamedLaws.{among-left, among-right, among-low, among-least, system-named}
 use Rattle.systems.specs.AtLeaves.{firstAt, secondAt}
 use Rattle.systems.specs.AtomLaws.{Reads}
 use Rattle.systems.specs.Decide.{canSolve, decideKind, decideAt, decide, fixed, askedFor, shownWith, shownAt}
@@ -33,7 +34,19 @@ use Rattle.systems.specs.Link.{rows-read, shares-read, shares-low, Read,
 use Rattle.systems.specs.Exact.{extends-positives, extends-with, to-leaves, from-leaves, says-right, decide-kind, answers-iff}
 use Rattle.systems.specs.HeightRule.{HeightRule}
 
--- ---- the tallest constant bounds every constant
+-- ---- the tallest constant that is named bounds every one that is named
+
+pub question-bounds : (q : Question) → WellFormed q → Bounds (questionHeight q) q
+question-bounds q F = record {
+  low = among-least (q .constants) (namedBy q) _ (λ i t. treeOf-height (q .constants .levels) _);
+  first = system-named _ (λ v. tt) (q .first) (λ i t. low i (among-left i (namedIn (q .first)) (namedIn (q .second)) t));
+  second = system-named _ (λ v. tt) (q .second) (λ i t. low i (among-right i (namedIn (q .first)) (namedIn (q .second)) t));
+}
+  where
+    low : (i : ℕ) → T (isAmong i (namedBy q)) → height (constantTree (q .constants) i) ≤ questionHeight q
+    low = among-low (q .constants) (namedBy q)
+
+-- so does the tallest of all
 
 constant-low : (k : ℕ) (l : List ℕ) (i : ℕ) → i < length l → height (numberTree k (getD l i 0)) ≤ tallestConstant k l
 unfolding tallestConstant
@@ -41,7 +54,7 @@ constant-low k [] i u = absurd (not-suc-le-zero u)
 constant-low k (n ∷ l) zero u = omega arith
 constant-low k (n ∷ l) (suc i) u = omega (arith, constant-low k l i (le-of-suc-le-suc u))
 
-pub tallest-low : (k : ℕ) (l : List ℕ) → tallestConstant k l ≤ k
+tallest-low : (k : ℕ) (l : List ℕ) → tallestConstant k l ≤ k
 unfolding tallestConstant
 tallest-low k [] = omega arith
 tallest-low k (n ∷ l) = max-le (treeOf-height k _) (tallest-low k l)
@@ -50,14 +63,14 @@ term-within : (n : ℕ) (cs : Constants) (t : Term) → Defined n cs t → Withi
 term-within n cs (variable v) l = tt
 term-within n cs (constant i) l = constant-low (cs .levels) (cs .numbers) i l
 
-pub question-bounds : (q : Question) → WellFormed q → Bounds (questionHeight q) q
-question-bounds q F = record {
+pub all-bounds : (q : Question) → WellFormed q → Bounds (heightOfAll q) q
+all-bounds q F = record {
   low = tallest-low (q .constants .levels) (q .constants .numbers);
   first = in-system _ _ _ (λ t d _. term-within (q .free) (q .constants) t d) (q .first) (F .first) (F .first);
   second = in-system _ _ _ (λ t d _. term-within (q .free + q .own) (q .constants) t d) (q .second) (F .second) (F .second);
 }
 
--- and so do their levels
+-- and so do the constants' levels
 pub levels-bounds : (q : Question) → WellFormed q → Bounds (q .constants .levels) q
 levels-bounds q F = record {
   low = le-refl (q .constants .levels);
@@ -241,9 +254,13 @@ module _ (h : ℕ) (q : Question) (F : WellFormed q) (B : Bounds h q) where
 
 -- ---- the theorems, over every well-formed question
 
--- the rule of heights, with h the height of the tallest constant
+-- the rule of heights, with h the height of the tallest constant that some clause names
 pub height-rule : (q : Question) → WellFormed q → HeightRule (questionHeight q) q
 height-rule q F = height-rule-at (questionHeight q) q F (question-bounds q F)
+
+-- and so with that of the tallest of all
+pub height-rule-by-all : (q : Question) → WellFormed q → HeightRule (heightOfAll q) q
+height-rule-by-all q F = height-rule-at (heightOfAll q) q F (all-bounds q F)
 
 -- the decision is the right answer, and the only one
 pub exact : (q : Question) → WellFormed q → (a : Answer) → Answers anyHeight q a ↔ (decide q ≡ a)
@@ -252,6 +269,10 @@ exact q F = height-rule q F .decision
 -- h may be any bound of the constants that clauses name: the decision is the same
 pub decide-same : (q : Question) → WellFormed q → (h : ℕ) → Bounds h q → decideAt h q ≡ decide q
 decide-same q F h B = height-rule-at h q F B .decision (decide q) .0 (exact q F (decide q) .1 refl)
+
+-- so by the tallest constant of all, named or not
+pub decide-by-all : (q : Question) → WellFormed q → decideAt (heightOfAll q) q ≡ decide q
+decide-by-all q F = decide-same q F (heightOfAll q) (all-bounds q F)
 
 -- yes exactly where the answer is yes, no exactly where it is not
 pub verdict-exact : (q : Question) → WellFormed q

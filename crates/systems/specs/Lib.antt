@@ -10,6 +10,8 @@ pub mod ShownLaws
 pub mod Policies
 pub mod PolicyLaws
 pub mod SystemLaws
+pub mod NamedExamples
+pub mod NamedLaws
 pub mod AtomLaws
 pub mod Link
 pub mod Exact

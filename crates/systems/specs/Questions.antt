@@ -1,11 +1,13 @@
 -- A question, when it is well formed, and its numbers h, d and e. Assumes nothing.
 use mathlib.Core.Path.{_≡_}
-use mathlib.Core.List.{List, [], _∷_}
+use mathlib.Core.Bool.{Bool, false, _||_}
+use mathlib.Core.List.{List, [], _∷_, _++_}
 use Prim.Native.Nat.{ℕ, _+_, _<_, max}
+use lib.Dec.{eqb}
 use lib.ListN.{length}
 use Rattle.shares.specs.Tree.{height}
 use Rattle.shares.specs.Constant.{numberTree}
-use Rattle.systems.specs.Clauses.{Constants, Term, variable, constant, Atom, joined, equal, isFull, isEmpty, together, positive, negated, System, disequations}
+use Rattle.systems.specs.Clauses.{Constants, constantTree, Term, variable, constant, Atom, joined, equal, isFull, isEmpty, together, Clause, positive, negated, System, disequations}
 
 -- kind 0 asks whether the first system is satisfiable, kind 1 whether it entails the second
 pub data Kind : Type 0 where
@@ -53,16 +55,56 @@ pub record WellFormed (q : Question) : Type 0 where
   pub first : InSystem (Defined (q .free) (q .constants)) (q .first)
   pub second : InSystem (Defined (q .free + q .own) (q .constants)) (q .second)
 
+-- ---- what its clauses name
+
+-- the terms of an atom
+abbrev pub termsOf : Atom → List Term
+termsOf (joined a b c) = a ∷ b ∷ c ∷ []
+termsOf (equal a b) = a ∷ b ∷ []
+termsOf (isFull a) = a ∷ []
+termsOf (isEmpty a) = a ∷ []
+termsOf (together a b) = a ∷ b ∷ []
+
+-- the terms that a clause names, be it positive or a disequation
+abbrev pub clauseTerms : Clause → List Term
+clauseTerms (positive a) = termsOf a
+clauseTerms (negated a) = termsOf a
+
+-- the terms that some clause of a system names
+unfoldable pub namedIn : System → List Term
+namedIn [] = []
+namedIn (c ∷ s) = clauseTerms c ++ namedIn s
+
+-- the terms that some clause of a question names, in either system
+abbrev pub namedBy : Question → List Term
+namedBy q = namedIn (q .first) ++ namedIn (q .second)
+
+-- whether constant number i is among some terms
+unfoldable pub isAmong : ℕ → List Term → Bool
+isAmong i [] = false
+isAmong i (variable v ∷ l) = isAmong i l
+isAmong i (constant j ∷ l) = eqb i j || isAmong i l
+
 -- ---- its numbers
+
+-- the height of the tallest constant among some terms, 0 if there is none
+unfoldable pub tallestAmong : Constants → List Term → ℕ
+tallestAmong cs [] = 0
+tallestAmong cs (variable v ∷ l) = tallestAmong cs l
+tallestAmong cs (constant i ∷ l) = max (height (constantTree cs i)) (tallestAmong cs l)
+
+-- h: the height of a question is that of the tallest constant that some clause names
+abbrev pub questionHeight : Question → ℕ
+questionHeight q = tallestAmong (q .constants) (namedBy q)
 
 -- the height of the tallest of some constants of 2 ^ k leaves, 0 if there is none
 unfoldable pub tallestConstant : ℕ → List ℕ → ℕ
 tallestConstant k [] = 0
 tallestConstant k (n ∷ l) = max (height (numberTree k n)) (tallestConstant k l)
 
--- h: the height of a question is that of its tallest constant
-abbrev pub questionHeight : Question → ℕ
-questionHeight q = tallestConstant (q .constants .levels) (q .constants .numbers)
+-- the height of the tallest constant of all, named or not
+abbrev pub heightOfAll : Question → ℕ
+heightOfAll q = tallestConstant (q .constants .levels) (q .constants .numbers)
 
 -- d: how many disequations the first system has
 abbrev pub firstCount : Question → ℕ

@@ -64,13 +64,13 @@ in-positives P [] p = tt
 in-positives P (positive a ∷ s) p = (p .0, in-positives P s (p .1))
 in-positives P (negated a ∷ s) p = in-positives P s (p .1)
 
-in-disequations : (P : Term → Type 0) (s : System) → InSystem P s → InAtoms P (disequations s)
+pub in-disequations : (P : Term → Type 0) (s : System) → InSystem P s → InAtoms P (disequations s)
 unfolding disequations
 in-disequations P [] p = tt
 in-disequations P (positive a ∷ s) p = in-disequations P s (p .1)
 in-disequations P (negated a ∷ s) p = (p .0, in-disequations P s (p .1))
 
-in-at : (P : Term → Type 0) (l : List Atom) (d : Atom) → InAtoms P l → (j : ℕ) → j < length l → InAtom P (getD l j d)
+pub in-at : (P : Term → Type 0) (l : List Atom) (d : Atom) → InAtoms P l → (j : ℕ) → j < length l → InAtom P (getD l j d)
 in-at P [] d p j m = absurd (not-suc-le-zero m)
 in-at P (a ∷ l) d p zero m = p .0
 in-at P (a ∷ l) d p (suc j) m = in-at P l d (p .1) j (le-of-suc-le-suc m)

@@ -45,7 +45,11 @@ halves = record { levels = constantLevels; numbers = 0x00000000 ∷ 0xFFFFFFFF �
 abbrev wholes : Constants
 wholes = record { levels = constantLevels; numbers = 0x00000000 ∷ 0xFFFFFFFF ∷ [] }
 
--- the four as terms
+-- the first three of them and T, which has the first of 32 leaves
+abbrev withT : Constants
+withT = record { levels = constantLevels; numbers = 0x00000000 ∷ 0xFFFFFFFF ∷ 0x0000FFFF ∷ 0x00000001 ∷ [] }
+
+-- empty, full and the two halves as terms
 abbrev empty : Term
 empty = constant 0
 
@@ -137,4 +141,14 @@ worked =
     ∷ example (entails 1 0 noConstants (mayWrite (v 0) ∷ []) (mayRead (v 0) ∷ [])) entailed 0
     -- v0 may write entails own v1 may read, held together with v0: no, reason 3 with 0, height 0
     ∷ example (entails 1 1 noConstants (mayWrite (v 0) ∷ []) (mayRead (v 1) ∷ mayBeHeldTogether (v 0) (v 1) ∷ [])) (missed 0) 0
+    -- v0 join L is full, beside T, which no clause names: yes, height 1
+    ∷ example (asks 1 withT (joinIs (v 0) L full ∷ [])) satisfied 1
+    -- v0 may read, beside T, which no clause names: yes, height 0
+    ∷ example (asks 1 withT (mayRead (v 0) ∷ [])) satisfied 0
+    -- v0 may write entails v0 is L, which the second system alone names: no, reason 2, height 1
+    ∷ example (entails 1 0 halves (mayWrite (v 0) ∷ []) (is (v 0) L ∷ [])) unmet 1
+    -- v0 not L, which a disequation alone names: yes, height 1
+    ∷ example (asks 1 halves (isNot (v 0) L ∷ [])) satisfied 1
+    -- no clause entails v0 not L: no, reason 3 with 0, height 1
+    ∷ example (entails 1 0 halves [] (isNot (v 0) L ∷ [])) (missed 0) 1
     ∷ []

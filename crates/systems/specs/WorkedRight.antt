@@ -17,7 +17,7 @@ use Rattle.leaves.specs.Entailment.{canBeUnmet, canBeMissed, firstMissed}
 use Rattle.leaves.specs.AtHeight.{solvesTest, solvableAt}
 use Rattle.leaves.specs.AtHeightLaws.{solvable-at}
 use Rattle.systems.specs.Clauses.{positives, disequations}
-use Rattle.systems.specs.Questions.{Question, WellFormed, tallestConstant, questionHeight}
+use Rattle.systems.specs.Questions.{Question, WellFormed, namedIn, tallestAmong, questionHeight}
 use Rattle.systems.specs.Solutions.{Solution}
 use Rattle.systems.specs.Answers.{heightGiven}
 use Rattle.systems.specs.AtLeaves.{termAt, partAt, readingAt, allAt, bothAt, firstAt}
@@ -74,9 +74,14 @@ _also_ a b = (a, b)
 
 -- a line for each
 computed : AllComputed worked
-unfolding decideKind tallestConstant treeOf fold twins height bit joins joinLeaf positives disequations termAt partAt readingAt allAt bothAt solvable plainAt specialAt someChoice everyBelow someBelow firstBelow pickRow at c meets meetsWith canBeUnmet canBeMissed firstMissed solvesTest solvableAt
+unfolding decideKind namedIn tallestAmong treeOf fold twins height bit joins joinLeaf positives disequations termAt partAt readingAt allAt bothAt solvable plainAt specialAt someChoice everyBelow someBelow firstBelow pickRow at c meets meetsWith canBeUnmet canBeMissed firstMissed solvesTest solvableAt
 computed =
     (refl, refl, refl, refl)
+    also (refl, refl, refl, refl)
+    also (refl, refl, refl, refl)
+    also (refl, refl, refl, refl)
+    also (refl, refl, refl, refl)
+    also (refl, refl, refl, refl)
     also (refl, refl, refl, refl)
     also (refl, refl, refl, refl)
     also (refl, refl, refl, refl)

@@ -1,14 +1,15 @@
 -- How a table is filled: words of 64 leaves, put one after the other into its parts. Assumes nothing.
 use mathlib.Core.Path.{_≡_}
-use mathlib.Core.Bool.{Bool}
+use mathlib.Core.Bool.{Bool, false}
 use mathlib.Core.List.{List}
-use Prim.Native.Nat.{ℕ, _+_, _*_, _/_, _%_, _^_, _<_}
+use Prim.Native.Nat.{ℕ, _+_, _*_, _^_, _<_}
+use lib.Dec.{T}
 use lib.ListN.{getD}
 use Rattle.shares.specs.Blocks.{blockOf}
 use Rattle.shares.specs.Constant.{bit}
 use Rattle.words.specs.Stored.{Stored}
 use Rattle.rows.specs.Rows.{rowLevels}
-use Rattle.unfolded.specs.Unfolded.{rowWords}
+use Rattle.unfolded.specs.Unfolded.{rowWords, leafOf}
 
 -- x is word w of the leaves f
 abbrev pub WordOf : (ℕ → Bool) → ℕ → ℕ → Type 0
@@ -22,6 +23,8 @@ Filled levels part count f = Stored (rowWords levels * part) (rowWords levels * 
 abbrev pub constantLeaf : ℕ → ℕ → ℕ → Bool
 constantLeaf levels x i = bit x (blockOf levels (rowLevels levels) i)
 
--- the leaves of constants that are unfolded so, one constant after the other
-abbrev pub constantLeaves : ℕ → List ℕ → ℕ → Bool
-constantLeaves levels constants i = constantLeaf levels (getD constants (i / 2 ^ rowLevels levels) 0) (i % 2 ^ rowLevels levels)
+-- of the constants that are named, the parts of all but the rest have their leaves, and the parts before the constants are as they were
+pub record ConstantParts (levels named rest : ℕ) (constants old new : List ℕ) : Type 0 where
+  pub set : (c i : ℕ) → T (bit named c) → bit rest c ≡ false → i < 2 ^ rowLevels levels
+      → leafOf (rowWords levels) new (32 + c) i ≡ constantLeaf levels (getD constants c 0) i
+  pub kept : (t i : ℕ) → t < 32 → i < 2 ^ rowLevels levels → leafOf (rowWords levels) new t i ≡ leafOf (rowWords levels) old t i

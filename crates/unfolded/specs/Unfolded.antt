@@ -3,6 +3,7 @@ use mathlib.Core.Path.{_≡_}
 use mathlib.Core.Bool.{Bool, true, false}
 use mathlib.Core.List.{List}
 use Prim.Native.Nat.{ℕ, _+_, _-_, _*_, _/_, _%_, _^_, _≤_, _<_}
+use lib.Dec.{T}
 use lib.ListN.{getD}
 use Rattle.shares.specs.Below.{everyBelow}
 use Rattle.shares.specs.Blocks.{blockOf}
@@ -20,12 +21,12 @@ rowWords levels = 2 ^ (rowLevels levels - 6)
 unfoldable pub leafOf : ℕ → List ℕ → ℕ → ℕ → Bool
 leafOf words table t i = bit (getD table (words * t + i / 64) 0) (i % 64)
 
--- a table has the leaves of the rows, and of the first `count` constants, each of which stands over as many leaves of a row
-pub record Unfolded (levels : ℕ) (rows constants : List ℕ) (count : ℕ) (table : List ℕ) : Type 0 where
+-- a table has the leaves of the rows, and of the constants that are named, each of whose leaves stands over as many of a row
+pub record Unfolded (levels : ℕ) (rows constants : List ℕ) (named : ℕ) (table : List ℕ) : Type 0 where
   pub variable : (v i : ℕ) → v < rowCount → i < 2 ^ rowLevels levels → leafOf (rowWords levels) table v i ≡ rowLeaf (rowPart (rowLevels levels) rows v) i
   pub empty : (i : ℕ) → i < 2 ^ rowLevels levels → leafOf (rowWords levels) table emptyPart i ≡ false
   pub full : (i : ℕ) → i < 2 ^ rowLevels levels → leafOf (rowWords levels) table fullPart i ≡ true
-  pub constant : (c i : ℕ) → c < count → i < 2 ^ rowLevels levels → leafOf (rowWords levels) table (32 + c) i ≡ bit (getD constants c 0) (blockOf levels (rowLevels levels) i)
+  pub constant : (c i : ℕ) → T (bit named c) → i < 2 ^ rowLevels levels → leafOf (rowWords levels) table (32 + c) i ≡ bit (getD constants c 0) (blockOf levels (rowLevels levels) i)
 
 -- the test of a join at leaf i
 abbrev pub joinAt : ℕ → List ℕ → LeafJoin → ℕ → Bool

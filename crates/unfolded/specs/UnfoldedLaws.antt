@@ -1,18 +1,18 @@
 -- Laws of tables of words, for every number of levels from 1 on: filling a table, the bytes of a word, and the test of a join a word at a time. Assumes nothing.
-use mathlib.Core.Path.{_≡_, sym, ap, ap₂, _∙_}
-use mathlib.Core.Bool.{Bool, true, false}
+use mathlib.Core.Path.{_≡_, refl, sym, ap, ap₂, _∙_}
+use mathlib.Core.Bool.{Bool, true, false, not, _&&_, and-true, true≢false}
 use mathlib.Core.List.{List}
 use mathlib.Core.Logic.{_↔_}
 use Prim.Native.Nat.{ℕ, _+_, _-_, _*_, _/_, _%_, _^_, _≤_, _<_}
-use native.Mathlib.Nat.{mul-add, mul-assoc, mul-comm, mul-suc, mul-le-mul-left}
-use native.Mathlib.Decide.{decLt}
+use native.Mathlib.Nat.{add-zero, mul-add, mul-assoc, mul-comm, mul-suc, mul-le-mul-left}
+use native.Mathlib.Decide.{decLt, ℕ-discrete}
 use native.Mathlib.Omega.{arith}
-use lib.Arith.{digits-div, digits-mod, mod-mul}
 use lib.Bits.{bitOr, or-add-and, or-zero-l, and-le-l, and-le-r}
-use lib.Dec.{T, not-T, lit<}
+use lib.Dec.{T, not-T, eqb, lit<}
 use lib.ListN.{length, getD, take, drop, length-take, List·getD-eq-default}
-use lib.Pow.{pow-add, pow-pos, shr-shr, ones-lt}
+use lib.Pow.{pow-add, ones-lt}
 use lib.Seq.{getD-take, getD-drop}
+use borrow.Author.Tests.{ne-eqb}
 use Rattle.shares.specs.Below.{everyBelow}
 use Rattle.shares.specs.BelowLaws.{every-at, every-intro}
 use Rattle.shares.specs.Constant.{bit, bytesAt, number}
@@ -25,7 +25,7 @@ use Rattle.words.specs.Clause.{testValue}
 use Rattle.rows.specs.Rows.{rowLevels, rowCount, rowLeaf, rowPart, answerBytes}
 use Rattle.rows.specs.RowLaws.{eight, part-some}
 use Rattle.unfolded.specs.Unfolded.{rowWords, leafOf, Unfolded, joinAt, ZeroBytes}
-use Rattle.unfolded.specs.Filling.{WordOf, Filled, constantLeaf, constantLeaves}
+use Rattle.unfolded.specs.Filling.{WordOf, Filled, constantLeaf, ConstantParts}
 
 -- ---- a row of an answer
 
@@ -120,20 +120,6 @@ module _ (levels : ℕ) (h : 1 ≤ levels) where
   row-words : 2 ^ rowLevels levels ≡ rowWords levels * 64
   row-words = let e : rowLevels levels ≡ (rowLevels levels - 6) + 6 = omega arith in ap (λ (n : ℕ). 2 ^ n) e ∙ pow-add 2 (rowLevels levels - 6) 6
 
-  -- word j of the leaves of constants
-  pub constants-word : (constants : List ℕ) (j x : ℕ)
-      → WordOf (constantLeaf levels (getD constants (j / rowWords levels) 0)) (j % rowWords levels) x → WordOf (constantLeaves levels constants) j x
-  constants-word constants j x bits i l =
-      let n = 64 * j + i in
-      let above : n / 64 ≡ j = omega arith in
-      let below : n % 64 ≡ i = omega arith in
-      let part : n / 2 ^ rowLevels levels ≡ j / rowWords levels =
-      ap (λ (k : ℕ). n / 2 ^ k) (omega arith) ∙ sym (shr-shr n 6 (rowLevels levels - 6)) ∙ ap (λ (k : ℕ). k / rowWords levels) above in
-      let leaf : n % 2 ^ rowLevels levels ≡ 64 * (j % rowWords levels) + i =
-      ap (λ (k : ℕ). n % k) row-words ∙ mod-mul n (pow-pos (rowLevels levels - 6)) (lit< tt)
-      ∙ ap₂ (λ (q r : ℕ). q % rowWords levels * 64 + r) above below ∙ omega arith in
-      bits i l ∙ ap₂ (λ c b. constantLeaf levels (getD constants c 0) b) (sym part) (sym leaf)
-
   module _ (part count : ℕ) (f : ℕ → Bool) {old new : List ℕ} (c : Filled levels part count f old new) where
     -- the leaves of a part that is filled
     filled-leaf : (n i : ℕ) → n < count → i < 2 ^ rowLevels levels → leafOf (rowWords levels) new (part + n) i ≡ f (2 ^ rowLevels levels * n + i)
@@ -157,37 +143,53 @@ module _ (levels : ℕ) (h : 1 ≤ levels) where
         go q (yes l) = absurd (omega (arith, row-words, mul-le-mul-left (rowWords levels) l, mul-suc (rowWords levels) t))
         go q (no l) = omega (arith, mul-le-mul-left (rowWords levels) (o (omega arith)), mul-add (rowWords levels) part count)
 
-  -- an empty table, once the rows, the part that is always full and the constants are put into it
-  pub unfolded-all : (rows constants : List ℕ) (count : ℕ) {blank with-rows with-full table : List ℕ} → length rows ≡ answerBytes levels
+  -- ---- constant after constant
+
+  module _ (named : ℕ) (constants : List ℕ) where
+    pub parts-none : (table : List ℕ) → ConstantParts levels named named constants table table
+    parts-none table = record { set = λ c i t e. absurd (true≢false (sym (is-true (bit named c) t) ∙ e)); kept = λ t i l u. refl }
+
+    -- one more: that of constant c, which is taken out of the rest
+    pub parts-more : (rest rest′ c : ℕ) {old mid new : List ℕ} → ((k : ℕ) → bit rest′ k ≡ (bit rest k && not (eqb k c)))
+        → Filled levels (32 + c) 1 (constantLeaf levels (getD constants c 0)) mid new
+        → ConstantParts levels named rest constants old mid → ConstantParts levels named rest′ constants old new
+    parts-more rest rest′ c {old} {mid} {new} out F P = record {
+      set = λ j i t e u. go j i t e u (ℕ-discrete j c);
+      kept = λ t i l u. kept-leaf (32 + c) 1 (constantLeaf levels (getD constants c 0)) F t i (λ q. absurd (omega arith)) u ∙ P .kept t i l u;
+    }
+      where
+        go : (j i : ℕ) → T (bit named j) → bit rest′ j ≡ false → i < 2 ^ rowLevels levels → Dec (j ≡ c)
+            → leafOf (rowWords levels) new (32 + j) i ≡ constantLeaf levels (getD constants j 0) i
+        go j i t e u (yes q) =
+            rw q (ap (λ t. leafOf (rowWords levels) new t i) (sym (add-zero (32 + c))) ∙ filled-leaf (32 + c) 1 (constantLeaf levels (getD constants c 0)) F 0 i (omega arith) u
+            ∙ ap (constantLeaf levels (getD constants c 0)) {x = 2 ^ rowLevels levels * 0 + i} (omega arith))
+        go j i t e u (no n) =
+            kept-leaf (32 + c) 1 (constantLeaf levels (getD constants c 0)) F (32 + j) i (λ q. omega arith) u
+            ∙ P .set j i t (sym (rw (out j, ne-eqb j c n) (and-true (bit rest j))) ∙ e) u
+
+  -- ---- an empty table, once the rows, the part that is always full and the constants are put into it
+
+  pub unfolded-all : (rows constants : List ℕ) (named : ℕ) {blank with-rows with-full table : List ℕ} → length rows ≡ answerBytes levels
       → ((k : ℕ) → getD blank k 0 ≡ 0)
       → Filled levels 0 rowCount (rowLeaf rows) blank with-rows → Filled levels fullPart 1 (λ i. true) with-rows with-full
-      → Filled levels 32 count (constantLeaves levels constants) with-full table → Unfolded levels rows constants count table
+      → ConstantParts levels named 0 constants with-full table → Unfolded levels rows constants named table
   unfolding leafOf
-  unfolded-all rows constants count {blank} {with-rows} {with-full} {table} size none r f c = record {
+  unfolded-all rows constants named {blank} {with-rows} {with-full} {table} size none r f c = record {
     variable = λ v i l u. later v i (omega arith) u ∙ ap (λ t. leafOf (rowWords levels) with-rows t i) (omega arith)
         ∙ filled-leaf 0 rowCount (rowLeaf rows) r v i l u
         ∙ sym (part-leaf (rowLevels levels) (omega arith) rows v i l (omega arith) u);
     empty = λ i u. later emptyPart i (omega arith) u ∙ kept-leaf 0 rowCount (rowLeaf rows) r emptyPart i (λ q. omega arith) u
         ∙ blank-leaf emptyPart i;
-    full = λ i u. kept-leaf 32 count (constantLeaves levels constants) c fullPart i (λ q. absurd (omega arith)) u
-        ∙ filled-leaf fullPart 1 (λ i. true) f 0 i (omega arith) u;
-    constant = λ n i l u. filled-leaf 32 count (constantLeaves levels constants) c n i l u ∙ constant-leaf n i u;
+    full = λ i u. c .kept fullPart i (omega arith) u ∙ filled-leaf fullPart 1 (λ i. true) f 0 i (omega arith) u;
+    constant = λ n i t u. c .set n i t (bit-zero n) u;
   }
     where
       -- a part before the one that is always full
       later : (t i : ℕ) → t < fullPart → i < 2 ^ rowLevels levels → leafOf (rowWords levels) table t i ≡ leafOf (rowWords levels) with-rows t i
-      later t i l u =
-          kept-leaf 32 count (constantLeaves levels constants) c t i (λ q. absurd (omega arith)) u
-          ∙ kept-leaf fullPart 1 (λ i. true) f t i (λ q. absurd (omega arith)) u
+      later t i l u = c .kept t i (omega arith) u ∙ kept-leaf fullPart 1 (λ i. true) f t i (λ q. absurd (omega arith)) u
 
       blank-leaf : (t i : ℕ) → leafOf (rowWords levels) blank t i ≡ false
       blank-leaf t i = ap (λ x. bit x (i % 64)) (none (rowWords levels * t + i / 64)) ∙ bit-zero (i % 64)
-
-      constant-leaf : (n i : ℕ) → i < 2 ^ rowLevels levels
-          → constantLeaves levels constants (2 ^ rowLevels levels * n + i) ≡ constantLeaf levels (getD constants n 0) i
-      constant-leaf n i u =
-          rw (mul-comm (2 ^ rowLevels levels) n)
-          (ap₂ (λ c b. constantLeaf levels (getD constants c 0) b) (digits-div n u) (digits-mod n u))
 
 -- ---- the test of a join, a word at a time
 

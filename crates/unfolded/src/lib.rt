@@ -12,7 +12,7 @@ ghost use Rattle.shares.specs.Constant.{constantLevels, bit};
 ghost use Rattle.shares.specs.Parts.{fullPart};
 ghost use Rattle.rows.specs.Rows.{rowCount, rowLeaf, answerBytes};
 ghost use Rattle.unfolded.specs.Unfolded.{rowWords, Unfolded, joinAt, PartsIn, joinEverywhere, ZeroBytes};
-ghost use Rattle.unfolded.specs.Filling.{WordOf, Filled, constantLeaf, constantLeaves};
+ghost use Rattle.unfolded.specs.Filling.{WordOf, Filled, constantLeaf, ConstantParts};
 
 // A row has this many words.
 pub const ROW_WORDS: usize = 16;
@@ -92,26 +92,40 @@ fn constant_word(x: u64, w: usize) -> u64
     high * 0x1_0000_0000 + low
 }
 
-// Puts the words of the first `count` constants into the table.
-fn put_constants(constants: &[u64; 32], count: usize, table: &mut [u64])
-    requires { ⌜ (count ≤ 32) × (length (now table) ≡ 1024) ⌝ }
-    ensures { λ _. ⌜ Filled constantLevels 32 count (constantLeaves constantLevels (now (constants .entry))) (now (table .entry)) (now (table .exit)) ⌝ }
+// Puts the words of a constant into part 32 + c of the table.
+fn put_constant(x: u64, c: usize, table: &mut [u64])
+    requires { ⌜ (c < 32) × (length (now table) ≡ 1024) ⌝ }
+    ensures { λ _. ⌜ Filled constantLevels (32 + c) 1 (constantLeaf constantLevels x) (now (table .entry)) (now (table .exit)) ⌝ }
 {
-    let mut j: usize = 0;
-    while j < ROW_WORDS * count {
-        table[CONSTANTS_START + j] = constant_word(constants[j / ROW_WORDS], j % ROW_WORDS);
-        j += 1;
+    let start = CONSTANTS_START + ROW_WORDS * c;
+    let mut k: usize = 0;
+    while k < ROW_WORDS {
+        table[start + k] = constant_word(x, k);
+        k += 1;
+    }
+}
+
+// Puts the words of the constants that are named into the table.
+fn put_constants(constants: &[u64; 32], named: u64, table: &mut [u64])
+    requires { ⌜ (named < 2 ^ 32) × (length (now table) ≡ 1024) ⌝ }
+    ensures { λ _. ⌜ ConstantParts constantLevels named 0 (now (constants .entry)) (now (table .entry)) (now (table .exit)) ⌝ }
+{
+    let mut rest = named;
+    while rest != 0 {
+        let c = words::lowest(rest);
+        put_constant(constants[c], c, table);
+        rest = words::without_lowest(rest);
     }
 }
 
 // Fills a table that is empty.
-pub fn unfold(rows: &[u8], constants: &[u64; 32], count: usize, table: &mut [u64; TABLE_WORDS])
-    requires { ⌜ (length (now rows) ≡ answerBytes constantLevels) × (count ≤ 32) × ((k : ℕ) → getD (now table) k 0 ≡ 0) ⌝ }
-    ensures { λ _. ⌜ Unfolded constantLevels (now (rows .entry)) (now (constants .entry)) count (now (table .exit)) ⌝ }
+pub fn unfold(rows: &[u8], constants: &[u64; 32], named: u64, table: &mut [u64; TABLE_WORDS])
+    requires { ⌜ (length (now rows) ≡ answerBytes constantLevels) × (named < 2 ^ 32) × ((k : ℕ) → getD (now table) k 0 ≡ 0) ⌝ }
+    ensures { λ _. ⌜ Unfolded constantLevels (now (rows .entry)) (now (constants .entry)) named (now (table .exit)) ⌝ }
 {
     put_rows(rows, table);
     put_full(table);
-    put_constants(constants, count, table);
+    put_constants(constants, named, table);
 }
 
 // Word w of a part of a table.

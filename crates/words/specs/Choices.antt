@@ -3,7 +3,6 @@ use mathlib.Core.Path.{_≡_}
 use mathlib.Core.Bool.{Bool, _&&_, not}
 use mathlib.Core.List.{List}
 use Prim.Native.Nat.{ℕ, _+_, _-_, _*_, _%_, _^_}
-use lib.Dec.{ltb}
 use lib.ListN.{getD}
 use Rattle.shares.specs.Below.{someBelow}
 use Rattle.shares.specs.Blocks.{firstOf}
@@ -14,9 +13,9 @@ use Rattle.words.specs.Clause.{clauseTest, allClauses, termValue}
 unfoldable pub wordCount : ℕ → ℕ
 wordCount d = 2 ^ (d - 6)
 
--- the values of the first `defined` constants, of so many levels, at leaf b of 2 ^ h, constant i at bit i
+-- the values of the constants that are named, of so many levels, at leaf b of 2 ^ h, constant i at bit i
 unfoldable pub valuesAt : ℕ → List ℕ → ℕ → ℕ → ℕ → ℕ
-valuesAt levels constants defined h b = numberOf 64 (λ i. ltb i defined && bit (getD constants i 0) (firstOf h levels b))
+valuesAt levels constants named h b = numberOf 64 (λ i. bit named i && bit (getD constants i 0) (firstOf h levels b))
 
 -- all clauses of a section pass in choice z
 unfoldable pub allPass : List ℕ → ℕ → ℕ → ℕ → ℕ → ℕ → ℕ → Bool

@@ -9,4 +9,3 @@ pub mod LowestLaws
 pub mod Kept
 pub mod KeptLaws
 pub mod TableLaws
-pub mod Shifts

@@ -3,11 +3,12 @@
 use mathlib.Core.Path.{_≡_}
 use mathlib.Core.Bool.{false}
 use mathlib.Core.List.{List}
-use Prim.Native.Nat.{ℕ, _+_, _*_, _≤_, _<_}
+use mathlib.Core.Logic.{_⊎_}
+use Prim.Native.Nat.{ℕ, _+_, _-_, _*_, _≤_, _<_}
+use lib.Dec.{T}
 use lib.ListN.{getD}
 use Rattle.shares.specs.Constant.{bit}
 use Rattle.words.specs.Clause.{position, termValue}
-use Rattle.words.specs.Stored.{Stored}
 
 -- bit i of the word x is the value of part t in choice 64 * w + i
 abbrev pub TermWord : ℕ → ℕ → ℕ → ℕ → ℕ → ℕ → Type 0
@@ -26,10 +27,11 @@ pub record Changed (n m from w : ℕ) (old new : List ℕ) : Type 0 where
   pub set : (t : ℕ) → t < n + m → from ≤ position n m t → Digits n m w t (getD new t 0)
   pub kept : (t : ℕ) → (t < n + m → position n m t < from) → getD new t 0 ≡ getD old t 0
 
--- only the first `count` values are set
+-- only the values of constants that are named are set
 abbrev pub Within : ℕ → ℕ → Type 0
-Within count values = (i : ℕ) → count ≤ i → bit values i ≡ false
+Within named values = (i : ℕ) → bit named i ≡ false → bit values i ≡ false
 
--- the words of the first `count` constants are those of their values, and every other word is as it was
-abbrev pub ConstantWords : ℕ → ℕ → List ℕ → List ℕ → Type 0
-ConstantWords count values = Stored 32 count (λ i x. (k : ℕ) → k < 64 → bit x k ≡ bit values i)
+-- of the constants that are named, the words of all but the rest are those of their values, and every other word is as it was
+pub record ConstantWords (named rest values : ℕ) (old new : List ℕ) : Type 0 where
+  pub set : (i : ℕ) → T (bit named i) → bit rest i ≡ false → (k : ℕ) → k < 64 → bit (getD new (32 + i) 0) k ≡ bit values i
+  pub kept : (t : ℕ) → (32 ≤ t → (bit named (t - 32) ≡ false) ⊎ T (bit rest (t - 32))) → getD new t 0 ≡ getD old t 0

@@ -6,7 +6,7 @@ use mathlib.Core.List.{List}
 use Prim.Native.Nat.{ℕ, _+_, _-_, _*_, _%_, _^_, _≤_, _<_}
 use native.Mathlib.Decide.{decLt}
 use native.Mathlib.Omega.{arith}
-use lib.Dec.{ltb, eqb}
+use lib.Dec.{eqb}
 use lib.ListN.{getD}
 use borrow.Author.Tests.{lt-ltb, le-ltb}
 use Rattle.shares.specs.Blocks.{firstOf}
@@ -49,10 +49,10 @@ has-digit n m p h = (position-lt n m p h, position-twice n m p h)
 -- ---- the values of the constants
 
 -- a word whose bits are the values at a leaf is their number
-pub values-is : (levels : ℕ) (constants : List ℕ) (defined h b r : ℕ) → r < 2 ^ 64
-    → ((i : ℕ) → bit r i ≡ (ltb i defined && bit (getD constants i 0) (firstOf h levels b))) → r ≡ valuesAt levels constants defined h b
+pub values-is : (levels : ℕ) (constants : List ℕ) (named h b r : ℕ) → r < 2 ^ 64
+    → ((i : ℕ) → bit r i ≡ (bit named i && bit (getD constants i 0) (firstOf h levels b))) → r ≡ valuesAt levels constants named h b
 unfolding valuesAt
-values-is levels constants defined h b r small bits = bits-same 64 r _ small (number-lt 64 _) (λ i l. bits i ∙ sym (bit-number 64 _ i l))
+values-is levels constants named h b r small bits = bits-same 64 r _ small (number-lt 64 _) (λ i l. bits i ∙ sym (bit-number 64 _ i l))
 
 -- ---- a term's value by its kind
 

@@ -4,7 +4,7 @@ use basics::FULL_PART;
 ghost use mathlib.Core.Path.{_≡_};
 ghost use mathlib.Core.Bool.{_&&_, not};
 ghost use Prim.Native.Nat.{ℕ, _+_, _-_, _*_, _^_, _<_, _≤_};
-ghost use lib.Dec.{ltb};
+ghost use lib.Dec.{eqb};
 ghost use lib.ListN.{length, getD};
 ghost use Rattle.shares.specs.Below.{firstBelow};
 ghost use Rattle.shares.specs.Constant.{constantLevels, bit};
@@ -75,26 +75,27 @@ pub fn section_word(
     r
 }
 
-// The values at leaf number `leaf` of the constants, constant i at bit i.
-fn leaf_values(constants: &[u64; 32], count: usize, leaf: usize) -> u64
-    requires { ⌜ (count ≤ 32) × (leaf < 64) ⌝ }
-    ensures { λ r. ⌜ ((i : ℕ) → bit r i ≡ (ltb i count && bit (getD (now (constants .entry)) i 0) leaf)) ⌝ }
+// The values at leaf number `leaf` of the constants that are named, constant i at bit i.
+fn leaf_values(constants: &[u64; 32], named: u64, leaf: usize) -> u64
+    requires { ⌜ (named < 2 ^ 32) × (leaf < 64) ⌝ }
+    ensures { λ r. ⌜ ((i : ℕ) → bit r i ≡ (bit named i && bit (getD (now (constants .entry)) i 0) leaf)) ⌝ }
 {
     let mut r: u64 = 0;
-    let mut i: usize = 0;
-    while i < count {
+    let mut rest = named;
+    while rest != 0 {
+        let i = lowest(rest);
         r = r | (((constants[i] >> leaf) & 1) << i);
-        i += 1;
+        rest = without_lowest(rest);
     }
     r
 }
 
-// The values of the constants at leaf b of 2^h.
-pub fn values_at(constants: &[u64; 32], defined: usize, h: usize, b: usize) -> u64
-    requires { ⌜ (defined ≤ 32) × (h ≤ 5) × (b < 2 ^ h) ⌝ }
-    ensures { λ r. ⌜ r ≡ valuesAt constantLevels (now (constants .entry)) defined h b ⌝ }
+// The values of the constants that are named at leaf b of 2^h.
+pub fn values_at(constants: &[u64; 32], named: u64, h: usize, b: usize) -> u64
+    requires { ⌜ (named < 2 ^ 32) × (h ≤ 5) × (b < 2 ^ h) ⌝ }
+    ensures { λ r. ⌜ r ≡ valuesAt constantLevels (now (constants .entry)) named h b ⌝ }
 {
-    leaf_values(constants, defined, b * (1 << (5 - h)))
+    leaf_values(constants, named, b * (1 << (5 - h)))
 }
 
 // All ones where b is set, else 0.
@@ -136,15 +137,16 @@ fn variable_at(n: usize, m: usize, p: usize) -> usize
     2 * n + m - 1 - p
 }
 
-// Puts the words of the first `count` constants into the table of terms, in place of those of other values.
-pub fn set_constants(values: u64, count: usize, terms: &mut [u64])
-    requires { ⌜ (count ≤ 32) × (length (now terms) ≡ 64) ⌝ }
-    ensures { λ r. ⌜ ((n m old w : ℕ) → n + m ≤ 12 → Within count old → Within count values → Terms n m old w (now (terms .entry)) → Terms n m values w (now (terms .exit))) ⌝ }
+// Puts the words of the constants that are named into the table of terms, in place of those of other values.
+pub fn set_constants(values: u64, named: u64, terms: &mut [u64])
+    requires { ⌜ (named < 2 ^ 32) × (length (now terms) ≡ 64) ⌝ }
+    ensures { λ r. ⌜ ((n m old w : ℕ) → n + m ≤ 12 → Within named old → Within named values → Terms n m old w (now (terms .entry)) → Terms n m values w (now (terms .exit))) ⌝ }
 {
-    let mut i: usize = 0;
-    while i < count {
+    let mut rest = named;
+    while rest != 0 {
+        let i = lowest(rest);
         terms[32 + i] = spread(basics::digit(values, i));
-        i += 1;
+        rest = without_lowest(rest);
     }
 }
 
@@ -184,6 +186,14 @@ pub fn lowest(x: u64) -> usize
     ensures { λ r. ⌜ r ≡ firstBelow 64 (bit x) ⌝ }
 {
     u64::trailing_zeros(x) as usize
+}
+
+// A word that is not 0, without its lowest bit that is set.
+pub fn without_lowest(x: u64) -> u64
+    requires { ⌜ 0 < x ⌝ }
+    ensures { λ r. ⌜ (r ≤ x) × ((k : ℕ) → bit r k ≡ (bit x k && not (eqb k (firstBelow 64 (bit x))))) ⌝ }
+{
+    x & (x - 1)
 }
 
 // How many words hold 2^d choices.

@@ -5,7 +5,7 @@ use crate::make::{random_leaves, shuffle};
 use crate::question::{Clause, Question, Relation, Term, MOST_CONSTANTS};
 use crate::random::Random;
 use crate::single::Outcome;
-use crate::tree::tree_of_number;
+use crate::tree::{tree_of_number, CONSTANT_HEIGHT};
 
 pub const EMPTY: u32 = 0;
 pub const FULL: u32 = u32::MAX;
@@ -100,10 +100,10 @@ impl Draft {
         }
     }
 
-    /// The question, with constants more that no clause names, no taller than `height`, and all constants in
-    /// another order.
-    pub fn finish(mut self, random: &mut Random, entailment: bool, height: u32) -> Question {
+    /// The question, with constants more that no clause names, of any height, and all constants in another order.
+    pub fn finish(mut self, random: &mut Random, entailment: bool) -> Question {
         for _ in 0..random.below(MOST_CONSTANTS - self.constants.len() + 1) {
+            let height = random.below(CONSTANT_HEIGHT as usize + 1) as u32;
             self.constants.push(random_leaves(random, height));
         }
         let mut order: Vec<usize> = (0..self.constants.len()).collect();
@@ -143,7 +143,8 @@ fn mixed(random: &mut Random, clauses: &Clauses, order: &[usize]) -> Vec<Clause>
     negated.into_iter().map(&mut next).collect()
 }
 
-fn renumbered(relation: Relation, order: &[usize]) -> Relation {
+/// The same with constants renumbered.
+pub fn renumbered(relation: Relation, order: &[usize]) -> Relation {
     relation.with(|term| match term {
         Term::Variable(_) => term,
         Term::Constant(number) => Term::Constant(order[number]),

@@ -1,8 +1,8 @@
 //! The fixed solution (SPEC 4.5), made by the words that fix it:
 //!
-//! "The solution shown is fixed. Unfold the question to height h. Each disequation of the first system goes to the leftmost leaf
-//! where it and the first system's positive clauses can be met together. Below a leaf stand 2^(W-h) sub-leaves, W being the
-//! height given. From the left they hold the leaf's disequations in question order, then nothing more; every sub-leaf meets the
+//! "The solution shown is fixed. The constants that clauses name are unfolded to height h, and leaves are those of height h.
+//! Each disequation of the first system goes to the leftmost leaf where it and the first system's positive clauses can be met
+//! together. Below a leaf stand 2^(W-h) sub-leaves, W being the height given. From the left they hold the leaf's disequations in question order, then nothing more; every sub-leaf meets the
 //! first system's positive clauses. Each carries the least choice of values, variable 0 compared first, empty before full. For
 //! reason 2, the leftmost leaf with a choice that leaves the second system's positive clauses unmet carries the least such choice
 //! before its disequations. For reason 3 only choices count, in every leaf, beside which no own values meet the second system's
@@ -21,6 +21,8 @@ pub type Choice = Vec<bool>;
 pub struct Asked<'a> {
     question: &'a Question,
     outcome: &'a Outcome,
+    /// What h is.
+    height: u32,
     first: Split,
     second: Split,
     /// All choices, variable 0 being the lowest digit: the least is not the first.
@@ -29,10 +31,16 @@ pub struct Asked<'a> {
 
 impl<'a> Asked<'a> {
     pub fn new(question: &'a Question, outcome: &'a Outcome) -> Asked<'a> {
+        Asked::at(question, outcome, question.height())
+    }
+
+    /// The same where h is taken for this.
+    pub fn at(question: &'a Question, outcome: &'a Outcome, height: u32) -> Asked<'a> {
         let choice = |number: usize| (0..question.free).map(|v| number >> v & 1 == 1).collect();
         Asked {
             question,
             outcome,
+            height,
             first: split(&question.first),
             second: split(&question.second),
             choices: (0..1 << question.free).map(choice).collect(),
@@ -106,9 +114,9 @@ pub trait Words {
         rows_of(&carried)
     }
 
-    /// "Unfold the question to height h."
+    /// "The constants that clauses name are unfolded to height h, and leaves are those of height h."
     fn unfolded<'a>(&self, asked: &'a Asked<'a>) -> Vec<Leaf<'a>> {
-        let by_leaf = constants_by_leaf(asked.question, asked.question.height());
+        let by_leaf = constants_by_leaf(asked.question, asked.height);
         let leaf = |constants: Vec<bool>| {
             let mut choices: Vec<&Choice> = asked.choices.iter().collect();
             choices.retain(|choice| self.meets_first(asked, choice, &constants));
@@ -131,8 +139,7 @@ pub trait Words {
 
     /// "Below a leaf stand 2^(W-h) sub-leaves, W being the height given."
     fn below<'a>(&self, leaf: &Leaf<'a>, held: &[Held]) -> Vec<&'a Choice> {
-        let (question, outcome) = (leaf.asked.question, leaf.asked.outcome);
-        let sub_leaves = 1 << (outcome.height - question.height());
+        let sub_leaves = 1 << (leaf.asked.outcome.height - leaf.asked.height);
         assert!(held.len() <= sub_leaves, "a leaf has too few sub-leaves");
         let carried = |held: &Held| self.least(leaf.meeting(*held));
         let mut choices: Vec<&Choice> = held.iter().map(carried).collect();

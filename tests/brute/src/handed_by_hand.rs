@@ -57,6 +57,8 @@ const MIXED: &str = "01 01 02 00 | E F | 22 00 20 | 12 00 21 | 23 01 20 | 13 01 
 const WRITER_AND_READER: &str = "01 00 02 00 | 30 00 | 31 01 | 32 00 01 | 00";
 const READER_BESIDE: &str = "01 01 01 01 | F | 13 00 20 | 39 01 | 3A 00 01 | 00";
 const LAST_OF_32: &str = "01 00 01 00 | 03 00 00 00 80 | 12 00 20 | 00";
+const TWO_NAMED: &str = "01 00 01 00 | 30xT L F | 10 00 3E 3F | 00";
+const ENTAILS_RIGHT: &str = "01 01 01 00 | T R | 22 00 21 | 00";
 
 /// The questions of SPEC 12.
 const OF_SPEC: &[Handed] = &[
@@ -477,6 +479,30 @@ const OF_WORDS: &[Handed] = &[
         LAST_OF_32,
         &["(o(o(o(o(o(*o))))))"],
         broken(0),
+    ),
+    (
+        "30 of 32 constants are not named: what the left half lacks",
+        TWO_NAMED,
+        &["(o*)"],
+        ACCEPTED,
+    ),
+    (
+        "30 of 32 constants are not named: more than it lacks",
+        TWO_NAMED,
+        &["*"],
+        broken(0),
+    ),
+    (
+        "T is not named, R is: R extends",
+        ENTAILS_RIGHT,
+        &["(o*)"],
+        EXTENDS,
+    ),
+    (
+        "T is not named, R is: T does not extend",
+        ENTAILS_RIGHT,
+        &["(((((*o)o)o)o)o)"],
+        ACCEPTED,
     ),
 ];
 

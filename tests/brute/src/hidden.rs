@@ -8,7 +8,7 @@ use crate::question::{
     MOST_POSITIVE, MOST_VARIABLES,
 };
 use crate::random::Random;
-use crate::tree::{tree_of_number, Tree};
+use crate::tree::{tree_of_number, Tree, CONSTANT_HEIGHT};
 
 /// Hidden values, as leaves at height 5, round which clauses are made that hold.
 struct Hidden {
@@ -257,16 +257,26 @@ fn apply(random: &mut Random, question: &mut Question, change: Change, policies:
     }
 }
 
-/// A question with 12 variables, 32 constants, height 5 and as many clauses as the format allows.
+/// A question with 12 variables, 32 constants, height 5, and as many clauses as the format allows.
 pub fn largest(random: &mut Random, own: usize, change: Change, policies: bool) -> Question {
     largest_built(random, own, change, policies).question
 }
 
-/// The same with its answer. An entailment that holds lacks one clause, and the one that is put in decides:
+/// The same with its answer. It is made again until some clause names a constant of height 5.
+pub fn largest_built(random: &mut Random, own: usize, change: Change, policies: bool) -> Built {
+    loop {
+        let built = of_any_height(random, own, change, policies);
+        if built.question.height() == CONSTANT_HEIGHT {
+            return built;
+        }
+    }
+}
+
+/// An entailment that holds lacks one clause, and the one that is put in decides:
 /// - `First`: the negation of a clause of the first, which has no solution then;
 /// - `Positive`: what a disequation of the first denies, which no solution can meet;
 /// - `Disequation`: the negation of a positive clause of the first, which no solution can have.
-pub fn largest_built(random: &mut Random, own: usize, change: Change, policies: bool) -> Built {
+fn of_any_height(random: &mut Random, own: usize, change: Change, policies: bool) -> Built {
     let from_positive = match change {
         Change::First => random.once_in(2),
         _ => change == Change::Disequation,
@@ -284,7 +294,7 @@ pub fn largest_built(random: &mut Random, own: usize, change: Change, policies: 
         (Change::Disequation, _) => second.disequations -= 1,
     }
     let variables = (MOST_VARIABLES - own, own);
-    let constants = (MOST_CONSTANTS, 5);
+    let constants = (MOST_CONSTANTS, CONSTANT_HEIGHT);
     let question = entailment(random, variables, constants, (first, second), Change::None);
     if change == Change::None {
         return draft::entailment(question, 0, 0);

@@ -7,6 +7,7 @@
 //! - `fixed`, `least`, `slips`: the fixed solution by its words, by whole trees, and with one word misread;
 //! - `tree_text`, `typed`, `wrong_readers`: a reader of tree text, texts for it, and readers with one word misread;
 //! - `halves`, `wrong_joins`: join and height of constants by another route than `tree`, and with one word misread;
+//! - `wrong_heights`: which constants count for the height of a question, with one word misread;
 //! - `judge`: whether shown rows are a solution, and do not extend for the reason given;
 //! - `handed`, `handed_trees`: what judging is to give of rows that are handed over, leaf by leaf and by whole trees;
 //! - `handed_rows`, `handed_by_hand`: rows to hand over; `judger`: hands them over;
@@ -15,8 +16,8 @@
 //! - `library`, `lent`, `due`, `asking`: the exported calls, what is lent to them and what they are to give;
 //! - `options`, `report`, `seen`: what a run is told, what it counts and what it must have seen;
 //! - `plain`, `routes`, `judging`: families of the solver alone;
-//! - `calls`, `constants`, `reading`, `documents`, `by_hand`, `before`, `made`, `misread`, `policies`, `splits`, `numbers`, `terms`,
-//!   `loose`, `handing`, `handed_places`, `wrong_judges`: families of the library.
+//! - `calls`, `constants`, `reading`, `documents`, `by_hand`, `before`, `made`, `misread`, `policies`, `named`, `splits`, `numbers`,
+//!   `terms`, `loose`, `handing`, `handed_places`, `wrong_judges`: families of the library.
 
 pub mod asking;
 pub mod before;
@@ -48,6 +49,7 @@ pub mod loose;
 pub mod made;
 pub mod make;
 pub mod misread;
+pub mod named;
 pub mod numbers;
 pub mod options;
 pub mod pinned;
@@ -69,6 +71,7 @@ pub mod tree_text;
 pub mod typed;
 pub mod whole;
 pub mod worked;
+pub mod wrong_heights;
 pub mod wrong_joins;
 pub mod wrong_judges;
 pub mod wrong_readers;
@@ -90,6 +93,8 @@ pub const WITH_THE_LIBRARY: &[&[Family]] = &[
     slips::FAMILIES,
     misread::FAMILIES,
     policies::FAMILIES,
+    named::FAMILIES,
+    wrong_heights::FAMILIES,
     splits::FAMILIES,
     numbers::FAMILIES,
     terms::FAMILIES,

@@ -12,7 +12,7 @@ const FULL: Clauses = &[(0x10, 64), (0x11, 31), (0x20, 64), (0x21, 31)];
 /// Name, kind, constants, clauses, the tail, and the number that is due. All clauses are of variable 0 alone: joins
 /// hold if it is empty, and then it may be held together with itself; equalities hold always.
 const AT_THE_EDGE: &[(&str, u8, usize, Clauses, &str, u64)] = &[
-    ("32 constants", 0, 32, &[], "00", YES_AT_HEIGHT_5),
+    ("32 constants, none named", 0, 32, &[], "00", YES),
     (
         "the last constant named",
         0,

@@ -174,7 +174,7 @@ fn one_choice(asker: &mut Asker, own: usize, ask: Ask, kept: Kept) {
             (_, among.draft.first.disequations) = disequations(random, terms, one);
         }
     }
-    let question = among.draft.finish(random, true, 0);
+    let question = among.draft.finish(random, true);
     let (reason, number) = match (ask, kept) {
         (_, Kept::Held) | (Ask::Missed, Kept::Asked) => (0, 0),
         (Ask::Unmet, _) => (2, 0),
@@ -228,9 +228,9 @@ fn of_three(random: &mut Random, system: System, free: usize, held: bool) -> Bui
     if system == System::First && random.once_in(2) {
         draft.own = 0;
         draft.second = draft::Clauses::default();
-        return draft::satisfiable(draft.finish(random, false, 0), !held);
+        return draft::satisfiable(draft.finish(random, false), !held);
     }
-    let question = draft.finish(random, true, 0);
+    let question = draft.finish(random, true);
     match (held, system) {
         (false, _) => draft::entailment(question, 0, 0),
         (true, System::First) => draft::entailment(question, 1, 0),

@@ -113,7 +113,7 @@ fn some_question(random: &mut Random) -> Question {
 }
 
 /// The number and the rows that are given.
-fn given(decided: &Decided) -> (u64, Vec<u8>) {
+pub fn given(decided: &Decided) -> (u64, Vec<u8>) {
     let due = due(decided, ANSWER_BYTES, ASK_WORK_BYTES);
     (due.number, due.answer)
 }

@@ -20,7 +20,6 @@ pub const FAMILIES: &[Family] = &[
 /// both are empty elsewhere. All other variables are held.
 struct Base {
     draft: Draft,
-    height: u32,
     /// The disequations that do not decide hold only at the leaf, by the second of the loose pair.
     crowded: bool,
     /// Permission policies are among the clauses.
@@ -66,7 +65,6 @@ fn base_at(random: &mut Random, height: u32, leaf: usize) -> Base {
     draft.second.positive.push(Relation::Join(c, d, leaf));
     Base {
         draft,
-        height,
         crowded: true,
         policies: random.once_in(2),
         free: [a, b],
@@ -209,7 +207,7 @@ fn of_the_first(report: &mut Report) {
                 let unmet = base.empty_is(random, base.free[0], false);
                 base.draft.second.positive.push(unmet);
             }
-            let question = base.draft.finish(random, ending > 0, base.height);
+            let question = base.draft.finish(random, ending > 0);
             asker.built(&match (ending, met) {
                 (0, _) => draft::satisfiable(question, met),
                 (_, false) => draft::entailment(question, 1, 0),
@@ -235,7 +233,7 @@ fn of_the_second(report: &mut Report) {
                 false => base.always(random, System::Second, true),
             };
             base.disequations(random, System::Second, count, (number, decides));
-            let question = base.draft.finish(random, true, base.height);
+            let question = base.draft.finish(random, true);
             asker.built(&match had {
                 true => draft::entailment(question, 0, 0),
                 false => draft::entailment(question, 3, number),
@@ -261,7 +259,7 @@ fn of_both(report: &mut Report) {
                 );
                 base.disequations(random, System::First, counts[0], (one, asked));
                 base.disequations(random, System::Second, counts[1], (other, looked_for));
-                let question = base.draft.finish(random, true, base.height);
+                let question = base.draft.finish(random, true);
                 asker.built(&match had {
                     true => draft::entailment(question, 0, 0),
                     false => draft::entailment(question, 3, other),
@@ -281,7 +279,7 @@ fn each_positive(report: &mut Report) {
                     let random = &mut asker.random;
                     let mut base = base(random);
                     base.positive(random, system, count, (number, holds));
-                    let question = base.draft.finish(random, true, base.height);
+                    let question = base.draft.finish(random, true);
                     let reason = match (holds, system) {
                         (true, _) => 0,
                         (false, System::First) => 1,
@@ -318,11 +316,11 @@ fn one_sub_leaf(random: &mut Random, mut base: Base, number: usize, unmet: bool)
     if unmet {
         let clause = base.empty_is(random, base.free[0], false);
         draft.second.positive.push(clause);
-        let question = draft.finish(random, true, base.height);
+        let question = draft.finish(random, true);
         return draft::entailment(question, 2, 0);
     }
     draft.own = 0;
     draft.second = draft::Clauses::default();
-    let question = draft.finish(random, false, base.height);
+    let question = draft.finish(random, false);
     draft::satisfiable(question, true)
 }

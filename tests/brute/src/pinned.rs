@@ -92,6 +92,7 @@ pub fn pinned(random: &mut Random, wanted: &Wanted) -> Built {
     };
     builder.pins();
     builder.decide(wanted.verdict);
+    builder.name_leaf();
     builder.fill(wanted.verdict, System::First);
     if wanted.verdict.is_entailment() {
         builder.fill(wanted.verdict, System::Second);
@@ -240,6 +241,20 @@ impl Builder<'_> {
         }
     }
 
+    /// Has a clause of the first system name the constant of the leaf that decides, if none does so far: the question has its height.
+    fn name_leaf(&mut self) {
+        let leaf = self.draft.constant(self.leaf);
+        let names = |clauses: &Vec<Relation>| clauses.iter().any(|r| r.terms().contains(&leaf));
+        let systems = [&self.draft.first, &self.draft.second];
+        if !systems
+            .iter()
+            .any(|s| names(&s.positive) || names(&s.disequations))
+        {
+            let itself = Relation::Equal(leaf, leaf);
+            self.draft.first.positive.push(itself);
+        }
+    }
+
     /// Fills a system up with clauses that hold, and mixes the order. In the second system they may fail where
     /// that changes nothing: if the first has no solution, and disequations behind one that cannot be had.
     fn fill(&mut self, verdict: Verdict, system: System) {
@@ -285,9 +300,7 @@ impl Builder<'_> {
         let mut disequations = self.draft.second.disequations.iter();
         let lowest = disequations.position(|r| self.failing(*r) == 0);
         let rows = self.rows();
-        let question = self
-            .draft
-            .finish(self.random, verdict.is_entailment(), self.height);
+        let question = self.draft.finish(self.random, verdict.is_entailment());
         let mut built = match verdict {
             Verdict::Satisfiable => draft::satisfiable(question, true),
             Verdict::Unsatisfiable => draft::satisfiable(question, false),

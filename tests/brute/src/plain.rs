@@ -3,6 +3,7 @@
 use crate::fixed;
 use crate::judge::{trees_of_rows, ROW_BYTES};
 use crate::make::{random_question, random_tree, Size};
+use crate::named::height_by_bytes;
 use crate::question::{read, write, Question};
 use crate::refusals;
 use crate::report::{Family, Report};
@@ -16,6 +17,7 @@ use crate::tree_text::{constant_of_text, tree_of_text};
 use crate::typed::BY_HAND;
 use crate::whole::{all_trees, satisfiable, tree_count, Trees, TALLEST};
 use crate::worked;
+use crate::wrong_heights::each_matters;
 
 pub const FAMILIES: &[Family] = &[
     ("plain trees", plain_trees),
@@ -105,6 +107,7 @@ fn worked_by_hand(report: &mut Report) {
         );
         let expected = (worked.yes, worked.height, worked.reason, worked.disequation);
         report.same_apart(worked.name, given, expected);
+        report.same_apart(worked.name, height_by_bytes(&bytes), question.height());
         let rows = fixed::rows(&question, &outcome);
         let texts = rows.map(|rows| texts_of_rows(&question, &rows));
         let expected = worked
@@ -113,12 +116,13 @@ fn worked_by_hand(report: &mut Report) {
         report.same_apart(worked.name, texts, expected);
     }
     each_word_matters(report);
+    each_matters(report);
 }
 
 /// Each slip shows other rows for one of the questions that were worked for it.
 fn each_word_matters(report: &mut Report) {
     let mut changed = Changed::default();
-    for worked in worked::FIXED {
+    for worked in worked::FIXED.iter().chain(worked::LEFTMOST) {
         let question = read(&worked::bytes(worked.bytes)).expect("a worked question");
         let outcome = decide(&question);
         let rows = fixed::rows(&question, &outcome).expect("a solution is shown");

@@ -154,9 +154,20 @@ pub fn disequations(clauses: &[Clause]) -> Vec<Clause> {
 }
 
 impl Question {
-    /// The height h: that of the tallest constant.
+    /// The height h: that of the tallest constant that some clause names, of whichever system and sort; 0 if none is named.
     pub fn height(&self) -> u32 {
-        self.constants.iter().map(Tree::height).max().unwrap_or(0)
+        let clauses = self.first.iter().chain(&self.second);
+        let of_clause = |clause: &Clause| self.tallest(&clause.terms());
+        clauses.map(of_clause).max().unwrap_or(0)
+    }
+
+    /// The height of the tallest constant among these terms; 0 if there is none.
+    pub fn tallest(&self, terms: &[Term]) -> u32 {
+        let of_term = |term: &Term| match *term {
+            Term::Variable(_) => 0,
+            Term::Constant(number) => self.constants[number].height(),
+        };
+        terms.iter().map(of_term).max().unwrap_or(0)
     }
 
     pub fn variables(&self) -> usize {

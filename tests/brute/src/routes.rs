@@ -4,7 +4,8 @@
 use crate::fixed;
 use crate::judge::{extension_by_leaf, judge, trees_of_rows};
 use crate::make::{entailment, random_question, random_system, random_tree, Counts, Size, CHANGES};
-use crate::question::{hex, read, write_in_order, Question, MOST_VARIABLES};
+use crate::named::{among, height_of_others, Tallest};
+use crate::question::{hex, read, write_in_order, Question, MOST_CONSTANTS, MOST_VARIABLES};
 use crate::random::Random;
 use crate::report::{Family, Report};
 use crate::seen::Seen;
@@ -20,6 +21,7 @@ pub const FAMILIES: &[Family] = &[
     ("both routes: one height more", one_height_more),
     ("both routes: entailments", entailments),
     ("both routes: up to 12 variables", many_variables),
+    ("both routes: few of 32 constants named", few_named),
 ];
 
 /// The most assignments of whole trees that one case may have.
@@ -104,6 +106,7 @@ struct Both<'a> {
     random: Random,
     trees: Trees,
     seen: Seen,
+    tallest: Tallest,
     too_dear: usize,
 }
 
@@ -114,12 +117,14 @@ impl Both<'_> {
             report,
             trees: Trees::new(),
             seen: Seen::default(),
+            tallest: Tallest::default(),
             too_dear: 0,
         }
     }
 
     fn question(&mut self, question: &Question, more: u32) {
         self.seen.note(question, &decide(question));
+        self.tallest.note(question);
         let compared = same_by_both(&self.trees, question, more);
         self.report.apart(compared);
     }
@@ -154,7 +159,7 @@ fn worked_questions(report: &mut Report) {
     }
     let compared = both.seen.refusals[0];
     both.report
-        .same_apart("most were compared", compared >= 25, true);
+        .same_apart("most were compared", compared >= 80, true);
     both.finish();
 }
 
@@ -207,6 +212,21 @@ fn counts(random: &mut Random, positive: usize, disequations: usize) -> Counts {
         disequations: random.below(disequations + 1),
         policies: true,
     }
+}
+
+/// Few constants that clauses name among 32, of which the others are taller or lower.
+fn few_named(report: &mut Report) {
+    let mut both = Both::new(report);
+    let count = both.report.rounds(3_000);
+    both.questions(count, 0, |random| {
+        let question = random_question(random, &SMALL);
+        let height = height_of_others(random);
+        among(random, &question, MOST_CONSTANTS, height)
+    });
+    both.tallest.enough(both.report, 500);
+    both.seen.kind_0(both.report, 50);
+    both.seen.kind_1(both.report, 50);
+    both.finish();
 }
 
 /// Every number of free and own variables, with few disequations and low constants where there are many.

@@ -2,7 +2,7 @@
 //! clause by clause. It gives the verdict, the reason, the disequation number and the height.
 
 use crate::question::{disequations, positive, split, Clause, Question, Relation, Split, Term};
-use crate::tree::join_leaves;
+use crate::tree::{join_leaves, Tree};
 
 /// What asking gives.
 #[derive(Clone, Copy, Debug, PartialEq, Eq)]
@@ -59,13 +59,14 @@ pub fn choices(count: usize) -> impl Iterator<Item = Choice> {
     })
 }
 
-/// The values of all constants at each of the 2^height leaves.
+/// The values of all constants at each of the 2^height leaves, a height no less than the question's. A constant that is taller is named by no
+/// clause: its value is never looked at.
 pub fn constants_by_leaf(question: &Question, height: u32) -> Vec<Vec<bool>> {
-    let unfolded: Vec<Vec<bool>> = question
-        .constants
-        .iter()
-        .map(|constant| constant.leaves(height))
-        .collect();
+    let leaves = |constant: &Tree| {
+        let unfolded = constant.unfolded(height);
+        unfolded.unwrap_or_else(|| vec![false; 1 << height])
+    };
+    let unfolded: Vec<Vec<bool>> = question.constants.iter().map(leaves).collect();
     (0..1 << height)
         .map(|leaf| unfolded.iter().map(|leaves| leaves[leaf]).collect())
         .collect()
@@ -146,7 +147,12 @@ fn nothing_shown(yes: bool, reason: u8) -> Outcome {
 
 /// The whole answer of route B.
 pub fn decide(question: &Question) -> Outcome {
-    let leaves: Vec<Leaf> = constants_by_leaf(question, question.height())
+    decide_at(question, question.height())
+}
+
+/// The same by the leaves of a height no less than the question's; the height given is the one above.
+pub fn decide_at(question: &Question, height: u32) -> Outcome {
+    let leaves: Vec<Leaf> = constants_by_leaf(question, height)
         .into_iter()
         .map(|constants| leaf(question, constants))
         .collect();

@@ -46,6 +46,11 @@ impl Tree {
         }
     }
 
+    /// Unfolded to a height, unless it is taller.
+    pub fn unfolded(&self, height: u32) -> Option<Vec<bool>> {
+        (self.height() <= height).then(|| self.leaves(height))
+    }
+
     /// Unfolded to a height that is no less than the tree's own.
     pub fn leaves(&self, height: u32) -> Vec<bool> {
         match self {

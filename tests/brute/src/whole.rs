@@ -77,7 +77,8 @@ pub fn tree_count(height: u32) -> usize {
 /// the last of its variables has one.
 struct Search<'a> {
     trees: &'a Trees,
-    constants: Vec<usize>,
+    /// None for a constant that is taller than all of these trees: no clause names it.
+    constants: Vec<Option<usize>>,
     clauses: Vec<Clause>,
     /// How many variables there are, and up to which height each is tried.
     heights: Vec<u32>,
@@ -87,7 +88,7 @@ impl Search<'_> {
     fn value(&self, term: Term, values: &[usize]) -> usize {
         match term {
             Term::Variable(v) => values[v],
-            Term::Constant(c) => self.constants[c],
+            Term::Constant(c) => self.constants[c].expect("a constant that is named is low enough"),
         }
     }
 
@@ -155,10 +156,10 @@ fn search<'a>(
     clauses: Vec<Clause>,
     heights: Vec<u32>,
 ) -> Search<'a> {
-    let constants = question.constants.iter().map(|c| trees.number(c));
+    let constants = question.constants.iter();
     Search {
         trees,
-        constants: constants.collect(),
+        constants: constants.map(|c| trees.numbers.get(c).copied()).collect(),
         clauses,
         heights,
     }

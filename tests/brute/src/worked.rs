@@ -1,7 +1,8 @@
 //! Questions worked by hand: those of SPEC 12, the properties of figure 1 of Le, Nguyen, Chin and Hobor,
 //! "A certified decision procedure for tree shares", one for each mistake of SPEC 13, those for each word of the
-//! fixed solution, and those of permission policies. The bytes are written out; `E`, `F`, `L`, `R` stand for the commands that define the empty share,
-//! the full one, the left half and the right half, and `|` only parts the commands for the reader.
+//! fixed solution, those of permission policies, and those of which constants count for the height. The bytes are written out; `E`, `F`, `L`, `R`, `Q`, `T`, `U`
+//! stand for the commands that define the empty share, the full one, the left half, the right half, the left quarter, the leftmost of 32 leaves and the other 31, `30xT`
+//! for 30 commands in a row, and `|` only parts the commands for the reader.
 
 use crate::due::packed_outcome;
 use crate::single::Outcome;
@@ -83,7 +84,7 @@ pub const FIVE_NOT_EMPTY: &str =
                                   | 13 02 20 | 13 03 20 | 13 04 20 | 00";
 pub const TWO_READERS: &str = "01 00 02 00 | 31 00 | 31 01 | 32 00 01 | 00";
 
-/// The questions of SPEC 12 without permission policies. A name starts with the question's number there.
+/// The questions of SPEC 12 without permission policies, but for 12.22, 12.25 and 12.26, which stand in `NAMED`. A name starts with the question's number there.
 pub const WORKED: &[Worked] = &[
     yes(
         "12.13: the printing program's example",
@@ -229,7 +230,7 @@ pub const FIGURE_1: &[Worked] = &[
     ),
 ];
 
-/// Questions that a wrong reading gets wrong. Those of a mistake of SPEC 13 start with its number.
+/// Questions that a wrong reading gets wrong. The name of one for a mistake of SPEC 13 starts with its number; those for 13.7 and 13.8 stand in `NAMED`.
 pub const MISTAKES: &[Worked] = &[
     yes(
         "13.1: a disequation needs more than height h",
@@ -261,11 +262,12 @@ pub const MISTAKES: &[Worked] = &[
         true,
         0,
     ),
+    // Only E is named: h = 0, d = 1, W = 0.
     yes(
-        "a constant that no clause names counts for the height",
+        "13.6: a constant that no clause names does not count for the height",
         "01 00 01 00 | 03 01 00 00 00 | E | 13 00 21 | 00",
-        5,
-        &["(((((*o)o)o)o)o)"],
+        0,
+        &["*"],
     ),
     not_entailed(
         "the lowest disequation that cannot be had, not the first",
@@ -372,13 +374,13 @@ pub const FIXED: &[Worked] = &[
         (2, 0),
         &["((*o)(*o))"],
     ),
-    // h = 1, d = 0, W = 1 + c(1) = 1. At both leaves * is not empty. The leftmost carries it; leaf 1 holds nothing and carries o.
+    // L is named by no clause: h = 0, d = 0, W = 0 + c(1) = 0. At the only leaf * is not empty.
     not_entailed(
-        "reason 2: the leftmost of two leaves",
+        "reason 2: a constant that no clause names parts no leaf",
         "01 01 01 00 | E L | 22 00 20 | 00",
-        1,
+        0,
         (2, 0),
-        &["(*o)"],
+        &["*"],
     ),
     // h = 0, d = 0, W = 0. The choices are o* and *o. With the first v1 is not empty; only the second counts.
     not_entailed(
@@ -569,27 +571,291 @@ pub const POLICIES: &[Worked] = &[
     ),
 ];
 
+/// One more for the words of the fixed solution, which before.txt does not have.
+pub const LEFTMOST: &[Worked] = &[
+    // L is L says nothing, but names it: h = 1, d = 0, W = 1. At both leaves * is not empty. The leftmost carries it; leaf 1 holds nothing and carries o.
+    not_entailed(
+        "reason 2: the leftmost of two leaves",
+        "01 01 01 00 | E L | 12 21 21 | 22 00 20 | 00",
+        1,
+        (2, 0),
+        &["(*o)"],
+    ),
+];
+
+/// Which constants count for the height: those that some clause names, of whichever system and sort. The terms 20 to 3F are constants 0 to 31. T, of height 5, is
+/// `(((((*o)o)o)o)o)`, U the rest of the full share; Q, of height 2, is `((*o)o)`.
+pub const NAMED: &[Worked] = &[
+    // 20 is L, 21 is F. h = 1, d = 0, W = 1. v0 is what L lacks.
+    yes(
+        "12.22: v0 join L is full, T is named by no clause",
+        "01 00 01 00 | L F T | 10 00 20 21 | 00",
+        1,
+        &["(o*)"],
+    ),
+    // h = 0, d = 1, W = 0.
+    yes(
+        "12.23: v0 may read, T is named by no clause",
+        "01 00 01 00 | T | 31 00 | 00",
+        0,
+        &["*"],
+    ),
+    // h = 1, d = 0, W = 1 + c(1) = 1. v0 is full, which is not L.
+    not_entailed(
+        "12.24: v0 may write entails v0 is L, which the second system alone names",
+        "01 01 01 00 | L | 30 00 | 22 00 20 | 00",
+        1,
+        (2, 0),
+        &["*"],
+    ),
+    // h = 1, d = 1, W = 1. Leaf 0, where L is full, holds the disequation and carries o; leaf 1 carries o.
+    yes(
+        "12.25: v0 is not L, which a disequation alone names",
+        "01 00 01 00 | L | 13 00 20 | 00",
+        1,
+        &["o"],
+    ),
+    // h = 1, d = 0, W = 1 + c(1) = 1. Only L lacks the disequation.
+    not_entailed(
+        "12.26: no clause entails v0 is not L",
+        "01 01 01 00 | L | 23 00 20 | 00",
+        1,
+        (3, 0),
+        &["(*o)"],
+    ),
+    // 3E is L, 3F is F. h = 1, d = 0, W = 1. v0 is what L lacks.
+    yes(
+        "32 constants, of which two are named, both low",
+        "01 00 01 00 | 30xT L F | 10 00 3E 3F | 00",
+        1,
+        &["(o*)"],
+    ),
+    yes(
+        "32 constants, of which one is named, the first, and it alone is tall",
+        "01 00 01 00 | T 31xE | 12 00 20 | 00",
+        5,
+        &["(((((*o)o)o)o)o)"],
+    ),
+    yes(
+        "32 constants, of which one is named, the last, and it alone is tall",
+        "01 00 01 00 | 31xE T | 12 3F 00 | 00",
+        5,
+        &["(((((*o)o)o)o)o)"],
+    ),
+    // h = 0, d = 1, W = 0.
+    yes(
+        "32 constants, of which none is named",
+        "01 00 01 00 | 32xT | 31 00 | 00",
+        0,
+        &["*"],
+    ),
+    // v0 join v1 is L; v0 is not empty; v1 is not empty; not (v0 join v1 is Q). 3D is E, 3E is L, 3F is Q, which the last alone names. h = 2, d = 3,
+    // W = 2 + c(3) = 4. At leaves 0 and 1 the choices are o* and *o, at leaves 2 and 3 there is oo. Leaf 0 takes the first two: its sub-leaves carry *o, o*, then
+    // o* twice. There the join is Q, so leaf 1 takes the third disequation; all its sub-leaves carry o*.
+    yes(
+        "32 constants, of which three are named, the tallest of these in a disequation",
+        "01 00 02 00 | 29xT E L Q | 10 00 01 3E | 13 00 3D | 13 01 3D | 11 00 01 3F | 00",
+        4,
+        &["((((*o)o)o)o)", "((((o*)*)*)o)"],
+    ),
+    // v0 is variable 0, T constant 0. h = 0, d = 0, W = 0.
+    yes(
+        "variable 0 is named, constant 0 is not",
+        "01 00 01 00 | T | 12 00 00 | 00",
+        0,
+        &["o"],
+    ),
+    // Constant 1 is the highest that is named. h = 0, W = 0.
+    yes(
+        "one below another that is named does not count",
+        "01 00 01 00 | T F | 30 00 | 12 00 21 | 00",
+        0,
+        &["*"],
+    ),
+    // h = 5, d = 1, W = 5. U is empty at leaf 0 alone, where * differs from it. The other leaves hold nothing and carry o.
+    yes(
+        "13.8: a tall one that only a disequation names",
+        "01 00 01 00 | U | 13 00 20 | 00",
+        5,
+        &["(((((*o)o)o)o)o)"],
+    ),
+    // The same with trees that route A can try: h = 2, d = 1, W = 2. The constant is empty at leaf 0 of four alone.
+    yes(
+        "one of height 2 that only a disequation names",
+        "01 00 01 00 | T 03 00 FF FF FF | 13 00 21 | 00",
+        2,
+        &["((*o)o)"],
+    ),
+    // h = 5, d = 1, W = 5.
+    yes(
+        "a tall one that only a share that may read names",
+        "01 00 00 00 | E T | 31 21 | 12 20 20 | 00",
+        5,
+        &[],
+    ),
+    // h = 5, d = 0, W = 5. The least choice is o everywhere.
+    yes(
+        "a tall one that is only held together with v0",
+        "01 00 01 00 | E T | 32 00 21 | 12 00 20 | 00",
+        5,
+        &["o"],
+    ),
+    // v0 is U: h = 5, d = 0, W = 5.
+    yes(
+        "a tall one that is the second of a join's terms",
+        "01 00 01 00 | T F | 10 00 20 21 | 00",
+        5,
+        &["(((((o*)*)*)*)*)"],
+    ),
+    // h = 5, d = 0, W = 5 + c(1) = 5. At leaf 0, where U is empty, * is not U. The other leaves hold nothing and carry o.
+    not_entailed(
+        "13.7: a tall one that only the second system names",
+        "01 01 01 00 | U | 22 00 20 | 00",
+        5,
+        (2, 0),
+        &["(((((*o)o)o)o)o)"],
+    ),
+    // The same with trees that route A can try: h = 2, d = 0, W = 2.
+    not_entailed(
+        "one of height 2 that only the second system names",
+        "01 01 01 00 | T 03 00 FF FF FF | 22 00 21 | 00",
+        2,
+        (2, 0),
+        &["((*o)o)"],
+    ),
+    // 20 is L, 21 is T. h = 5, d = 1, W = 5 + c(2) = 6. v0 is not L at leaf 0, with o; T is full there, so that the same o is unmet, in the first sub-leaf.
+    not_entailed(
+        "a low one that the first system names, and a tall one that the second does",
+        "01 01 01 00 | L T | 13 00 20 | 22 00 21 | 00",
+        6,
+        (2, 0),
+        &["o"],
+    ),
+    // h = 5, d = 0, W = 5. Only what is T at each leaf lacks the disequation.
+    not_entailed(
+        "a tall one that only a disequation of the second names",
+        "01 01 01 00 | T | 23 00 20 | 00",
+        5,
+        (3, 0),
+        &["(((((*o)o)o)o)o)"],
+    ),
+    not_entailed(
+        "one of height 2 that only a disequation of the second names",
+        "01 01 01 00 | T Q | 23 00 21 | 00",
+        2,
+        (3, 0),
+        &["((*o)o)"],
+    ),
+    // h = 5, d = 0, W = 5. At leaf 0 T is full, so that * is unmet.
+    not_entailed(
+        "a tall one that the second system alone has held together with v0",
+        "01 01 01 00 | T | 3A 00 20 | 00",
+        5,
+        (2, 0),
+        &["(((((*o)o)o)o)o)"],
+    ),
+    // Own v1 join Q is v0. h = 2, d = 0, W = 2. At leaf 0 Q is full, so that o is unmet.
+    not_entailed(
+        "T is not named, Q is, beside an own variable",
+        "01 01 01 01 | T Q | 20 01 21 00 | 00",
+        2,
+        (2, 0),
+        &["o"],
+    ),
+    // h = 1, d = 0, W = 1. At leaf 0 R is empty, so that * is unmet; leaf 1 holds nothing and carries o.
+    not_entailed(
+        "T is not named, R is",
+        "01 01 01 00 | T R | 22 00 21 | 00",
+        1,
+        (2, 0),
+        &["(*o)"],
+    ),
+    unshown(
+        "T is not named, and the entailment holds: no height is given",
+        "01 01 01 00 | T L | 12 00 21 | 39 00 | 00",
+        true,
+        0,
+    ),
+    // The byte behind a clause with one term or two is the next command, and no term of the clause. The commands 20 to 23, 30 to 32 and 38 to 3A are terms too:
+    // constants 0 to 3, 16 to 18 and 24 to 26.
+    // 20 is E, 30 to 32 are T. h = 0, d = 1, W = 0.
+    yes(
+        "31 behind an equality is no third term of it",
+        "01 00 02 00 | 16xE 3xT | 12 00 20 | 31 01 | 00",
+        0,
+        &["o", "*"],
+    ),
+    // h = 0, d = 1, W = 0.
+    yes(
+        "30 behind a negated equality is no third term of it",
+        "01 00 02 00 | 16xE 3xT | 13 00 20 | 30 01 | 00",
+        0,
+        &["*", "*"],
+    ),
+    // h = 0, d = 2, W = 1. Held together with the full v1, v0 is empty. Both sub-leaves hold "v2 is not empty" and carry o**.
+    yes(
+        "30 behind a pair held together, 32 and 31 behind what may read and write, are no terms of these",
+        "01 00 03 00 | 16xE 3xT | 31 02 | 32 00 01 | 30 01 | 31 02 | 00",
+        1,
+        &["o", "*", "*"],
+    ),
+    // 24 is E, 20 to 23 are T. h = 0, d = 0, W = 0 + c(1) = 0. Only o lacks "v0 is not empty".
+    not_entailed(
+        "23 behind an equality is no third term of it",
+        "01 01 01 00 | 4xT E | 12 00 24 | 23 00 24 | 00",
+        0,
+        (3, 0),
+        &["o"],
+    ),
+    // The same. v0 is empty, so v1, which is not held to anything, can be o, which is not full: unmet.
+    not_entailed(
+        "20, 22 and 38 behind equalities are no third terms of them",
+        "01 01 02 00 | 4xT 20xE 3xT | 12 00 24 | 20 00 24 00 | 12 00 24 | 22 00 24 | 38 01 | 00",
+        0,
+        (2, 0),
+        &["o", "o"],
+    ),
+    // h = 0, d = 0, W = 0. Held together with the full v0, own v1 is empty.
+    not_entailed(
+        "3A and 39 behind one term and behind two are no terms of these",
+        "01 01 01 01 | 24xE 3xT | 30 00 | 3A 00 01 | 39 01 | 00",
+        0,
+        (3, 0),
+        &["*"],
+    ),
+];
+
 /// The bytes of a question written as above.
 pub fn bytes(text: &str) -> Vec<u8> {
     let mut bytes = Vec::new();
     for word in text.split_whitespace() {
-        match word {
-            "|" => {}
-            "E" => bytes.extend([0x03, 0x00, 0x00, 0x00, 0x00]),
-            "F" => bytes.extend([0x03, 0xFF, 0xFF, 0xFF, 0xFF]),
-            "L" => bytes.extend([0x03, 0xFF, 0xFF, 0x00, 0x00]),
-            "R" => bytes.extend([0x03, 0x00, 0x00, 0xFF, 0xFF]),
-            pair => bytes.push(u8::from_str_radix(pair, 16).expect("two hexadecimal digits")),
-        }
+        let (times, word) = word.split_once('x').unwrap_or(("1", word));
+        let times = times.parse().expect("how often it stands");
+        bytes.extend(bytes_of_word(word).repeat(times));
     }
     bytes
 }
 
-pub fn all() -> impl Iterator<Item = &'static Worked> {
-    older().chain(POLICIES)
+fn bytes_of_word(word: &str) -> Vec<u8> {
+    let leaves: u32 = match word {
+        "|" => return Vec::new(),
+        "E" => 0x0000_0000,
+        "F" => 0xFFFF_FFFF,
+        "L" => 0x0000_FFFF,
+        "R" => 0xFFFF_0000,
+        "Q" => 0x0000_00FF,
+        "T" => 0x0000_0001,
+        "U" => 0xFFFF_FFFE,
+        pair => return vec![u8::from_str_radix(pair, 16).expect("two hexadecimal digits")],
+    };
+    [vec![0x03], leaves.to_le_bytes().to_vec()].concat()
 }
 
-/// Those without permission policies.
+pub fn all() -> impl Iterator<Item = &'static Worked> {
+    older().chain(LEFTMOST).chain(POLICIES).chain(NAMED)
+}
+
+/// Those of before.txt.
 pub fn older() -> impl Iterator<Item = &'static Worked> {
     WORKED.iter().chain(FIGURE_1).chain(MISTAKES).chain(FIXED)
 }

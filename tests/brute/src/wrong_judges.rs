@@ -365,7 +365,7 @@ fn is_undefined(clause: &Clause, leaves: &[Leaf]) -> bool {
     !(AS_WRITTEN.holds)(&Clause { relation, negated }, leaves)
 }
 
-/// The height of the rows, or of the constants if they are taller.
+/// The height of the rows, or of the constants that clauses name if they are taller.
 fn tallest(question: &Question, rows: &[u8]) -> u32 {
     let heights = trees_of_rows(question, rows).iter().map(Tree::height).max();
     heights.unwrap_or(0).max(question.height())

@@ -5,6 +5,7 @@ use brute::handed::{judged, packed};
 use brute::handed_by_hand;
 use brute::handed_rows::some_case;
 use brute::make::{crowded, entailment, random_question, Counts, Size, CHANGES};
+use brute::named::some_among;
 use brute::question::write;
 use brute::random::Random;
 use brute::tree_text::MOST_PAIRS;
@@ -28,9 +29,9 @@ const SMALL: Size = Size {
     policies: true,
 };
 
-/// An accepted question of one of three makes.
+/// An accepted question of one of four makes.
 pub fn accepted(random: &mut Random) -> Vec<u8> {
-    let question = match random.below(3) {
+    let question = match random.below(4) {
         0 => random_question(random, &SMALL),
         1 => {
             let change = random.pick(&CHANGES);
@@ -41,6 +42,7 @@ pub fn accepted(random: &mut Random) -> Vec<u8> {
             };
             entailment(random, (3, 2), (3, 3), (counts, counts), change)
         }
+        2 => some_among(random),
         _ => {
             let (entailment, disequations) = (random.once_in(2), random.below(32));
             crowded(random, entailment, disequations)

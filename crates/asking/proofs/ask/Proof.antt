@@ -30,7 +30,7 @@ returns-2 : tie.Need-returns-2
 returns-2 c =
     let reading = c .before .before .before in
     let start = reading .before .before .before .before .before .args in
-    let T = answer-taken (start .question .now) _ (reading .read .ensures .0) _ (reading .read .ensures .1 .1) (c .before .before .if1 .left) in
+    let T = answer-taken (start .question .now) _ (reading .read .ensures .0) _ (reading .read .ensures .1 .1 .0) (c .before .before .if1 .left) in
     given-refused (start .question .now) (start .answer .now) (start .work .now) 11 0
     (asked-11 (start .question .now) (length (start .answer .now)) (length (start .work .now)) (T .question) (T .read)
     (rw (levels-are _ _ (T .stands)) (c .before .if2 .taken))) _ (c .refused2 .ensures)
@@ -42,7 +42,7 @@ returns-3 : tie.Need-returns-3
 returns-3 c =
     let reading = c .before .before .before .before in
     let start = reading .before .before .before .before .before .args in
-    let T = answer-taken (start .question .now) _ (reading .read .ensures .0) _ (reading .read .ensures .1 .1) (c .before .before .before .if1 .left) in
+    let T = answer-taken (start .question .now) _ (reading .read .ensures .0) _ (reading .read .ensures .1 .1 .0) (c .before .before .before .if1 .left) in
     given-refused (start .question .now) (start .answer .now) (start .work .now) 12 0
     (asked-12 (start .question .now) (length (start .answer .now)) (length (start .work .now)) (T .question) (T .read)
     (rw (levels-are _ _ (T .stands)) (c .before .before .if2 .left)) (c .before .if3 .taken)) _ (c .refused3 .ensures)
@@ -53,27 +53,27 @@ taken : (c : tie.Else3) → (
     Taken (reading .before .before .before .before .before .args .question .now) (reading .read .result) (reading .read .last .1 .0))
 taken c =
     let reading = c .before .before .before in
-    answer-taken (reading .before .before .before .before .before .args .question .now) _ (reading .read .ensures .0) _ (reading .read .ensures .1 .1) (c .before .before .if1 .left)
+    answer-taken (reading .before .before .before .before .before .args .question .now) _ (reading .read .ensures .0) _ (reading .read .ensures .1 .1 .0) (c .before .before .if1 .left)
 
 sizes-of-requires : tie.Need-sizes-of-requires
 sizes-of-requires c κs = let T = taken (c .before .before .before) in (refl, (T .question, record { clauses = _; stands = T .stands }))
 
 decide-requires : tie.Need-decide-requires
 decide-requires c κs =
-    let sized = c .before .before .before in
+    let sized = c .before .before .before .before .before in
     let T = taken (sized .before .before .before .before) in
-    ((T .question, T .stands, T .formed), sized .sizes-of .ensures)
+    ((T .question, T .stands, T .formed), sized .sizes-of .ensures, refl)
 
 show-solution-requires : tie.Need-show-solution-requires
 show-solution-requires c κs =
-    let sized = c .before .before .before .before .before .before in
+    let sized = c .before .before .before .before .before .before .before .before in
     let passed = sized .before .before .before .before in
     let T = taken passed in (
       passed .before .if2 .left,
       (
         T .question,
         record {
-          sizing = record { question = _; standing = record { clauses = _; stands = T .stands }; sized = sized .sizes-of .ensures };
+          sizing = record { question = passed .before .before .before .read .result .question; standing = record { clauses = _; stands = T .stands }; sized = sized .sizes-of .ensures };
           decided = c .before .before .decide .ensures (T .question) (T .stands) (T .formed);
         },
       ),
@@ -84,9 +84,10 @@ clear-work-requires c κs = search needs
 
 found-requires : tie.Need-found-requires
 found-requires c κs =
-    let sizes = c .before .before .before .before .before .before .before .before .before .before .before .before .before in
-    let T = taken (sizes .before .before .before .before) in
-    (T .question, record { question = _; standing = record { clauses = _; stands = T .stands }; sized = sizes .sizes-of .ensures })
+    let sizes = c .before .before .before .before .before .before .before .before .before .before .before .before .before .before .before in
+    let passed = sizes .before .before .before .before in
+    let T = taken passed in
+    (T .question, record { question = passed .before .before .before .read .result .question; standing = record { clauses = _; stands = T .stands }; sized = sizes .sizes-of .ensures })
 
 same-length : tie.Need-same-length
 same-length c = search needs
@@ -98,14 +99,14 @@ returns-4 : tie.Need-returns-4
 returns-4 c =
     let shown = c .before .before .before .before .before .before .before in
     let found = shown .before .before .before in
-    let sized = found .before .before .before .before in
+    let sized = found .before .before .before .before .before .before in
     let passed = sized .before .before .before .before in
     let start = passed .before .before .before .before .before .before .before .before .args in
     let T = taken passed in
     given-answer (start .question .now) (start .answer .now) (start .work .now) _ _ T
     (rw (levels-are _ _ (T .stands)) (passed .before .if2 .left)) (passed .if3 .left) _ _ _
     (record {
-      sizing = record { question = _; standing = record { clauses = _; stands = T .stands }; sized = sized .sizes-of .ensures };
+      sizing = record { question = passed .before .before .before .read .result .question; standing = record { clauses = _; stands = T .stands }; sized = sized .sizes-of .ensures };
       decided = found .decide .ensures (T .question) (T .stands) (T .formed);
     })
     _ (c .found .ensures) _ (shown .show-solution .ensures) _ (c .before .before .before .clear-work .ensures)

@@ -6,7 +6,7 @@ use native.Mathlib.Omega.{arith}
 use lib.Pow.{pow-pos, pow-lt}
 use Rattle.shares.specs.Constant.{bit}
 use Rattle.shares.specs.BitLaws.{bit-or}
-use Rattle.words.specs.Shifts.{power-shift}
+use Rattle.shares.specs.Shifts.{power-shift}
 use Rattle.beside.specs.GatherLaws.{merged-same}
 use Rattle.beside.specs.MergeLaws.{merge-start, merge-more, merge-whole}
 use Rattle.beside.specs.Beside.{MergedTo}

@@ -2,8 +2,6 @@
 use mathlib.Core.Path.{refl}
 use borrow.Author.Needs.{needs}
 use Rattle.decide.specs.DecideLaws.{flip, decided-vacuous, decided-unmet, decided-entailed, decided-missed}
-use Rattle.decide.specs.NamedLaws.{solved-same, surveyed-same}
-use Rattle.steps.specs.declared.Search.the-variants.{Missed}
 use Rattle.decide.proofs.decide_entailment.Statement.{statement}
 use Rattle.decide.proofs.decide_entailment.Tie as tie
 
@@ -12,13 +10,13 @@ survey-leaves-requires c κs = (c .before .pre .0, (c .before .pre .1, c .before
 
 returns : tie.Need-returns
 returns c =
-    λ constants same k q St kind e.
-    decided-vacuous _ q St _ _ (rw e at (surveyed-same _ _ _ constants _ _ _ same _ (c .before .before .survey-leaves .ensures))) kind (flip _ (c .if1 .taken))
+    λ k q St kind e.
+    decided-vacuous _ q St _ _ (rw e at (c .before .before .survey-leaves .ensures)) kind (flip _ (c .if1 .taken))
 
 returns-2 : tie.Need-returns-2
 returns-2 c =
-    λ constants same k q St kind e.
-    decided-unmet _ q St _ _ (rw e at (surveyed-same _ _ _ constants _ _ _ same _ (c .before .before .before .survey-leaves .ensures))) kind (flip _ (c .before .if1 .left)) (c .if2 .taken)
+    λ k q St kind e.
+    decided-unmet _ q St _ _ (rw e at (c .before .before .before .survey-leaves .ensures)) kind (flip _ (c .before .if1 .left)) (c .if2 .taken)
 
 element-copy-out-if3 : tie.Need-element-copy-out-if3
 element-copy-out-if3 c = search needs
@@ -31,15 +29,15 @@ solve-requires c κs =
 returns-3 : tie.Need-returns-3
 returns-3 c =
     let tests = c .before .before .before .before in
-    λ constants same k q St kind e.
-    decided-missed _ q St _ _ (rw e at (surveyed-same _ _ _ constants _ _ _ same _ (tests .before .before .before .survey-leaves .ensures))) kind (flip _ (tests .before .if1 .left)) (tests .if2 .left)
-    (c .before .before .if3 .taken) _ _ (rw e at (solved-same _ _ _ constants _ _ _ same _ (Missed _) (c .before .before .if3 .taken) (c .solve .ensures)))
+    λ k q St kind e.
+    decided-missed _ q St _ _ (rw e at (tests .before .before .before .survey-leaves .ensures)) kind (flip _ (tests .before .if1 .left)) (tests .if2 .left)
+    (c .before .before .if3 .taken) _ _ (rw e at (c .solve .ensures))
 
 returns-4 : tie.Need-returns-4
 returns-4 c =
     let tests = c .before .before in
-    λ constants same k q St kind e.
-    decided-entailed _ q St _ _ (rw e at (surveyed-same _ _ _ constants _ _ _ same _ (tests .before .before .before .survey-leaves .ensures))) kind (flip _ (tests .before .if1 .left)) (tests .if2 .left)
+    λ k q St kind e.
+    decided-entailed _ q St _ _ (rw e at (tests .before .before .before .survey-leaves .ensures)) kind (flip _ (tests .before .if1 .left)) (tests .if2 .left)
     (c .if3 .left)
 
 pub decide-entailment-spec : {M : Type 1} → statement M

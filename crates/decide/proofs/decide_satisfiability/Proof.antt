@@ -1,8 +1,6 @@
 -- `decide::decide_satisfiability` meets its contract: two findings. Assumes nothing.
 use mathlib.Core.Path.{refl}
 use Rattle.decide.specs.DecideLaws.{decided-satisfied, decided-unsatisfied}
-use Rattle.decide.specs.NamedLaws.{solved-same}
-use Rattle.steps.specs.declared.Search.the-variants.{First}
 use Rattle.decide.proofs.decide_satisfiability.Statement.{statement}
 use Rattle.decide.proofs.decide_satisfiability.Tie as tie
 
@@ -11,13 +9,13 @@ solve-requires c κs = (c .before .pre .0, (tt, c .before .pre .1, c .before .pr
 
 returns : tie.Need-returns
 returns c =
-    λ constants same k q St kind e.
-    decided-satisfied _ q St _ _ (rw e at (solved-same _ _ _ constants _ _ _ same _ First tt (c .before .solve .ensures))) kind (c .if1 .taken)
+    λ k q St kind e.
+    decided-satisfied _ q St _ _ (rw e at (c .before .solve .ensures)) kind (c .if1 .taken)
 
 returns-2 : tie.Need-returns-2
 returns-2 c =
-    λ constants same k q St kind e.
-    decided-unsatisfied _ q St _ _ (rw e at (solved-same _ _ _ constants _ _ _ same _ First tt (c .before .solve .ensures))) kind (c .if1 .left)
+    λ k q St kind e.
+    decided-unsatisfied _ q St _ _ (rw e at (c .before .solve .ensures)) kind (c .if1 .left)
 
 pub decide-satisfiability-spec : {M : Type 1} → statement M
 decide-satisfiability-spec =

@@ -6,7 +6,7 @@ use lib.ListN.{length-set}
 use Rattle.entries.specs.EntryLaws.{kept-before, kept-none, kept-found}
 use Rattle.shares.specs.BitLaws.{bit-zero}
 use Rattle.shares.specs.Constant.{bit}
-use Rattle.words.specs.Shifts.{power-shift}
+use Rattle.shares.specs.Shifts.{power-shift}
 use Rattle.entries.proofs.keep_word.Statement.{statement}
 use Rattle.entries.proofs.keep_word.Tie as tie
 

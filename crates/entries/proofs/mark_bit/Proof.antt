@@ -3,7 +3,7 @@ use mathlib.Core.Path.{sym, _∙_}
 use native.Mathlib.Omega.{arith}
 use borrow.Author.Needs.{needs}
 use Rattle.entries.specs.BitLaws.{bit-added, bit-not-added}
-use Rattle.words.specs.Shifts.{power-shift}
+use Rattle.shares.specs.Shifts.{power-shift}
 use Rattle.entries.proofs.mark_bit.Statement.{statement}
 use Rattle.entries.proofs.mark_bit.Tie as tie
 

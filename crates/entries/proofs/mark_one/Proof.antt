@@ -4,7 +4,7 @@ use native.Mathlib.Omega.{arith}
 use borrow.Author.Needs.{needs}
 use borrow.Author.Tests.{not-true, not-false}
 use Rattle.entries.specs.MarkLaws.{marked-not, marked-none, marked-more}
-use Rattle.words.specs.Shifts.{power-shift}
+use Rattle.shares.specs.Shifts.{power-shift}
 use Rattle.entries.proofs.mark_one.Statement.{statement}
 use Rattle.entries.proofs.mark_one.Tie as tie
 

@@ -10,7 +10,7 @@ use lib.Pow.{pow-lt, pow-pos}
 use borrow.Author.Needs.{needs}
 use Rattle.shares.specs.Test.{of-false, holds}
 use Rattle.shares.specs.BitLaws.{bit-zero}
-use Rattle.words.specs.Shifts.{power-shift}
+use Rattle.shares.specs.Shifts.{power-shift}
 use Rattle.steps.specs.Steps.{storedBy, PlacedWithin}
 use Rattle.pass.specs.PassLaws.{values-within}
 use Rattle.extending.specs.Looks.{allMet, LeavesLooked}
@@ -20,7 +20,7 @@ use Rattle.extending.proofs.extends.Tie as tie
 
 abbrev Inv-loop : tie.InvT-loop
 Inv-loop table clauses constants sizes terms₀ keys wanted₀ b₀ terms wanted b = (b ≤ 32) × (wanted < 2 ^ 64)
-    × PlacedWithin (sizes .free) (sizes .own) (sizes .defined) terms
+    × PlacedWithin (sizes .free) (sizes .own) (sizes .named) terms
     × LeavesLooked (storedBy sizes clauses constants) table b (2 ^ getD (sizes .counts) 3 0 - 1) (allMet wanted)
 
 abbrev μ-loop : tie.MeasureT-loop

@@ -5,8 +5,9 @@ use native.Mathlib.Omega.{arith}
 use lib.Bits.{and-le-l}
 use lib.ListN.{length}
 use lib.Pow.{pow-mono}
+use Rattle.words.specs.LowestLaws.{lowest-set}
 use Rattle.extending.specs.Looks.{Added, BitOf}
-use Rattle.extending.specs.MarkLaws.{choice-lt, Done, wordChoice, lowest-set, less-rest, rest-more, word-start, word-more, word-done}
+use Rattle.extending.specs.MarkLaws.{choice-lt, Done, wordChoice, less-rest, rest-more, word-start, word-more, word-done}
 use Rattle.extending.proofs.mark_word.Statement.{statement}
 use Rattle.extending.proofs.mark_word.Tie as tie
 

@@ -10,11 +10,11 @@ use Rattle.extending.proofs.put_keys.Statement.{statement}
 use Rattle.extending.proofs.put_keys.Tie as tie
 
 abbrev Inv-loop : tie.InvT-loop
-Inv-loop constants defined keys₀ b₀ keys b =
-    (b ≤ 32) × (length keys ≡ length keys₀) × ((a : ℕ) → a < b → getD keys a 0 ≡ valuesAt constantLevels constants defined constantLevels a)
+Inv-loop constants named keys₀ b₀ keys b =
+    (b ≤ 32) × (length keys ≡ length keys₀) × ((a : ℕ) → a < b → getD keys a 0 ≡ valuesAt constantLevels constants named constantLevels a)
 
 abbrev μ-loop : tie.MeasureT-loop
-μ-loop constants defined keys₀ b₀ keys b = 32 - b
+μ-loop constants named keys₀ b₀ keys b = 32 - b
 
 loop-holds : tie.Need-loop-holds Inv-loop μ-loop
 loop-holds c = (omega arith, refl, λ a l. absurd (omega arith))
@@ -40,7 +40,7 @@ loop-again c =
     let l = c .before .before .loop in (
       omega arith,
       simp length-set (l .inv .1),
-      keys-more (valuesAt constantLevels (a .constants .now) (a .defined) constantLevels) (l .keys) (l .b) (c .values-at .result) (omega arith)
+      keys-more (valuesAt constantLevels (a .constants .now) (a .named) constantLevels) (l .keys) (l .b) (c .values-at .result) (omega arith)
           (c .values-at .ensures) (l .inv .2),
     )
 

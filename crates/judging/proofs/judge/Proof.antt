@@ -31,7 +31,7 @@ returns-2 : tie.Need-returns-2
 returns-2 c =
     let reading = c .before .before .before in
     let start = reading .before .before .before .before .args in
-    let T = answer-taken (start .question .now) _ (reading .read .ensures .0) _ (reading .read .ensures .1 .1) (c .before .if1 .left) in
+    let T = answer-taken (start .question .now) _ (reading .read .ensures .0) _ (reading .read .ensures .1 .1 .0) (c .before .if1 .left) in
     judges-refused _ _ 18 0 (judged-18 _ (start .rows .now) (T .question) (T .read) (rw (levels-are _ _ (T .stands)) (ne-eqb _ 1536 (c .if2 .taken))))
 
 -- what was read, once the tests are passed
@@ -40,7 +40,7 @@ taken : (c : tie.After-struct-known2) → (
     Taken (reading .before .before .before .before .args .question .now) (reading .read .result) (reading .read .last .1 .0))
 taken c =
     let reading = c .before .before .before .before in
-    answer-taken (reading .before .before .before .before .args .question .now) _ (reading .read .ensures .0) _ (reading .read .ensures .1 .1) (c .before .before .if1 .left)
+    answer-taken (reading .before .before .before .before .args .question .now) _ (reading .read .ensures .0) _ (reading .read .ensures .1 .1 .0) (c .before .before .if1 .left)
 
 -- the rows are as long as they must be
 long : (c : tie.After-struct-known2) → (
@@ -76,7 +76,7 @@ judge-rows-requires : tie.Need-judge-rows-requires
 judge-rows-requires c κs =
     let known = c .before .before .before in
     let T = taken known in
-    (known .before .if2 .left, (T .question, T .read, T .stands))
+    (known .before .if2 .left, ((T .question, T .read, T .stands), known .before .before .before .before .read .ensures .1 .1 .1 (T .question) (T .read)))
 
 returns-4 : tie.Need-returns-4
 returns-4 c =

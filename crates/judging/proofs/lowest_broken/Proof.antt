@@ -6,15 +6,16 @@ use borrow.Author.Needs.{needs}
 use lib.ListN.{length}
 use Rattle.format.specs.Format.{commandOf, readAt}
 use Rattle.format.specs.declared.Step.the-variants.{Take}
-use Rattle.judging.specs.WalkLaws.{read-past, read-unknown, read-short, read-take, moves, Gone, gone-start, lowest-refused, lowest-end, gone-other, gone-fits, lowest-broken, gone-first, first-few}
+use Rattle.judging.specs.Walk.{Gone}
+use Rattle.judging.specs.WalkLaws.{read-past, read-unknown, read-short, read-take, moves, gone-start, gone-led, lowest-refused, lowest-end, gone-other, gone-fits, lowest-broken, gone-first, first-few}
 use Rattle.judging.proofs.lowest_broken.Statement.{statement}
 use Rattle.judging.proofs.lowest_broken.Tie as tie
 
 abbrev Inv-loop : tie.InvT-loop
-Inv-loop bytes leaves count₀ at₀ count at = Gone bytes leaves at count
+Inv-loop bytes from leaves count₀ at₀ count at = Gone bytes leaves at count
 
 abbrev μ-loop : tie.MeasureT-loop
-μ-loop bytes leaves count₀ at₀ count at = length bytes - at
+μ-loop bytes from leaves count₀ at₀ count at = length bytes - at
 
 -- the command that is read, where it is whole
 took : (c : tie.Else1 Inv-loop μ-loop) → (
@@ -28,7 +29,7 @@ took c =
     (rw (c .before .operand-count .ensures) at (c .if1 .left)))
 
 loop-holds : tie.Need-loop-holds Inv-loop μ-loop
-loop-holds c = gone-start _ _
+loop-holds c = rw (c .before .pre .1) (gone-led _ _ 32 0 (gone-start _ _))
 
 shared-slice-read-entry-of : tie.Need-shared-slice-read-entry-of Inv-loop μ-loop
 shared-slice-read-entry-of c = search needs
@@ -50,8 +51,8 @@ returns c =
 operand-count-requires : tie.Need-operand-count-requires Inv-loop μ-loop
 operand-count-requires c κs = search needs
 
-add-from : tie.Need-add-from Inv-loop μ-loop
-add-from c = search needs
+add-first : tie.Need-add-first Inv-loop μ-loop
+add-first c = search needs
 
 sub-if1 : tie.Need-sub-if1 Inv-loop μ-loop
 sub-if1 c = search needs
@@ -86,7 +87,7 @@ is-broken-requires c κs =
     let start = whole .before .before .before .before .before .before .before .before .before .before in
     let F =
     gone-fits _ _ (whole .before .before .before .before .before .before .before .before .loop .inv) (took whole)
-    (sym (c .before .before .before .is-end .ensures _ _) ∙ c .before .before .if2 .left) (sym (c .before .is-first .ensures _ _) ∙ c .if3 .taken) (start .pre .0) (start .pre .1) in
+    (sym (c .before .before .before .is-end .ensures _ _) ∙ c .before .before .if2 .left) (sym (c .before .is-first .ensures _ _) ∙ c .if3 .taken) (start .pre .0 .0) (start .pre .0 .1) in
     (omega (arith, moves _ _ (took whole) .1, whole .before .operand-count .ensures), F .0)
 
 returns-4 : tie.Need-returns-4 Inv-loop μ-loop
@@ -103,8 +104,8 @@ add-count c =
     let start = whole .before .before .before .before .before .before .before .before .before .before in
     let F =
     gone-fits _ _ (whole .before .before .before .before .before .before .before .before .loop .inv) (took whole)
-    (sym (first .before .before .before .is-end .ensures _ _) ∙ first .before .before .if2 .left) (sym (first .before .is-first .ensures _ _) ∙ first .if3 .taken) (start .pre .0) (start .pre .1) in
-    omega (arith, F .1, first-few _ (start .pre .0) (start .pre .1))
+    (sym (first .before .before .before .is-end .ensures _ _) ∙ first .before .before .if2 .left) (sym (first .before .is-first .ensures _ _) ∙ first .if3 .taken) (start .pre .0 .0) (start .pre .0 .1) in
+    omega (arith, F .1, first-few _ (start .pre .0 .0) (start .pre .0 .1))
 
 loop-less : tie.Need-loop-less Inv-loop μ-loop
 loop-less c = let M = moves _ _ (took (c .before .before .before .before .before .before)) in omega (arith, M .0, M .1)
@@ -141,7 +142,7 @@ lowest-broken-spec =
     enum-told
     returns
     operand-count-requires
-    add-from
+    add-first
     sub-if1
     returns-2
     is-end-requires

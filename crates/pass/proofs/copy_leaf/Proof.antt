@@ -4,7 +4,7 @@ use native.Mathlib.Omega.{arith}
 use lib.ListN.{length-set}
 use borrow.Author.Needs.{needs}
 use Rattle.pass.specs.LeafLaws.{copied}
-use Rattle.words.specs.Shifts.{power-shift}
+use Rattle.shares.specs.Shifts.{power-shift}
 use Rattle.pass.proofs.copy_leaf.Statement.{statement}
 use Rattle.pass.proofs.copy_leaf.Tie as tie
 

@@ -12,13 +12,13 @@ use Rattle.pass.specs.PassLaws.{values-within, keys-more, after-none, pa
 use Rattle.steps.specs.Tests.{leafValues}
 use Rattle.shares.specs.BitLaws.{bit-zero}
 use Rattle.shares.specs.Test.{of-true}
-use Rattle.words.specs.Shifts.{power-shift}
+use Rattle.shares.specs.Shifts.{power-shift}
 use Rattle.pass.proofs.pass_leaves.Statement.{statement}
 use Rattle.pass.proofs.pass_leaves.Tie as tie
 
 abbrev Inv-loop : tie.InvT-loop
 Inv-loop clauses constants search firsts₀ rows₀ sizes terms₀ keys₀ leaves seen₀ b₀ firsts rows terms keys seen b = (b ≤ leaves)
-    × (length keys ≡ 32) × PlacedWithin (sizes .free) (sizes .own) (sizes .defined) terms
+    × (length keys ≡ 32) × PlacedWithin (sizes .free) (sizes .own) (sizes .named) terms
     × ((i : ℕ) → i < b → getD keys i 0 ≡ leafValues (storedBy sizes clauses constants) (sizes .height) i)
     × After (storedBy sizes clauses constants) (sizes .height) search b seen firsts rows
 

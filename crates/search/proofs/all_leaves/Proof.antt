@@ -7,7 +7,7 @@ use Rattle.shares.specs.Below.{everyBelow}
 use Rattle.shares.specs.BelowLaws.{every-ext}
 use Rattle.shares.specs.Constant.{bit}
 use Rattle.shares.specs.BitParts.{bit-shift}
-use Rattle.words.specs.Shifts.{power-shift}
+use Rattle.shares.specs.Shifts.{power-shift}
 use borrow.Author.Needs.{needs}
 use Rattle.search.proofs.all_leaves.Statement.{statement}
 use Rattle.search.proofs.all_leaves.Tie as tie

@@ -7,13 +7,12 @@ use Prim.Native.Nat.{_+_, _*_}
 use native.Mathlib.Omega.{arith}
 use borrow.Author.Needs.{needs}
 use borrow.Author.Tests.{eq-eqb}
-use Rattle.entries.specs.BitLaws.{power-bit}
 use Rattle.steps.specs.Steps.{storedBy}
 use Rattle.steps.specs.Tests.{secondDiffers}
 use Rattle.shares.specs.BitLaws.{bit-zero}
 use Rattle.shares.specs.Constant.{bit}
 use Rattle.shares.specs.Test.{of-true}
-use Rattle.words.specs.Shifts.{power-shift}
+use Rattle.shares.specs.Shifts.{power-shift, power-bit}
 use Rattle.steps.proofs.missed_word.Statement.{statement}
 use Rattle.steps.proofs.missed_word.Tie as tie
 

@@ -18,7 +18,7 @@ put-constants-requires c κs = search needs
 returns : tie.Need-returns
 returns c =
     let s = c .before .before .before .before .before .before .before in
-    unfolded-all constantLevels (omega arith) (s .args .rows .now) (s .args .constants .now) (s .args .count) (s .pre .0) (s .pre .2)
+    unfolded-all constantLevels (omega arith) (s .args .rows .now) (s .args .constants .now) (s .args .named) (s .pre .0) (s .pre .2)
     (c .before .before .before .before .put-rows .ensures) (c .before .before .put-full .ensures) (c .put-constants .ensures)
 
 pub unfold-spec : {M : Type 1} → statement M

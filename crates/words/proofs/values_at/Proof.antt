@@ -4,7 +4,7 @@ use Prim.Native.Nat.{_-_, _*_, _%_, _^_, _<_}
 use native.Mathlib.Omega.{arith}
 use Rattle.shares.specs.Constant.{constantLevels}
 use Rattle.shares.specs.BlockLaws.{first-lt}
-use Rattle.words.specs.Shifts.{power-shift}
+use Rattle.shares.specs.Shifts.{power-shift}
 use Rattle.words.specs.TermLaws.{values-is}
 use borrow.Author.Needs.{needs}
 use Rattle.words.proofs.values_at.Statement.{statement}

@@ -4,7 +4,7 @@ use Prim.Native.Nat.{_-_, _^_}
 use native.Mathlib.Omega.{arith}
 use borrow.Author.Needs.{needs}
 use Rattle.words.specs.Choices.{wordCount}
-use Rattle.words.specs.Shifts.{power-shift}
+use Rattle.shares.specs.Shifts.{power-shift}
 use Rattle.words.proofs.word_count.Statement.{statement}
 use Rattle.words.proofs.word_count.Tie as tie
 

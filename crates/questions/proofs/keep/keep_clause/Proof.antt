@@ -1,8 +1,8 @@
 -- `questions::keep::keep_clause` meets its contract, by cases on the command. Assumes nothing.
-use mathlib.Core.Path.{subst}
+use mathlib.Core.Path.{refl, subst}
 use native.Mathlib.Omega.{arith}
 use borrow.Author.Needs.{needs}
-use Rattle.format.specs.Keeping.{Slot}
+use Rattle.format.specs.Keeping.{SmallIn, Slot}
 use Rattle.questions.proofs.keep.keep_clause.Statement.{statement}
 use Rattle.questions.proofs.keep.keep_clause.Tie as tie
 
@@ -27,12 +27,12 @@ section-count-requires c κs = search needs
 mul-i : tie.Need-mul-i
 mul-i c =
     let start = c .before .before .before .before .before .before in
-    omega (arith, subst (Slot (start .args .counts .now)) (c .before .before .before .command .given .1) (start .pre .1), c .section-count .ensures, c .before .section-start .ensures)
+    omega (arith, subst (Slot (start .args .counts .now)) (c .before .before .before .command .given .1) (start .pre .1 .0), c .section-count .ensures, c .before .section-start .ensures)
 
 add-i : tie.Need-add-i
 add-i c =
     let start = c .before .before .before .before .before .before in
-    omega (arith, subst (Slot (start .args .counts .now)) (c .before .before .before .command .given .1) (start .pre .1), c .section-count .ensures, c .before .section-start .ensures)
+    omega (arith, subst (Slot (start .args .counts .now)) (c .before .before .before .command .given .1) (start .pre .1 .0), c .section-count .ensures, c .before .section-start .ensures)
 
 join-for-requires : tie.Need-join-for-requires
 join-for-requires c κs = search needs
@@ -40,23 +40,32 @@ join-for-requires c κs = search needs
 store-requires : tie.Need-store-requires
 store-requires c κs =
     let start = c .before .before .before .before .before .before .before .before in
-    omega (arith, start .pre .0, subst (Slot (start .args .counts .now)) (c .before .before .before .before .before .command .given .1) (start .pre .1), c .before .before .section-count .ensures, c .before .before .before .section-start .ensures)
+    omega (arith, start .pre .0, subst (Slot (start .args .counts .now)) (c .before .before .before .before .before .command .given .1) (start .pre .1 .0), c .before .before .section-count .ensures, c .before .before .before .section-start .ensures)
+
+constants-in-requires : tie.Need-constants-in-requires
+constants-in-requires c κs =
+    let start = c .before .before .before .before .before .before .before .before .before .before .before in
+    let command = c .before .before .before .before .before .before .before .before .command in
+    rw (c .before .before .before .before .join-for .ensures) (subst SmallIn (command .given .1) (start .pre .1 .1))
 
 returns : tie.Need-returns
-returns c = simp (c .enum-told .given .1)
+returns c = simp (c .enum-told .given .1) (refl, refl)
 
 returns-2 : tie.Need-returns-2
-returns-2 c = simp (c .enum-told2 .given .1)
+returns-2 c = simp (c .enum-told2 .given .1) (refl, refl)
 
 returns-3 : tie.Need-returns-3
-returns-3 c = simp (c .enum-told3 .given .1)
+returns-3 c = simp (c .enum-told3 .given .1) (refl, refl)
 
 same-length : tie.Need-same-length
 same-length c = search needs
 
 returns-4 : tie.Need-returns-4
 returns-4 c =
-    simp (c .before .before .before .before .before .before .before .before .command .given .1, c .before .before .store .ensures, c .before .before .before .join-for .ensures, c .before .before .before .before .before .section-count .ensures, c .before .before .before .before .before .before .section-start .ensures)
+    let counted = c .before .before .before .before .before .before in
+    let join = c .before .before .before .before .before .join-for in
+    simp (counted .before .before .before .command .given .1, c .before .before .before .store .ensures, c .constants-in .ensures, join .ensures, counted .section-count .ensures, counted .before .section-start .ensures)
+    (refl, refl)
 
 pub keep-clause-spec : {M : Type 1} → statement M
 keep-clause-spec =
@@ -72,6 +81,7 @@ keep-clause-spec =
     add-i
     join-for-requires
     store-requires
+    constants-in-requires
     returns
     returns-2
     returns-3
