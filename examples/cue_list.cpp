@@ -73,10 +73,12 @@ void report_judged(const char* judged, const Question& question, std::initialize
         take(rows.set(Free{variable++}, share).error);
     }
     const zimorgal::Judged result = judge(question, rows);
-    std::cout << "  " << describe(result.judgement);
-    if (result.refusal != zimorgal::Refusal::none) std::cout << ": " << describe(result.refusal);
-    if (result.clause) std::cout << ": " << text_of(question, zimorgal::System::first, *result.clause);
-    std::cout << '\n';
+    std::cout << "  " << text_of(question, rows, result) << '\n';
+    if (!result.failing) return;
+    std::cout << "  at leaf " << result.failing->leaf << ":\n";
+    for (std::size_t i = 0; i < variable; ++i)
+        std::cout << "    " << std::left << std::setw(10) << names[i]
+                  << (full_at(rows.row(Free{i}), result.failing->leaf) ? "full" : "empty") << '\n';
 }
 
 // What another prover found: that a third thread may read, and that there is not always a part left.

@@ -105,6 +105,9 @@ static void report_judged(const char *judged, const uint8_t *question, size_t le
     const uint64_t result = zimorgal_judge(question, length, rows, sizeof rows);
     printf("  %s", zimorgal_describe_judgement(zimorgal_judgement(result)));
     if (zimorgal_judgement(result) == ZIMORGAL_CLAUSE_BROKEN) printf(", number %u", zimorgal_broken_clause(result));
+    /* A positive clause fails at a leaf; a disequation has none. */
+    if (zimorgal_broken_way(result) != ZIMORGAL_HOLDS)
+        printf("; %s, at leaf %zu", zimorgal_describe_way(zimorgal_broken_way(result)), zimorgal_broken_leaf(result));
     if (zimorgal_judgement(result) == ZIMORGAL_NOT_JUDGED)
         printf(" at byte %u: %s", zimorgal_place(result), zimorgal_describe_refusal(zimorgal_refusal(result)));
     printf("\n");
@@ -113,6 +116,7 @@ static void report_judged(const char *judged, const uint8_t *question, size_t le
 /* What another prover found, for the first question, for the second and for the one with a mistake. */
 static const char *const three_parts[] = {"((*o)o)", "((o*)o)", "(*o)", "(o*)"};
 static const char *const none_for_the_recorder[] = {"(*o)", "(o*)", "*", "o"};
+static const char *const part_of_the_sound[] = {"((*o)o)", "((o*)o)", "(*o)", "((o*)o)"};
 static const char *const nothing_left[] = {"(*o)", "(o*)", "*"};
 static const char *const half_left[] = {"(*o)", "o", "(*o)"};
 static const char *const not_folded[] = {"(*o)", "(o(**))", "*"};
@@ -152,6 +156,7 @@ int main(void) {
     report_judged("Another prover lets the third thread read. Is it right?", third_thread, sizeof third_thread,
                   ALL_OF(three_parts));
     report_judged("And these parts?", third_thread, sizeof third_thread, ALL_OF(none_for_the_recorder));
+    report_judged("And these?", third_thread, sizeof third_thread, ALL_OF(part_of_the_sound));
     report_judged("Another prover says that no part need be left. Is it right?", part_left, sizeof part_left,
                   ALL_OF(nothing_left));
     report_judged("And these parts?", part_left, sizeof part_left, ALL_OF(half_left));

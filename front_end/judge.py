@@ -3,9 +3,11 @@
 import re
 
 from front_end.answer import file_name
+from front_end.broken import OVERLAP, SHORTFALL, SURPLUS, Broken
 from front_end.text import KINDS
+from front_end.trees import TALLEST_ROW, write_tree
 
-SAID = re.compile(r"(accepted|broken|extends)(?: (0|[1-9]\d?))?\n", re.ASCII)
+SAID = re.compile(rf"(accepted|broken|extends)(?: (0|[1-9]\d?)(?: ({OVERLAP}|{SURPLUS}|{SHORTFALL}) at (0|[1-9]\d{{0,3}}))?)?\n", re.ASCII)
 
 # What a judgement means, from the kind of question and its word (docs/FORMAT.md, "What judging gives").
 MEANINGS = {
@@ -18,48 +20,59 @@ MEANINGS = {
 
 
 class Judgement:
-    """Accepted, broken or extends, of rows for what a text asks; for broken the number of the clause, otherwise None."""
+    """Accepted, broken or extends, of rows for what a text asks; for broken the clause, otherwise None."""
 
-    def __init__(self, asked, word, clause):
+    def __init__(self, asked, rows, word, broken):
         self.asked = asked
+        self.rows = rows
         self.word = word
-        self.clause = clause
+        self.broken = broken
 
     def meaning(self):
         return MEANINGS[self.asked.question.kind, self.word]
 
     def plain(self):
         """The line of the judging program."""
-        return self.word if self.clause is None else f"{self.word} {self.clause}"
+        return f"{self.word} {self.broken.plain()}" if self.broken else self.word
+
+    def sentences(self):
+        """What it says, in words."""
+        return self.broken.sentences() if self.broken else [f"{self.word}: {self.meaning()}"]
 
     def told(self):
-        """The line with the text's own clause, or with what it means."""
-        if self.clause is not None:
-            line = self.asked.first_clauses()[self.clause]
-            return f"broken: clause {self.clause}, line {line.number}: {line}"
-        return self.word if self.word == "accepted" else f"{self.word}: {self.meaning()}"
+        """The lines with the text's own clause, or with what it means."""
+        return self.word if self.word == "accepted" else "\n".join(self.sentences())
+
+    def shown(self):
+        """The tree text of each named free variable and, behind them, of each other share of the broken clause."""
+        trees = {name: write_tree(row, TALLEST_ROW) for name, row in zip(self.asked.names, self.rows) if name}
+        others = self.broken.shares() if self.broken else {}
+        return trees | {word: self.broken.tree(term) for word, term in others.items()}
 
 
-def read_judgement(said, asked):
-    """The judgement that the program's output is, or None if it is not exactly one."""
+def read_judgement(said, asked, rows):
+    """The judgement of rows that the program's output is, or None if it is not exactly one."""
     found = SAID.fullmatch(said)
     if not found or (asked.question.kind, found[1]) not in MEANINGS or (found[1] == "broken") != (found[2] is not None):
         return None
-    clause = None if found[2] is None else int(found[2])
-    if clause is not None and clause >= len(asked.first_clauses()):
+    if found[2] is None:
+        return Judgement(asked, rows, found[1], None)
+    if int(found[2]) >= len(asked.first_clauses()):
         return None
-    return Judgement(asked, found[1], clause)
+    broken = Broken(asked, rows, int(found[2]), found[3], None if found[4] is None else int(found[4]))
+    return Judgement(asked, rows, found[1], broken) if broken.fits() else None
 
 
 def to_object(name, rows_name, judgement=None, trouble=None, at=None):
     """What --json says of rows: always the same keys, None where there is nothing to say; 'at' is the file that has the error."""
-    said = dict.fromkeys(["file", "rows", "judgement", "question", "meaning", "clause", "error"])
+    said = dict.fromkeys(["file", "rows", "judgement", "question", "meaning", "clause", "way", "leaf", "path", "values", "error"])
     said.update(file=file_name(name), rows=file_name(rows_name))
     if trouble:
         said["error"] = {"file": file_name(at), "line": trouble.line, "column": trouble.column, "message": trouble.what}
         return said
     said.update(judgement=judgement.word, question=KINDS[judgement.asked.question.kind], meaning=judgement.meaning())
-    if judgement.clause is not None:
-        line = judgement.asked.first_clauses()[judgement.clause]
-        said["clause"] = {"number": judgement.clause, "line": line.number, "text": str(line)}
+    broken = judgement.broken
+    if broken:
+        said["clause"] = {"number": broken.number, "line": broken.line.number, "text": str(broken.line)}
+        said.update(way=broken.way, leaf=broken.leaf, path=broken.path(), values=broken.values())
     return said

@@ -1,4 +1,5 @@
-"""The picture of an answer, as SVG: what it means in a sentence, and each shown tree over its name.
+"""The picture of an answer, or of rows that were judged, as SVG: what it means in words, and each shown tree over its name. Where a positive clause
+is broken, the leaf where it fails is marked in the trees of its shares.
 
 All trees of a picture are laid out alike, so that the same place in two trees is the same part. Low trees are laid out as if they
 had all leaves of their height, and a half is half as wide; in tall ones each part that some tree splits no further is as wide as any other.
@@ -7,11 +8,14 @@ had all leaves of their height, and a half is half as wide; in tall ones each pa
 from html import escape as escape_all
 from textwrap import wrap
 
+from front_end.broken import SIDES
+
 MARGIN, GAP, LEVEL, LEAF, SLOT = 32, 36, 46, 18, 20
 LOW = 4  # the height of a low tree
 ROW, NARROWEST, THINNEST = 1280, 480, 128  # how wide a row of several trees may be, and a picture and a tree at least
 LETTER, SIGN, LINE = 8, 8.5, 24  # how wide a letter and a sign of tree text are about, and how high a line is
 PAPER, INK, FULL, EMPTY = "#f4f1ea", "#2b2b2b", "#1f3a5f", "#ffffff"
+MARK = ' stroke="#d62f1f" stroke-width="4"'  # the outline of a leaf that is marked
 
 
 def escape(text):
@@ -72,17 +76,18 @@ class Layout:
         self.slot = max(SLOT, THINNEST / count(self.shape))
         self.width = self.slot * count(self.shape)
 
-    def draw(self, tree, shape, left, top):
-        """The drawing of a tree, or of the part of one that is split as a shape; lines before what they lead to."""
+    def draw(self, tree, shape, left, top, path=None):
+        """The drawing of a tree, or of the part of one that is split as a shape; lines before what they lead to. If a path is given, the leaf that it
+        leads to is marked."""
         middle = left + self.slot * count(shape) / 2
         if is_leaf(tree):
-            fill = FULL if tree == "*" else EMPTY
-            return [f'<rect x="{middle - LEAF / 2:g}" y="{top - LEAF / 2:g}" width="{LEAF}" height="{LEAF}" rx="3" fill="{fill}"/>']
+            fill, mark = FULL if tree == "*" else EMPTY, "" if path is None else MARK
+            return [f'<rect x="{middle - LEAF / 2:g}" y="{top - LEAF / 2:g}" width="{LEAF}" height="{LEAF}" rx="3" fill="{fill}"{mark}/>']
         lines = []
-        for half, part in zip(tree, shape):
+        for side, half, part in zip(SIDES, tree, shape):
             wide = self.slot * count(part)
             lines.append(f'<line x1="{middle:g}" y1="{top:g}" x2="{left + wide / 2:g}" y2="{top + LEVEL:g}"/>')
-            lines += self.draw(half, part, left, top + LEVEL)
+            lines += self.draw(half, part, left, top + LEVEL, path[1:] if path and path[0] == side else None)
             left += wide
         return lines + [f'<circle cx="{middle:g}" cy="{top:g}" r="3" fill="{INK}"/>']
 
@@ -97,15 +102,15 @@ def text_line(x, y, size, text, more=""):
     return f'<text x="{x:g}" y="{y:g}" font-size="{size}"{more}>{escape(text)}</text>'
 
 
-def draw_named(layout, name, tree, text, left, top, below):
-    """One tree, and its name and text below."""
+def draw_named(layout, name, tree, text, left, top, below, path):
+    """One tree, with the leaf at the end of a path marked if one is given, and its name and text below."""
     middle, room = left + layout.width / 2, layout.width + GAP / 2
-    return [f"<g><title>{escape(f'{name} {text}')}</title>", f'<g stroke="{INK}" stroke-width="1.5">', *layout.draw(tree, layout.shape, left, top),
-            "</g>", text_line(middle, below, 17, cut(name, room)), text_line(middle, below + LINE, 14, cut(text, room), ' font-family="monospace"'),
-            "</g>"]
+    return [f"<g><title>{escape(f'{name} {text}')}</title>", f'<g stroke="{INK}" stroke-width="1.5">',
+            *layout.draw(tree, layout.shape, left, top, path), "</g>", text_line(middle, below, 17, cut(name, room)),
+            text_line(middle, below + LINE, 14, cut(text, room), ' font-family="monospace"'), "</g>"]
 
 
-def draw_rows(layout, shown, trees, columns, top):
+def draw_rows(layout, shown, trees, columns, top, paths):
     """All trees in rows, and where the last row ends."""
     lines, names = [], list(shown)
     for start in range(0, len(names), columns):
@@ -113,24 +118,35 @@ def draw_rows(layout, shown, trees, columns, top):
         below = top + LEVEL * max(height(trees[name]) for name in row) + 38
         for number, name in enumerate(row):
             left = MARGIN + number * (layout.width + GAP)
-            lines += draw_named(layout, name, trees[name], shown[name], left, top, below)
+            lines += draw_named(layout, name, trees[name], shown[name], left, top, below, paths.get(name))
         top = below + LINE + GAP + LEAF
     return lines, top
 
 
-def picture(asked, answer):
-    """The picture of the answer to what a text asks."""
-    shown = answer.named(asked.names)
+def draw_all(said, shown, paths):
+    """The picture of shown trees under some sentences. In the tree of each name with a path the leaf that it leads to is marked."""
     trees = {name: read_halves(iter(text)) for name, text in shown.items()}
     layout = Layout(list(trees.values()))
     columns = max(1, min(len(shown), int((ROW + GAP) // (layout.width + GAP))))
     wide = max(NARROWEST, round(2 * MARGIN + columns * (layout.width + GAP) - GAP))
-    said = caption(asked, answer)
-    sentence = wrap(said, (wide - 2 * MARGIN) // LETTER)
-    rows, end = draw_rows(layout, shown, trees, columns, MARGIN + LINE * len(sentence) + LEAF)
+    lines = [line for sentence in said for line in wrap(sentence, (wide - 2 * MARGIN) // LETTER)]
+    rows, end = draw_rows(layout, shown, trees, columns, MARGIN + LINE * len(lines) + LEAF, paths)
     tall = end - GAP if shown else end
     return "\n".join([f'<svg xmlns="http://www.w3.org/2000/svg" viewBox="0 0 {wide} {tall}" width="{wide}" height="{tall}" font-family="sans-serif">',
-                      f"<title>{escape(', '.join([said] + [f'{name} {text}' for name, text in shown.items()]))}</title>",
+                      f"<title>{escape(', '.join(['; '.join(said)] + [f'{name} {text}' for name, text in shown.items()]))}</title>",
                       f'<rect width="{wide}" height="{tall}" rx="10" fill="{PAPER}"/>', f'<g fill="{INK}">',
-                      *(text_line(MARGIN, MARGIN + LINE * number + 6, 15, line) for number, line in enumerate(sentence)),
+                      *(text_line(MARGIN, MARGIN + LINE * number + 6, 15, line) for number, line in enumerate(lines)),
                       "</g>", f'<g fill="{INK}" text-anchor="middle">', *rows, "</g>", "</svg>"])
+
+
+def picture(asked, answer):
+    """The picture of the answer to what a text asks."""
+    return draw_all([caption(asked, answer)], answer.named(asked.names), {})
+
+
+def judged_picture(found):
+    """The picture of rows that were judged."""
+    said, broken = found.sentences(), found.broken
+    if not broken or broken.way is None:
+        return draw_all(said, found.shown(), {})
+    return draw_all([*said, "that leaf has a red outline"], found.shown(), dict.fromkeys(broken.shares(), broken.path()))

@@ -90,4 +90,4 @@ def to_judge(asked, rows):
 
 def judge(asked, rows, name):
     """The judgement of rows for what the text in a file of that name asks."""
-    return give(JUDGING, to_judge(asked, rows), lambda said: read_judgement(said, asked), name)
+    return give(JUDGING, to_judge(asked, rows), lambda said: read_judgement(said, asked, rows), name)

@@ -6,7 +6,7 @@ from front_end.files import LONG_NAME, quote, shown
 from front_end.lines import NAME, TextFault, text_end, word_lines
 from front_end.question import COMMANDS, CONSTANTS, JOIN, MOST_VARIABLES
 from front_end.text import CONSTANT_DUE, KEPT, decode, no_share, read_joined
-from front_end.trees import TALLEST_ROW, join, unfold
+from front_end.trees import TALLEST_ROW, unfold
 
 ROW_BYTES = (1 << TALLEST_ROW) // 8
 ROWS_BYTES = MOST_VARIABLES * ROW_BYTES
@@ -116,13 +116,13 @@ def read_rows(string, asked):
 
 def with_joins(question, named):
     """The rows of the named free variables, and after them those of the variables that stand for a join inside a clause: that very join. Where
-    it is undefined the clause is broken whatever the row is, and it is empty."""
+    it is undefined the clause is broken whatever the row is; with the leaves that are full in either, it fails nowhere but where they overlap."""
     rows = named + [None] * (question.free - len(named))
     constants = [unfold(leaves) for leaves in question.constants]
     for command, *terms in question.clauses:
         if command == COMMANDS[JOIN, False] and terms[2] < CONSTANTS and rows[terms[2]] is None:
             a, b = (constants[term - CONSTANTS] if term >= CONSTANTS else rows[term] for term in terms[:2])
-            rows[terms[2]] = join(a, b) or 0
+            rows[terms[2]] = a | b
     return rows
 
 

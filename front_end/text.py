@@ -139,6 +139,7 @@ class TextReader:
         self.free = []
         self.own = []
         self.clauses = []  # of each clause its line
+        self.words = {}  # of each share in a clause of the first system its word, the first in that line, from the line's number and its term
         self.lets = {}  # the constants that have names
         self.lines = {}  # where each name was defined
         self.second = False  # whether the next clause is one of the second system
@@ -336,6 +337,13 @@ class TextReader:
     def read_share(self, line):
         """Takes a name or a tree text, and gives its term."""
         word = line.peek()
+        term = self.read_term(line, word)
+        if not self.second:
+            self.words.setdefault((line.number, term), word)
+        return term
+
+    def read_term(self, line, word):
+        """Takes that word, a name or a tree text, and gives its term."""
         if starts_tree(word):
             with line.here():
                 return self.constant(line.take_tree())
@@ -392,21 +400,37 @@ def decode(string):
 
 class Asked:
     """What a text asks: the question; the names of its variables in order, None for one that stands for a join; of each clause its line; the
-    leaves of each constant that has a name."""
+    leaves of each constant that has a name; of each share in a clause of the first system its word, the first in that line, from the line's
+    number and its term."""
 
-    def __init__(self, question, names, clauses, constants):
+    def __init__(self, question, names, clauses, constants, words):
         self.question = question
         self.names = names
         self.clauses = clauses
         self.constants = constants
+        self.words = words
 
     def disequation(self, number):
         """The line of a disequation of the second system."""
         return self.clauses[self.question.alike(second=True, disequation=True)[number]]
 
+    def first_system(self):
+        """The clauses of the first system as they stand in bytes, each with its line before it: one with joins inside stands there for each."""
+        return [(line, *clause) for line, clause in zip(self.clauses, self.question.clauses) if not CLAUSES[clause[0]].second]
+
     def first_clauses(self):
-        """The lines of the first system's clauses; one with joins inside stands there for each of its clauses."""
-        return [line for line, clause in zip(self.clauses, self.question.clauses) if not CLAUSES[clause[0]].second]
+        """The lines of these clauses."""
+        return [line for line, *_ in self.first_system()]
+
+    def joined(self, term):
+        """The two terms of the first system that are joined to a variable without a name, in the first clause that has it."""
+        return next(terms[:2] for _, _, *terms in self.first_system() if terms[-1] == term)
+
+    def word(self, line, term):
+        """A term of a clause of the first system as its line has it: a name, a tree text, or such words with 'join' between them."""
+        if (line.number, term) in self.words:
+            return self.words[line.number, term]
+        return " join ".join(self.word(line, part) for part in self.joined(term))
 
 
 def read_text(text):
@@ -418,7 +442,7 @@ def read_text(text):
         reader.read(line)
     if reader.question is None:
         raise TextFault("the text asks nothing: 'satisfiable' or 'entails' is due in its first line", 1, 1)
-    return Asked(reader.question, reader.names(), reader.clauses, reader.named_constants())
+    return Asked(reader.question, reader.names(), reader.clauses, reader.named_constants(), reader.words)
 
 
 def in_clauses(question):

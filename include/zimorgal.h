@@ -133,6 +133,20 @@ enum zimorgal_judgement {
     ZIMORGAL_ROWS_EXTEND = 3    /* an entailment: they solve the first system, but extend to the second */
 };
 
+/* How the test of a positive clause comes out at one leaf. There it reads as a join of two parts that give a sum:
+
+       a join b is c    the parts a and b, the sum c
+       a is b           the parts a and empty, the sum b; it fails by surplus or by shortfall
+       a is full        the parts a and empty, the sum full; it fails by shortfall alone
+       a and b may be   the parts a and b, whatever they give; it fails by overlap alone
+       held together */
+enum zimorgal_way {
+    ZIMORGAL_HOLDS = 0,    /* the test holds */
+    ZIMORGAL_OVERLAP = 1,  /* both parts are full */
+    ZIMORGAL_SURPLUS = 2,  /* just one part is full, and the sum is empty */
+    ZIMORGAL_SHORTFALL = 3 /* both parts are empty, and the sum is full */
+};
+
 /* -------- The calls of the library -------- */
 
 /* Answers a question. The result, lowest byte first:
@@ -170,9 +184,13 @@ uint64_t zimorgal_ask(const uint8_t *question, size_t question_length, uint8_t *
        bits 32 to 39   clause number, for a broken clause: the lowest clause of the first system that does not hold. The
                        clauses of the first system, positive ones and disequations, are counted together, as they stand
                        in the question, from 0; those of the second system between them are not counted
-       bits 40 to 63   0 in this version; a later one may say more of a broken clause here, so read the fields by the
-                       functions below
+       bits 40 to 47   way, for a broken positive clause: how its test comes out at the leaf of bits 48 to 63
+       bits 48 to 63   leaf, for a broken positive clause: the leftmost leaf of the rows at which its test does not
+                       hold, 0 to 1,023. Leaf i of a row is bit i mod 8 of byte i div 8; a constant has its leaf
+                       i div 32 there
 
+   Fields without a meaning are 0. So a broken disequation has neither way nor leaf: it fails because what it negates
+   holds at every leaf. The way says whether there is a leaf, since leaf 0 is one too.
    Rows are accepted for a satisfiability exactly if their shares solve the system; for an entailment exactly if they
    solve the first system and the own variables of the second cannot be given shares, of any height, so that it holds
    too. So what is accepted shows the verdict yes of a satisfiability, and the verdict no of an entailment. The rows
@@ -229,6 +247,8 @@ ZIMORGAL_INLINE int zimorgal_shows(uint64_t result, int kind) {
    zimorgal_place read them. */
 ZIMORGAL_INLINE int zimorgal_judgement(uint64_t judged) { return judged & 0xFF; } /* enum zimorgal_judgement */
 ZIMORGAL_INLINE unsigned zimorgal_broken_clause(uint64_t judged) { return judged >> 32 & 0xFF; }
+ZIMORGAL_INLINE int zimorgal_broken_way(uint64_t judged) { return judged >> 40 & 0xFF; } /* enum zimorgal_way */
+ZIMORGAL_INLINE size_t zimorgal_broken_leaf(uint64_t judged) { return judged >> 48; }
 
 /* The fields of what zimorgal_row gives. */
 ZIMORGAL_INLINE size_t zimorgal_row_offset(uint64_t part) { return part & 0xFFFFFFFF; }
@@ -302,6 +322,16 @@ ZIMORGAL_INLINE const char *zimorgal_describe_judgement(int judgement) {
         case ZIMORGAL_CLAUSE_BROKEN: return "rejected: a clause of the first system is broken";
         case ZIMORGAL_ROWS_EXTEND: return "rejected: the rows extend to the second system";
         default: return "unknown judgement";
+    }
+}
+
+ZIMORGAL_INLINE const char *zimorgal_describe_way(int way) {
+    switch (way) {
+        case ZIMORGAL_HOLDS: return "holds";
+        case ZIMORGAL_OVERLAP: return "overlap: both parts are full";
+        case ZIMORGAL_SURPLUS: return "surplus: just one part is full and the sum is empty";
+        case ZIMORGAL_SHORTFALL: return "shortfall: both parts are empty and the sum is full";
+        default: return "unknown way";
     }
 }
 

@@ -31,7 +31,8 @@
 // Question is one that the library accepts, at any time, whatever values a step was given. A Draft takes steps without a
 // test after each and keeps the first error.
 //
-// A solution that someone else found is put together as Rows, or is there as bytes, and judge() says whether it is one.
+// A solution that someone else found is put together as Rows, or is there as bytes, and judge() says whether it is one, or
+// which clause it breaks, at which leaf and how.
 //
 // Nothing here throws, and nothing uses the heap but str(). Each value belongs to one thread at a time; the threads share
 // only an atomic counter, from which questions are told apart.
@@ -764,6 +765,15 @@ class PutText : public FixedText<Most> {
         put({name, 3});
     }
 
+    // A number, in decimal.
+    void put_number(std::size_t number) noexcept {
+        char digits[20];
+        std::size_t from = sizeof digits;
+        do digits[--from] = static_cast<char>('0' + number % 10);
+        while ((number /= 10) > 0);
+        put({digits + from, sizeof digits - from});
+    }
+
     // Writes the clause that starts there, each term by a function that is given its byte. Gives the next one's start.
     template <class PutTerm>
     const std::uint8_t* put_clause(const std::uint8_t* at, PutTerm put_term) noexcept {
@@ -872,6 +882,23 @@ std::basic_ostream<char, Traits>& operator<<(std::basic_ostream<char, Traits>& o
     return out << QuestionText(question);
 }
 
+namespace detail {
+
+// Where a clause starts, by its number in its system, from 0; nullptr if the system has no such clause.
+inline const std::uint8_t* find_clause(const Question& question, System system, std::size_t number) noexcept {
+    if (number >= question.clauses(system)) return nullptr;
+    const std::uint8_t* at = question.bytes().begin() + 4 + 5 * question.constants();
+    while (system_of(*at) != system || number-- > 0) at += 1 + sort_of(*at).terms;
+    return at;
+}
+
+// The leaves of the constant that a term is.
+inline Leaves constant_of(const Question& question, std::uint8_t term) noexcept {
+    return leaves_at(question.bytes().begin() + 4 + 5 * (term - 0x20) + 1);
+}
+
+}  // namespace detail
+
 // No clause is longer as text: a negated join of three constants of 94 characters.
 inline constexpr std::size_t most_clause_text = 296;
 
@@ -881,19 +908,16 @@ inline constexpr std::size_t most_clause_text = 296;
 class ClauseText : public detail::PutText<most_clause_text> {
   public:
     ClauseText(const Question& question, System system, std::size_t number) noexcept {
-        if (number >= question.clauses(system)) return;
-        const std::uint8_t* const constants = question.bytes().begin() + 4;
-        const std::uint8_t* at = constants + 5 * question.constants();
-        while (detail::system_of(*at) != system || number-- > 0) at += 1 + detail::sort_of(*at).terms;
-        put_clause(at, [&](std::uint8_t term) { put_term(term, constants); });
+        const std::uint8_t* const at = detail::find_clause(question, system, number);
+        if (at != nullptr) put_clause(at, [&](std::uint8_t term) { put_term(question, term); });
     }
 
   private:
-    void put_term(std::uint8_t term, const std::uint8_t* constants) noexcept {
+    void put_term(const Question& question, std::uint8_t term) noexcept {
         if (term < 0x20) {
             put_name('v', term);
         } else {
-            const Text tree = text_of(detail::leaves_at(constants + 5 * (term - 0x20) + 1));
+            const Text tree = text_of(detail::constant_of(question, term));
             put(tree.view());
         }
     }
@@ -996,6 +1020,8 @@ inline SetShare fault_of_row_text(std::string_view text) noexcept {
 //     if (const SetShare set = rows.set(left, "(*(o*))"); set.error != Error::none) ..
 //     const Judged judged = judge(question, rows);
 //     if (judged.clause) std::cout << "broken: " << text_of(question, System::first, *judged.clause) << '\n';
+//     if (judged.failing) std::cout << describe(judged.failing->way) << ", at leaf " << judged.failing->leaf << '\n';
+//     std::cout << text_of(question, rows, judged) << '\n';  // all of it, as one line
 class Rows {
   public:
     // The share of a variable: its leaves, its tree text, at most ten pairs deep, a join, set(v, join(a, b)), or the
@@ -1081,7 +1107,25 @@ constexpr std::string_view describe(Judgement judgement) noexcept {
     return zimorgal_describe_judgement(static_cast<int>(judgement));
 }
 
-// Fields without a meaning are 0, and the clause is none.
+// How the test of a positive clause comes out at one leaf. There it reads as a join of two parts that give a sum:
+// equal(a, b) as a join empty is b, may_write(a) as a join empty is full; together(a, b) has the parts a and b, whatever
+// they give.
+enum class Way : std::uint8_t {
+    holds = ZIMORGAL_HOLDS,
+    overlap = ZIMORGAL_OVERLAP,      // both parts are full
+    surplus = ZIMORGAL_SURPLUS,      // just one part is full, and the sum is empty
+    shortfall = ZIMORGAL_SHORTFALL,  // both parts are empty, and the sum is full
+};
+
+constexpr std::string_view describe(Way way) noexcept { return zimorgal_describe_way(static_cast<int>(way)); }
+
+// Where and how a positive clause fails.
+struct Failing {
+    Way way;           // at this leaf; never Way::holds
+    std::size_t leaf;  // the leftmost of the rows at which it fails, 0 to 1,023
+};
+
+// Fields without a meaning are 0, and the clause and its failing are none.
 struct Judged {
     Judgement judgement;
     Refusal refusal;
@@ -1089,14 +1133,20 @@ struct Judged {
     // For Judgement::broken: the lowest clause of the first system that does not hold, counted as Question::clauses
     // counts.
     std::optional<std::size_t> clause;
+    // Of that clause if it is a positive one. A disequation fails because what it negates holds at every leaf.
+    std::optional<Failing> failing = std::nullopt;
 };
 
 // The fields of what zimorgal_judge gives.
 constexpr Judged decode_judged(std::uint64_t number) noexcept {
     const auto judgement = static_cast<Judgement>(zimorgal_judgement(number));
+    const bool broken = judgement == Judgement::broken;
     const std::optional<std::size_t> clause = zimorgal_broken_clause(number);
+    const auto way = static_cast<Way>(zimorgal_broken_way(number));
+    const std::optional<Failing> failing = Failing{way, zimorgal_broken_leaf(number)};
     return {judgement, static_cast<Refusal>(zimorgal_refusal(number)),
-            static_cast<std::uint16_t>(zimorgal_place(number)), judgement == Judgement::broken ? clause : std::nullopt};
+            static_cast<std::uint16_t>(zimorgal_place(number)), broken ? clause : std::nullopt,
+            broken && way != Way::holds ? failing : std::nullopt};
 }
 
 // Judges rows as a solution of a question: bytes from wherever they come, rows that were put together, or a shown
@@ -1119,6 +1169,99 @@ constexpr Judged decode_judged(std::uint64_t number) noexcept {
 }
 [[nodiscard]] inline Judged judge(const Question& question, const Solution& solution) noexcept {
     return judge(question.bytes(), solution.bytes());
+}
+
+// ---------------------------------------------------------------- At a leaf of the rows
+
+namespace detail {
+
+inline constexpr std::size_t row_leaves = std::size_t{1} << tallest_row;
+
+}  // namespace detail
+
+// Whether a share is full at a leaf of the rows, 0 to 1,023: that of a row, full_at(rows.row(v), leaf), or of a constant,
+// full_at(c.leaves(), leaf), each leaf of which is 32 of them. No share is full at another leaf, nor is what is no row.
+[[nodiscard]] constexpr bool full_at(Bytes row, std::size_t leaf) noexcept {
+    return row.size == ZIMORGAL_ROW_BYTES && leaf < detail::row_leaves && (row.data[leaf / 8] >> leaf % 8 & 1) != 0;
+}
+template <class Share, detail::IfLeaves<Share> = 0>
+[[nodiscard]] constexpr bool full_at(Share leaves, std::size_t leaf) noexcept {
+    return leaf < detail::row_leaves && (leaves >> leaf / 32 & 1) != 0;
+}
+
+// The path from the root to a leaf of the rows, as ten letters: L to the left half, R to the right. Whoever follows it in
+// a tree text may reach a leaf sooner. It is empty for a leaf above 1,023.
+class PathText : public detail::FixedText<detail::tallest_row> {
+  public:
+    explicit PathText(std::size_t leaf) noexcept {
+        if (leaf >= detail::row_leaves) return;
+        for (std::size_t half = detail::row_leaves / 2; half > 0; half /= 2)
+            text_[length_++] = (leaf & half) != 0 ? 'R' : 'L';
+    }
+};
+
+// The path to the leaf at which a clause fails.
+[[nodiscard]] inline PathText path_of(const Failing& failing) noexcept { return PathText(failing.leaf); }
+
+// No judgement is longer as text: a shortfall of a join of three constants of 94 characters, at a leaf of four digits.
+inline constexpr std::size_t most_judged_text = 447;
+
+// What judging rows for a question gave, as one line for logs: the judgement, the refusal or the broken clause; of a
+// positive one also how it fails, at which leaf, the path to it, and the clause with the values there, o or *:
+//
+//     rejected: a clause of the first system is broken, number 3: v02 with v03; overlap: both parts are full, at leaf
+//     768, RRLLLLLLLL: * with *
+class JudgedText : public detail::PutText<most_judged_text> {
+  public:
+    JudgedText(const Question& question, Bytes rows, const Judged& judged) noexcept {
+        put(describe(judged.judgement));
+        if (judged.judgement == Judgement::refused) {
+            put(": ");
+            put(describe(judged.refusal));
+        }
+        if (judged.clause) put_broken(question, *judged.clause);
+        if (judged.clause && judged.failing) put_failing(question, rows, *judged.clause, *judged.failing);
+    }
+
+  private:
+    void put_broken(const Question& question, std::size_t number) noexcept {
+        const ClauseText clause = text_of(question, System::first, number);
+        put(", number ");
+        put_number(number);
+        put(": ");
+        put(clause.view());
+    }
+
+    void put_failing(const Question& question, Bytes rows, std::size_t number, const Failing& failing) noexcept {
+        const PathText path = path_of(failing);
+        put("; ");
+        put(describe(failing.way));
+        put(", at leaf ");
+        put_number(failing.leaf);
+        put(", ");
+        put(path.view());
+        put(": ");
+        if (const std::uint8_t* const at = detail::find_clause(question, System::first, number); at != nullptr)
+            put_clause(at, [&](std::uint8_t term) { put(full(question, rows, term, failing.leaf) ? "*" : "o"); });
+    }
+
+    static bool full(const Question& question, Bytes rows, std::uint8_t term, std::size_t leaf) noexcept {
+        if (term >= 0x20) return full_at(detail::constant_of(question, term), leaf);
+        const std::size_t start = ZIMORGAL_ROW_BYTES * std::size_t{term};
+        return rows.size == ZIMORGAL_ROWS_BYTES && full_at(Bytes{rows.data + start, ZIMORGAL_ROW_BYTES}, leaf);
+    }
+};
+
+// The rows are those that were judged for the question.
+[[nodiscard]] inline JudgedText text_of(const Question& question, Bytes rows, const Judged& judged) noexcept {
+    return JudgedText(question, rows, judged);
+}
+[[nodiscard]] inline JudgedText text_of(const Question& question, const Rows& rows, const Judged& judged) noexcept {
+    return JudgedText(question, rows.bytes(), judged);
+}
+[[nodiscard]] inline JudgedText text_of(const Question& question, const Solution& solution,
+                                        const Judged& judged) noexcept {
+    return JudgedText(question, solution.bytes(), judged);
 }
 
 }  // namespace zimorgal

@@ -1,7 +1,8 @@
-//! The families of judging: the solutions that asking shows for the families of questions, and worst cases. An input is the rows, then the question. Judging is
+//! The families of judging: the solutions that asking shows for the families of questions, worst cases, and rows that break a clause. An input is the rows, then the question. Judging is
 //! compared with asking the same questions.
 
 use crate::asking::{median_round, Buffers};
+use crate::broken;
 use crate::families::{self, clauses_of_split, constants_of_split, Family};
 use crate::lines::Call;
 use brute::handed::{judged, packed};
@@ -17,7 +18,7 @@ pub fn parts(input: &[u8]) -> (&[u8], &[u8]) {
 
 pub fn all() -> Vec<Family> {
     let shown = families::all().into_iter().map(shown);
-    shown.chain(worst_cases()).collect()
+    shown.chain(worst_cases()).chain(broken::all()).collect()
 }
 
 /// The questions of a family for which asking shows a solution, with its rows. There may be none, and another archive may show other rows.
@@ -86,13 +87,17 @@ fn rows_of_split(free: usize) -> Vec<u8> {
     rows
 }
 
-/// The library must give what is due leaf by leaf, and accept.
+/// The library must give what is due leaf by leaf, and accept, or say that a clause is broken.
 pub fn must_agree(family: &Family) {
+    let said = match family.name.starts_with(broken::NAME) {
+        true => 2,
+        false => 1,
+    };
     for input in &family.inputs {
         let (rows, question) = parts(input);
         let given = Buffers::new().call(Call::Judge, input);
         let due = packed(judged(question, rows));
-        assert_eq!((given, given), (due, 1), "{}", family.name);
+        assert_eq!((given, given as u8), (due, said), "{}", family.name);
     }
 }
 

@@ -4,6 +4,7 @@
 //! same program, built with that one.
 
 mod asking;
+mod broken;
 mod by_leaves;
 mod families;
 mod habit;

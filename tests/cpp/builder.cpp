@@ -88,9 +88,12 @@ static constexpr int may_write(const Point&) { return 8; }
 static constexpr int may_read(const Point&) { return 9; }
 static constexpr long together(long a, long b) { return a - b; }
 static constexpr int judge(const Point&, const Point&) { return 11; }
+static constexpr int path_of(const Point&) { return 12; }
+static constexpr long full_at(long a, long b) { return a % b; }
 static_assert(equal(1, 1) && !equal(0, 1) && join(1, 2, 3) == 6 && equal(not_join(1, 2, 3), 6), "not captured");
 static_assert(not_equal(Corner(), Corner()) == 7 && may_write(Corner()) == 8 && may_read(Corner()) == 9 &&
-                  together(5, 3) == 2 && join(5, 3) == 15 && height(Corner()) == 10 && judge(Corner(), Corner()) == 11,
+                  together(5, 3) == 2 && join(5, 3) == 15 && height(Corner()) == 10 &&
+                  judge(Corner(), Corner()) == 11 && path_of(Corner()) == 12 && full_at(5, 3) == 2,
               "not captured");
 
 namespace {
@@ -136,6 +139,24 @@ static_assert(judged_without_throwing<Bytes, Bytes> && judged_without_throwing<B
 static_assert(noexcept(Rows().set(v0, "*")) && noexcept(text_of(Question(), System::first, 0)));
 static_assert(decode_judged(0x200000002).clause == 2u && !decode_judged(3).clause &&
               describe(Judgement::accepted) == "accepted");
+constexpr Judged surplus_at_1022 = decode_judged(0x03FE'02'07'0000'00'02), disequation_broken = decode_judged(2);
+static_assert(surplus_at_1022.clause == 7u && surplus_at_1022.failing && surplus_at_1022.failing->leaf == 1022 &&
+              surplus_at_1022.failing->way == Way::surplus && disequation_broken.clause == 0u &&
+              !disequation_broken.failing);
+static_assert(describe(Way::holds) == "holds" && describe(Way::overlap) == "overlap: both parts are full" &&
+              describe(Way::surplus) == "surplus: just one part is full and the sum is empty" &&
+              describe(Way::shortfall) == "shortfall: both parts are empty and the sum is full");
+constexpr Judged of_four{Judgement::broken, Refusal::none, 0, 3u};
+static_assert(of_four.clause == 3u && !of_four.failing, "as programs wrote it before there was a failing");
+constexpr std::uint8_t row_of_leaf_10[128] = {0x00, 0x04};
+static_assert(full_at(Bytes{row_of_leaf_10, 128}, 10) && !full_at(Bytes{row_of_leaf_10, 128}, 9) &&
+              full_at(Leaves{4}, 64) && !full_at(Leaves{4}, 63));
+template <class Shares>
+constexpr bool told_without_throwing = noexcept(text_of(std::declval<const Question&>(), std::declval<Shares>(),
+                                                        std::declval<const Judged&>()));
+static_assert(told_without_throwing<Bytes> && told_without_throwing<const Rows&> &&
+              told_without_throwing<const Solution&>&& noexcept(path_of(Failing{})) && noexcept(
+                  full_at(Bytes{}, 0)) && noexcept(full_at(1u, 0)));
 static_assert(describe(Verdict::no) == "no" && decode(2).verdict == Verdict::no, "at compile time too");
 
 // Variables from any integer; one out of range names nothing, and is no undefined behaviour.
@@ -693,6 +714,7 @@ void results() {
           "no tree text, in the words of the C header");
     check(describe(static_cast<Error>(18)) == "unknown error" &&
               describe(static_cast<Judgement>(4)) == "unknown judgement" &&
+              describe(static_cast<Way>(4)) == "unknown way" && describe(static_cast<Way>(255)) == "unknown way" &&
               describe(static_cast<Verdict>(3)) == "unknown verdict" &&
               describe(static_cast<Refusal>(255)) == "unknown refusal" &&
               describe(static_cast<Reason>(4)) == "unknown reason",
@@ -1271,10 +1293,15 @@ Judged judge_texts(const Question& question, const std::vector<const char*>& sha
     return judge(question, rows);
 }
 
+bool same(const std::optional<Failing>& a, const std::optional<Failing>& b) {
+    return a.has_value() == b.has_value() && (!a || (a->way == b->way && a->leaf == b->leaf));
+}
+
 void judges(const char* what, const Question& question, const std::vector<const char*>& shares, Judgement due,
-            std::optional<std::size_t> clause = std::nullopt) {
+            std::optional<std::size_t> clause = std::nullopt, std::optional<Failing> failing = std::nullopt) {
     const Judged judged = judge_texts(question, shares);
-    check(judged.judgement == due && judged.clause == clause && judged.refusal == Refusal::none && judged.place == 0,
+    check(judged.judgement == due && judged.clause == clause && same(judged.failing, failing) &&
+              judged.refusal == Refusal::none && judged.place == 0,
           std::string("judged: ") + what);
 }
 
@@ -1290,15 +1317,18 @@ void judged_satisfiability() {
     judges("a solution", question, {"((*o)o)", "((o*)o)", "(*o)"}, Judgement::accepted);
     judges("one as tall as rows can be", question,
            {"((((((((((*o)o)o)o)o)o)o)o)o)o)", "((((((((((o*)*)*)*)*)*)*)*)*)o)", "(*o)"}, Judgement::accepted);
-    judges("an overlap", question, {"(*o)", "((o*)o)", "(*o)"}, Judgement::broken, 0);
-    judges("a shortfall", question, {"((*o)o)", "o", "(*o)"}, Judgement::broken, 0);
+    judges("an overlap", question, {"(*o)", "((o*)o)", "(*o)"}, Judgement::broken, 0, Failing{Way::overlap, 256});
+    judges("a surplus", question, {"((*o)o)", "((o*)(*o))", "(*o)"}, Judgement::broken, 0, Failing{Way::surplus, 512});
+    judges("a shortfall", question, {"((*o)o)", "o", "(*o)"}, Judgement::broken, 0, Failing{Way::shortfall, 256});
     judges("at the last leaf alone", question, {"((*o)o)", "((o*)o)", "(*(o(o(o(o(o(o(o(o(o*))))))))))"},
-           Judgement::broken, 0);
+           Judgement::broken, 0, Failing{Way::shortfall, 1023});
     judges("a disequation", question, {"o", "(*o)", "(*o)"}, Judgement::broken, 1);
-    judges("an equality behind a disequation", question, {"(o*)", "(*o)", "*"}, Judgement::broken, 2);
+    judges("an equality behind a disequation", question, {"(o*)", "(*o)", "*"}, Judgement::broken, 2,
+           Failing{Way::surplus, 512});
     judges("the lowest of two", question, {"o", "*", "*"}, Judgement::broken, 1);
     take(question.first(may_write(v1)));
-    judges("the last clause", question, {"((*o)o)", "((o*)o)", "(*o)"}, Judgement::broken, 5);
+    judges("the last clause", question, {"((*o)o)", "((o*)o)", "(*o)"}, Judgement::broken, 5,
+           Failing{Way::shortfall, 0});
     check(text_of(question, System::first, *judge_texts(question, {"o", "*", "*"}).clause).str() == "v00 may read",
           "the text of the broken clause");
 }
@@ -1317,7 +1347,7 @@ void judged_entailment() {
     judges("rows that extend", question, {"(*o)", "o"}, Judgement::extends);
     judges("a positive clause unmet", question, {"(*o)", "(o*)"}, Judgement::accepted);
     judges("a disequation unmet", question, {"*", "o"}, Judgement::accepted);
-    judges("clause 0", question, {"*", "*"}, Judgement::broken, 0);
+    judges("clause 0", question, {"*", "*"}, Judgement::broken, 0, Failing{Way::overlap, 0});
     judges("clause 1", question, {"o", "*"}, Judgement::broken, 1);
     judges("clauses 1 and 2", question, {"o", "o"}, Judgement::broken, 1);
 
@@ -1400,7 +1430,7 @@ void judged_not(const String& question, Refusal refusal, std::size_t place) {
          {Bytes{nullptr, 0}, Bytes{wrong.data(), 1535}, Bytes{wrong.data(), 1536}, Bytes{zero.data(), 1536}}) {
         const Judged judged = judge(asked, rows);
         check(judged.judgement == Judgement::refused && judged.refusal == refusal && judged.place == place &&
-                  !judged.clause,
+                  !judged.clause && !judged.failing,
               "judging is refused: " + std::string(describe(refusal)));
     }
     Workspace workspace;
@@ -1422,7 +1452,8 @@ void judging_refused() {
     const String wrong(1537, 0xFF);
     for (const std::size_t size : {0u, 1u, 128u, 256u, 1535u, 1537u}) {
         const Judged judged = judge(question, Bytes{wrong.data(), size});
-        check(judged.judgement == Judgement::refused && judged.refusal == Refusal::not_12_rows && judged.place == 0,
+        check(judged.judgement == Judgement::refused && judged.refusal == Refusal::not_12_rows && judged.place == 0 &&
+                  !judged.clause && !judged.failing,
               std::to_string(size) + " bytes are no rows");
     }
     Rows rows;
@@ -1432,21 +1463,244 @@ void judging_refused() {
         const Judged judged = judge(question, one);
         const bool free = i < 2;
         check(judged.judgement == (free ? Judgement::broken : Judgement::refused) && judged.place == 0 &&
-                  judged.refusal == (free ? Refusal::none : Refusal::row_not_zero) && judged.clause.has_value() == free,
+                  judged.refusal == (free ? Refusal::none : Refusal::row_not_zero) &&
+                  judged.clause.has_value() == free &&
+                  same(judged.failing, free ? std::optional(Failing{Way::shortfall, 0}) : std::nullopt),
               "a leaf of variable " + std::to_string(i));
     }
 }
 
 void judged_fields() {
     // Every byte of the number, each value unlike the others.
-    const Judged fields = decode_judged(0xFFFFFF'5E'A39D'08'02);
+    const Judged fields = decode_judged(0x03FE'01'5E'A39D'08'02);
     check(fields.judgement == Judgement::broken && fields.refusal == Refusal::bad_term && fields.place == 0xA39D &&
-              fields.clause == 94u,
+              fields.clause == 94u && same(fields.failing, Failing{Way::overlap, 1022}),
           "each field of a judgement");
-    for (const std::uint64_t number : {0u, 1u, 3u})
-        check(!decode_judged(number | std::uint64_t{7} << 32).clause, "a clause number only where one is broken");
-    for (unsigned i = 0; i < 4; ++i)
+    for (const std::uint64_t number : {0u, 1u, 3u}) {
+        const Judged other = decode_judged(number | 0x0101'02'07'0000'00'00);
+        check(!other.clause && !other.failing, "a clause number, way and leaf only where one is broken");
+    }
+    check(!decode_judged(0x0101'00'07'0000'00'02).failing, "a way and a leaf only of a positive clause");
+    for (unsigned i = 1; i < 256; ++i) {
+        const std::optional<Failing> failing = decode_judged(2 | std::uint64_t{i} << 40).failing;
+        if (!same(failing, Failing{static_cast<Way>(i), 0})) check(false, "way " + std::to_string(i) + " is decoded");
+    }
+    const Judged wild = decode_judged(0xFFFFFFFFFFFFFF02);
+    check(wild.clause == 255u && same(wild.failing, Failing{static_cast<Way>(255), 0xFFFF}), "every number is decoded");
+    for (unsigned i = 0; i < 4; ++i) {
         check(describe(static_cast<Judgement>(i)) != "unknown judgement", "a text for judgement " + std::to_string(i));
+        check(describe(static_cast<Way>(i)) == zimorgal_describe_way(static_cast<int>(i)), "way " + std::to_string(i));
+    }
+}
+
+// ---------------------------------------------------------------- At a leaf of the rows
+
+// Each sort of positive clause, and how it fails by the values of its terms: v0 is bit 0, v1 bit 1, v2 bit 2.
+const struct {
+    FirstClause clause;
+    std::vector<Way> ways;
+} clauses_at_a_leaf[] = {
+    {join(v0, v1, v2),
+     {Way::holds, Way::surplus, Way::surplus, Way::overlap, Way::shortfall, Way::holds, Way::holds, Way::overlap}},
+    {equal(v0, v1), {Way::holds, Way::surplus, Way::shortfall, Way::holds}},
+    {may_write(v0), {Way::shortfall, Way::holds}},
+    {together(v0, v1), {Way::holds, Way::holds, Way::holds, Way::overlap}}};
+
+// Rows with these values of v0, v1 and v2 from a leaf on, and before it some with which the clause holds.
+Rows with_values(std::size_t values, std::size_t from, bool full_before) {
+    Rows rows;
+    for (std::size_t i = 0; i < 3; ++i) {
+        String row(128, full_before ? 0xFF : 0x00);
+        for (std::size_t leaf = from; leaf < 1024; ++leaf) {
+            const unsigned bit = 1u << leaf % 8;
+            row[leaf / 8] = byte((row[leaf / 8] & ~bit) | (values >> i & 1 ? bit : 0));
+        }
+        take(rows.set(Free{i}, Bytes{row.data(), row.size()}));
+    }
+    return rows;
+}
+
+void each_way() {
+    for (const auto& [clause, ways] : clauses_at_a_leaf) {
+        Question question = satisfiability(3);
+        take(question.first(equal(v0, v0)));
+        take(question.first(clause));
+        const bool full_before = clause.relation == Relation::may_write;
+        for (std::size_t values = 0; values < ways.size(); ++values)
+            for (const std::size_t from : {0u, 1u, 31u, 32u, 63u, 64u, 500u, 512u, 1023u}) {
+                const Judged judged = judge(question, with_values(values, from, full_before));
+                const bool holds = ways[values] == Way::holds;
+                const std::optional<Failing> failing = Failing{ways[values], from};
+                check(judged.judgement == (holds ? Judgement::accepted : Judgement::broken) &&
+                          same(judged.failing, holds ? std::nullopt : failing),
+                      text_of(question, System::first, 1).str() + ", values " + std::to_string(values) + " from " +
+                          std::to_string(from));
+            }
+    }
+}
+
+// A broken disequation of each sort: there is no leaf to name.
+void disequations_broken() {
+    for (const FirstClause& clause : {not_join(v0, v1, v2), not_equal(v0, v1), may_read(v0)}) {
+        Question question = satisfiability(3);
+        take(question.first(clause));
+        const Judged judged = judge(question, Rows());
+        check(judged.judgement == Judgement::broken && judged.clause == 0u && !judged.failing,
+              text_of(question, System::first, 0).str());
+    }
+}
+
+void paths() {
+    const std::pair<std::size_t, const char*> due[] = {
+        {0, "LLLLLLLLLL"},   {1, "LLLLLLLLLR"},    {2, "LLLLLLLLRL"}, {511, "LRRRRRRRRR"},  {512, "RLLLLLLLLL"},
+        {768, "RRLLLLLLLL"}, {1023, "RRRRRRRRRR"}, {1024, ""},        {std::size_t(-1), ""}};
+    for (const auto& [leaf, path] : due)
+        check(path_of(Failing{Way::overlap, leaf}).str() == path, "the path to leaf " + std::to_string(leaf));
+
+    // A tree with one full leaf, put there by the path.
+    for (std::size_t leaf = 0; leaf < 1024; ++leaf) {
+        const std::string path = path_of(Failing{Way::overlap, leaf}).str();
+        std::string tree = "*";
+        for (auto step = path.rbegin(); step != path.rend(); ++step)
+            tree = *step == 'R' ? "(o" + tree + ")" : "(" + tree + "o)";
+        Rows rows;
+        take(rows.set(v1, tree));
+        if (!full_at(rows.row(v1), leaf)) check(false, "leaf " + std::to_string(leaf) + " is at " + path);
+    }
+}
+
+void values_at_a_leaf() {
+    Rows rows;
+    take(rows.set(v1, "((((((((((o*)o)o)o)o)o)o)o)(o*))(o*))"));  // full at leaf 1, in 384 to 511 and from 768 on
+    take(rows.set(v2, 0xC0000001u));
+    std::size_t wrong = 0;
+    for (std::size_t leaf = 0; leaf < 1024; ++leaf) {
+        wrong += full_at(rows.row(v0), leaf);
+        wrong += full_at(rows.row(v1), leaf) != (leaf == 1 || (leaf >= 384 && leaf < 512) || leaf >= 768);
+        wrong += full_at(rows.row(v2), leaf) != full_at(0xC0000001u, leaf);
+        wrong += full_at(0xC0000001u, leaf) != (leaf < 32 || leaf >= 960);
+    }
+    check(wrong == 0, "values at leaves: " + std::to_string(wrong) + " wrong");
+    const String full(1536, 0xFF);
+    check(!full_at(Bytes{full.data(), 128}, 1024) && !full_at(full_share, 1024) && full_at(full_share, 1023) &&
+              full_at(Bytes{full.data(), 128}, 1023) && !full_at(full_share, static_cast<std::size_t>(-1)) &&
+              !full_at(Bytes{full.data(), 128}, static_cast<std::size_t>(-1)),
+          "no share is full past the leaves");
+    check(!full_at(rows.row(Free{12}), 0) && !full_at(Bytes{nullptr, 0}, 0) && !full_at(Bytes{full.data(), 127}, 0) &&
+              !full_at(Bytes{full.data(), 1536}, 0),
+          "nor is what is no row");
+}
+
+// ---------------------------------------------------------------- A judgement as one line
+
+// Whether the judgement of these shares is told so.
+void tells(const Question& question, const std::vector<const char*>& shares, const std::string& line) {
+    Rows rows;
+    for (std::size_t i = 0; i < shares.size(); ++i) take(rows.set(Free{i}, shares[i]));
+    const Judged judged = judge(question, rows);
+    const String bytes = copy(rows);
+    check(text_of(question, rows, judged).str() == line, "told: " + line);
+    check(text_of(question, Bytes{bytes.data(), bytes.size()}, judged).str() == line, "told of bytes: " + line);
+}
+
+const std::string broken = "rejected: a clause of the first system is broken, number ";
+const std::string surplus = "; surplus: just one part is full and the sum is empty, at leaf ";
+const std::string shortfall = "; shortfall: both parts are empty and the sum is full, at leaf ";
+const std::string overlap = "; overlap: both parts are full, at leaf ";
+
+void judged_as_text() {
+    Question question = entailment(3, 1);
+    const Constant left = take(question.constant("(*o)"));
+    take(question.second(together(v0, own0)));
+    take(question.first(join(v0, left, v1)));
+    take(question.first(may_read(v1)));
+    take(question.first(equal(v2, left)));
+    take(question.second(may_read(own0)));
+    take(question.first(not_join(v0, v0, v1)));
+    take(question.first(together(v0, v2)));
+    take(question.first(may_write(v1)));
+    tells(question, {"(o*)", "*", "(*o)"}, "rejected: the rows extend to the second system");
+    tells(question, {"(o*)", "*", "(*o)", "*"}, "refused: a bit set in a row of no free variable");
+    const std::string clause_0 = broken + "0: v00 join (*o) is v01";
+    tells(question, {"((o*)o)"}, clause_0 + surplus + "0, LLLLLLLLLL: o join * is o");
+    tells(question, {"((o*)o)", "(*o)"}, clause_0 + overlap + "256, LRLLLLLLLL: * join * is *");
+    tells(question, {"o", "(*(o(o*)))"}, clause_0 + shortfall + "896, RRRLLLLLLL: o join o is *");
+    tells(question, {"(o*)", "*", "(*(*o))"}, broken + "2: v02 is (*o)" + surplus + "512, RLLLLLLLLL: * is o");
+    tells(question, {"(o*)", "*"}, broken + "2: v02 is (*o)" + shortfall + "0, LLLLLLLLLL: o is *");
+    tells(question, {"o", "(*o)", "(*o)"}, broken + "5: v01 may write" + shortfall + "512, RLLLLLLLLL: o may write");
+
+    question = satisfiability(2);
+    take(question.first(together(v0, v1)));
+    take(question.first(may_read(v1)));
+    tells(question, {"o", "*"}, "accepted");
+    tells(question, {"*"}, broken + "1: v01 may read");
+    tells(question, {"*", "(o(o(o(o(o(o(o(o(o(o*))))))))))"},
+          broken + "0: v00 with v01" + overlap + "1023, RRRRRRRRRR: * with *");
+}
+
+// A shown solution of another question, a stream, no rows, and what judging does not give.
+void judged_as_text_from_elsewhere() {
+    Question shown = satisfiability(1), question = satisfiability(1);
+    take(shown.first(equal(v0, take(shown.constant("(*o)")))));
+    take(question.first(equal(v0, take(question.constant("((*o)o)")))));
+    Workspace workspace;
+    const Solution solution = ask(shown, workspace).solution;
+    const Judged judged = judge(question, solution);
+    const std::string line = broken + "0: v00 is ((*o)o)" + surplus + "256, LRLLLLLLLL: ";
+    std::ostringstream out;
+    out << text_of(question, solution, judged) << '|' << path_of(*judged.failing);
+    check(out.str() == line + "* is o|LRLLLLLLLL", "a solution's, written to a stream");
+    check(text_of(question, Solution(), judge(question, Solution())).str() ==
+              "refused: the rows have not exactly 1,536 bytes",
+          "no solution");
+    check(text_of(question, Bytes{nullptr, 0}, judged).str() == line + "o is o",
+          "without the rows no variable is full");
+
+    const Judged elsewhere{Judgement::broken, Refusal::none, 0, 7u, Failing{static_cast<Way>(9), 5000}};
+    check(text_of(question, solution, elsewhere).str() == broken + "7: ; unknown way, at leaf 5000, : ",
+          "a clause and a leaf that are not there");
+    const Judged far{Judgement::broken, Refusal::none, 0, static_cast<std::size_t>(-1), std::nullopt};
+    check(text_of(question, solution, far).str() == broken + "18446744073709551615: ", "the greatest number");
+}
+
+// The longest line just fits, and one that would be longer is cut.
+void longest_judged() {
+    Question question = satisfiability(1);
+    const Constant tall = take(question.constant(0x55555555u)), other = take(question.constant(0xAAAAAAAAu));
+    for (int i = 0; i < 63; ++i) take(question.first(equal(v0, v0)));
+    take(question.first(join(tall, other, tall)));
+    const Judged judged = judge(question, Rows());
+    check(judged.clause == 63u && same(judged.failing, Failing{Way::surplus, 32}), "a join of three tall constants");
+    const std::string first = text_of(tall.leaves()).str(), second = text_of(other.leaves()).str();
+    const std::string clause = first + " join " + second + " is " + first;
+    const std::string head = broken + "63: " + clause;
+    tells(question, {}, head + surplus + "32, LLLLRLLLLL: o join * is o");
+
+    const Judged longest{Judgement::broken, Refusal::none, 0, 63u, Failing{Way::shortfall, 1023}};
+    const std::string line = head + shortfall + "1023, RRRRRRRRRR: o join * is o";
+    check(text_of(question, Rows(), longest).str() == line && line.size() == most_judged_text,
+          "the longest line just fits");
+    const Judged longer{Judgement::broken, Refusal::none, 0, 63u,
+                        Failing{Way::shortfall, static_cast<std::size_t>(-1)}};
+    const std::string whole = head + shortfall + "18446744073709551615, : o join o is o";
+    check(
+        whole.size() > most_judged_text && text_of(question, Rows(), longer).str() == whole.substr(0, most_judged_text),
+        "a longer one, which judging does not give, is cut");
+    for (unsigned i = 0; i <= 19; ++i) {
+        const Judged refused{Judgement::refused, static_cast<Refusal>(i), 0, std::nullopt};
+        const std::string due = "refused: " + std::string(describe(static_cast<Refusal>(i)));
+        check(text_of(question, Rows(), refused).str() == due, due);
+    }
+}
+
+void at_a_leaf() {
+    each_way();
+    disequations_broken();
+    paths();
+    values_at_a_leaf();
+    judged_as_text();
+    judged_as_text_from_elsewhere();
+    longest_judged();
 }
 
 // ---------------------------------------------------------------- No heap
@@ -1474,6 +1728,9 @@ void no_heap() {
            judge(question, solution).judgement == Judgement::accepted;
     const Judged judged = judge(question, rows);
     const ClauseText clause = text_of(question, System::first, judged.clause.value_or(99));
+    const PathText path = path_of(judged.failing.value_or(Failing{Way::holds, 1024}));
+    const JudgedText line = text_of(question, rows, judged);
+    fine = fine && path.view() == "LLLLLLLLLL" && line.view().substr(line.view().size() - 13) == "o join * is o";
     fine = fine && clause.view() == "v00 join (*o) is v01" && result.verdict == Verdict::no && !text.view().empty() &&
            !asked.view().empty() && allocations == before;
     check(fine, "no heap from building to judging");
@@ -1517,6 +1774,7 @@ int main() {
     judged_as_shown();
     judging_refused();
     judged_fields();
+    at_a_leaf();
     no_heap();
     std::printf("%d passed, %d failed\n", passed, failed);
     return failed == 0 ? 0 : 1;

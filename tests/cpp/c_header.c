@@ -40,18 +40,98 @@ static uint64_t judge_repeated(const uint8_t *question, size_t length, int first
     return zimorgal_judge(question, length, rows, ZIMORGAL_ROWS_BYTES);
 }
 
-static const uint64_t broken_1 = ZIMORGAL_CLAUSE_BROKEN | (uint64_t)1 << 32;
-static const uint64_t broken_2 = ZIMORGAL_CLAUSE_BROKEN | (uint64_t)2 << 32;
+/* A broken clause; of a disequation way and leaf are 0. */
+static uint64_t broken(unsigned clause, unsigned way, size_t leaf) {
+    return ZIMORGAL_CLAUSE_BROKEN | (uint64_t)clause << 32 | (uint64_t)way << 40 | (uint64_t)leaf << 48;
+}
 
 /* v0 and v1 held together, v1 not empty, v1 is full. */
 static void judged_satisfiability(void) {
     static const uint8_t question[] = {0x01, 0x00, 0x02, 0x00, 0x32, 0x00, 0x01, 0x31, 0x01, 0x30, 0x01, 0x00};
     check(judge_repeated(question, sizeof question, 0, 0xFF) == ZIMORGAL_ROWS_ACCEPTED, "a solution");
-    check(judge_repeated(question, sizeof question, 0xFF, 0xFF) == ZIMORGAL_CLAUSE_BROKEN, "clause 0, a positive one");
-    check(judge_repeated(question, sizeof question, 0xFF, 0) == broken_1, "clause 1, a disequation");
-    check(judge_repeated(question, sizeof question, 0x55, 0xAA) == broken_2, "clause 2, a positive one after it");
+    check(judge_repeated(question, sizeof question, 0xFF, 0xFF) == broken(0, ZIMORGAL_OVERLAP, 0),
+          "clause 0, a positive one");
+    check(judge_repeated(question, sizeof question, 0xFF, 0) == broken(1, 0, 0), "clause 1, a disequation");
+    check(judge_repeated(question, sizeof question, 0x55, 0xAA) == broken(2, ZIMORGAL_SHORTFALL, 0),
+          "clause 2, a positive one after it");
     rows[2 * ZIMORGAL_ROW_BYTES - 1] = 0;
-    check(zimorgal_judge(question, sizeof question, rows, ZIMORGAL_ROWS_BYTES) == broken_2, "the last leaves of a row");
+    check(zimorgal_judge(question, sizeof question, rows, ZIMORGAL_ROWS_BYTES) == broken(2, ZIMORGAL_SHORTFALL, 0),
+          "the last leaves of a row, behind others");
+    memset(rows, 0, ZIMORGAL_ROW_BYTES);
+    memset(rows + ZIMORGAL_ROW_BYTES, 0xFF, ZIMORGAL_ROW_BYTES - 1);
+    check(zimorgal_judge(question, sizeof question, rows, ZIMORGAL_ROWS_BYTES) == broken(2, ZIMORGAL_SHORTFALL, 1016),
+          "the last leaves of a row alone");
+}
+
+/* Each sort of positive clause, and how it fails at a leaf, by the values there: v0 is bit 0, v1 bit 1, v2 bit 2. */
+static const struct {
+    const char *what;
+    uint8_t command;
+    size_t terms;
+    unsigned ways[8];
+} sorts[] = {{"v0 join v1 is v2",
+              0x10,
+              3,
+              {ZIMORGAL_HOLDS, ZIMORGAL_SURPLUS, ZIMORGAL_SURPLUS, ZIMORGAL_OVERLAP, ZIMORGAL_SHORTFALL, ZIMORGAL_HOLDS,
+               ZIMORGAL_HOLDS, ZIMORGAL_OVERLAP}},
+             {"v0 is v1", 0x12, 2, {ZIMORGAL_HOLDS, ZIMORGAL_SURPLUS, ZIMORGAL_SHORTFALL, ZIMORGAL_HOLDS}},
+             {"v0 is full", 0x30, 1, {ZIMORGAL_SHORTFALL, ZIMORGAL_HOLDS}},
+             {"v0 with v1", 0x32, 2, {ZIMORGAL_HOLDS, ZIMORGAL_HOLDS, ZIMORGAL_HOLDS, ZIMORGAL_OVERLAP}}};
+
+static void put_leaf(size_t variable, size_t leaf, unsigned full) {
+    uint8_t *const byte = rows + variable * ZIMORGAL_ROW_BYTES + leaf / 8;
+    *byte = (uint8_t)((*byte & ~(1u << leaf % 8)) | full << leaf % 8);
+}
+
+/* Judges the clause, as number 1 behind "v0 is v0", where it holds at each leaf but this one. */
+static uint64_t judge_at(size_t sort, unsigned values, size_t leaf) {
+    uint8_t question[12] = {0x01, 0x00, 0x03, 0x00, 0x12, 0x00, 0x00, sorts[sort].command};
+    for (size_t i = 0; i < sorts[sort].terms; ++i) question[8 + i] = (uint8_t)i;
+    memset(rows, 0, sizeof rows);
+    memset(rows, sorts[sort].command == 0x30 ? 0xFF : 0, ZIMORGAL_ROW_BYTES);
+    for (size_t i = 0; i < 3; ++i) put_leaf(i, leaf, values >> i & 1);
+    return zimorgal_judge(question, 9 + sorts[sort].terms, rows, ZIMORGAL_ROWS_BYTES);
+}
+
+static void each_way(void) {
+    static const size_t leaves[] = {0, 1, 7, 8, 31, 32, 63, 64, 511, 512, 992, 1022, 1023};
+    for (size_t sort = 0; sort < sizeof sorts / sizeof *sorts; ++sort)
+        for (unsigned values = 0; values < 1u << sorts[sort].terms; ++values)
+            for (size_t i = 0; i < sizeof leaves / sizeof *leaves; ++i) {
+                const unsigned way = sorts[sort].ways[values];
+                const uint64_t due = way == ZIMORGAL_HOLDS ? ZIMORGAL_ROWS_ACCEPTED : broken(1, way, leaves[i]);
+                check(judge_at(sort, values, leaves[i]) == due, sorts[sort].what);
+            }
+}
+
+/* Of several leaves the leftmost counts, and how the clause fails there. A constant has a leaf for 32 of the rows. */
+static void leftmost_leaf(void) {
+    static const uint8_t join[] = {0x01, 0x00, 0x03, 0x00, 0x10, 0x00, 0x01, 0x02, 0x00};
+    memset(rows, 0, sizeof rows);
+    put_leaf(2, 301, 1);
+    check(zimorgal_judge(join, sizeof join, rows, ZIMORGAL_ROWS_BYTES) == broken(0, ZIMORGAL_SHORTFALL, 301), "one");
+    put_leaf(1, 299, 1);
+    check(zimorgal_judge(join, sizeof join, rows, ZIMORGAL_ROWS_BYTES) == broken(0, ZIMORGAL_SURPLUS, 299), "of two");
+    put_leaf(0, 300, 1);
+    put_leaf(1, 300, 1);
+    check(zimorgal_judge(join, sizeof join, rows, ZIMORGAL_ROWS_BYTES) == broken(0, ZIMORGAL_SURPLUS, 299), "of three");
+    put_leaf(2, 299, 1);
+    check(zimorgal_judge(join, sizeof join, rows, ZIMORGAL_ROWS_BYTES) == broken(0, ZIMORGAL_OVERLAP, 300), "the next");
+
+    static const uint8_t constant[] = {0x01, 0x00, 0x01, 0x00, 0x03, 0x00, 0x00, 0x00, 0x80, 0x12, 0x00, 0x20, 0x00};
+    memset(rows, 0, sizeof rows);
+    check(zimorgal_judge(constant, sizeof constant, rows, ZIMORGAL_ROWS_BYTES) == broken(0, ZIMORGAL_SHORTFALL, 992),
+          "the last leaf of a constant");
+}
+
+/* What each disequation negates holds at every leaf: there is no leaf to name. */
+static void disequations(void) {
+    static const uint8_t questions[][9] = {{0x01, 0x00, 0x03, 0x00, 0x11, 0x00, 0x01, 0x02, 0x00},
+                                           {0x01, 0x00, 0x03, 0x00, 0x13, 0x00, 0x01, 0x00},
+                                           {0x01, 0x00, 0x03, 0x00, 0x31, 0x00, 0x00}};
+    memset(rows, 0, sizeof rows);
+    for (size_t i = 0; i < 3; ++i)
+        check(zimorgal_judge(questions[i], 9 - i, rows, ZIMORGAL_ROWS_BYTES) == broken(0, 0, 0), "a disequation");
 }
 
 /* v0 not empty; then own v2 joined to v1 is v0, own v2 not empty; v0 is not full. Clauses of the second system stand
@@ -63,9 +143,8 @@ static void judged_entailment(void) {
           "a positive clause is unmet");
     check(judge_repeated(question, sizeof question, 0x0F, 0x0F) == ZIMORGAL_ROWS_ACCEPTED, "a disequation is unmet");
     check(judge_repeated(question, sizeof question, 0x0F, 0x0E) == ZIMORGAL_ROWS_EXTEND, "rows that extend");
-    check(judge_repeated(question, sizeof question, 0, 0) == ZIMORGAL_CLAUSE_BROKEN,
-          "clause 0 before the second system");
-    check(judge_repeated(question, sizeof question, 0xFF, 0) == broken_1, "clause 1 behind the second system");
+    check(judge_repeated(question, sizeof question, 0, 0) == broken(0, 0, 0), "clause 0 before the second system");
+    check(judge_repeated(question, sizeof question, 0xFF, 0) == broken(1, 0, 0), "clause 1 behind the second system");
     const uint64_t asked = zimorgal_ask(question, sizeof question, answer, sizeof answer, work, sizeof work);
     check(zimorgal_shows(asked, ZIMORGAL_ENTAILMENT), "one that does not extend is shown");
     check(zimorgal_judge(question, sizeof question, answer, ZIMORGAL_ROWS_BYTES) == ZIMORGAL_ROWS_ACCEPTED,
@@ -90,7 +169,8 @@ static void judging_refused(void) {
               "the last bit of a row of no free variable");
         rows[(row + 1) * ZIMORGAL_ROW_BYTES - 1] = 0;
     }
-    check(zimorgal_judge(example, sizeof example, rows, ZIMORGAL_ROWS_BYTES) == ZIMORGAL_CLAUSE_BROKEN, "all zero");
+    check(zimorgal_judge(example, sizeof example, rows, ZIMORGAL_ROWS_BYTES) == broken(0, ZIMORGAL_SHORTFALL, 512),
+          "all zero");
 }
 
 static void joins_and_heights(void) {
@@ -153,12 +233,17 @@ static void fields(void) {
     check(zimorgal_reason(result) == ZIMORGAL_DISEQUATION_UNMET, "reason");
     check(zimorgal_disequation(result) == 30, "disequation");
 
-    const uint64_t judged = 0x0000005EA39D0802;
+    const uint64_t judged = 0x03FE025EA39D0802;
     check(zimorgal_judgement(judged) == ZIMORGAL_CLAUSE_BROKEN, "judgement");
     check(zimorgal_refusal(judged) == ZIMORGAL_BAD_TERM, "refusal of judging");
     check(zimorgal_place(judged) == 0xA39D, "place of judging");
     check(zimorgal_broken_clause(judged) == 94, "broken clause");
-    check(zimorgal_broken_clause(0xFFFFFF00FFFFFFFF) == 0, "no byte beside it");
+    check(zimorgal_broken_way(judged) == ZIMORGAL_SURPLUS, "way");
+    check(zimorgal_broken_leaf(judged) == 1022, "leaf");
+    check(zimorgal_broken_clause(0xFFFFFF00FFFFFFFF) == 0, "no byte beside the clause");
+    check(zimorgal_broken_way(0xFFFF00FFFFFFFFFF) == 0, "no byte beside the way");
+    check(zimorgal_broken_leaf(0x0000FFFFFFFFFFFF) == 0, "no byte beside the leaf");
+    check(zimorgal_broken_leaf(0xFFFF000000000000) == 0xFFFF, "both bytes of the leaf");
 
     check(zimorgal_row_offset(0x0000008000000580) == 0x580, "offset of a row");
     check(zimorgal_row_length(0x0000008000000580) == 0x80, "length of a row");
@@ -213,6 +298,9 @@ static void nothing_lent(void) {
 int main(void) {
     calls();
     judged_satisfiability();
+    each_way();
+    leftmost_leaf();
+    disequations();
     judged_entailment();
     judging_refused();
     joins_and_heights();
@@ -224,6 +312,7 @@ int main(void) {
     in_words(zimorgal_describe_refusal, ZIMORGAL_ROW_NOT_ZERO, "unknown refusal");
     in_words(zimorgal_describe_reason, ZIMORGAL_DISEQUATION_UNMET, "unknown reason");
     in_words(zimorgal_describe_judgement, ZIMORGAL_ROWS_EXTEND, "unknown judgement");
+    in_words(zimorgal_describe_way, ZIMORGAL_SHORTFALL, "unknown way");
     nothing_lent();
     printf("%d passed, %d failed\n", passed, failed);
     return failed != 0;

@@ -1,6 +1,6 @@
-// A judge of rows, written from docs/SPEC.md alone: section 2 for what clauses mean, 6.8 for what is accepted, rejected
-// and named, and section 7 for 18 and 19; refusals 1 to 10 are those of reader.hpp. It shares no code with the headers
-// and the library, which it is to be compared with.
+// A judge of rows, written from docs/SPEC.md alone: section 2 for what clauses mean and how they read as joins, 6.8 for
+// what is accepted, rejected and named, and section 7 for 18 and 19; refusals 1 to 10 are those of reader.hpp. It shares
+// no code with the headers and the library, which it is to be compared with.
 #ifndef ZIMORGAL_TESTS_JUDGE_HPP
 #define ZIMORGAL_TESTS_JUDGE_HPP
 
@@ -64,15 +64,51 @@ inline bool holds(const Clause& clause, const std::vector<Row>& variables) {
     return is_so(clause.said, terms) != clause.negated;
 }
 
-// The lowest clause of the first system that does not hold, in the order of the question; -1 if all hold.
-inline int lowest_broken(const Question& question, const std::vector<Row>& rows) {
-    int number = 0;
+// Whether a term of the first system is full at a leaf.
+inline bool full_at(const Term& term, const std::vector<Row>& variables, std::size_t leaf) {
+    return term.sort == Sort::share ? (term.value >> leaf / 32 & 1) != 0 : variables[term.value][leaf];
+}
+
+// How the test of a join comes out at a leaf, by its parts and its sum there: 0 holds, 1 overlap, 2 surplus, 3 shortfall.
+inline unsigned way_of(bool first, bool second, bool sum) {
+    static constexpr unsigned ways[2][2][2] = {{{0, 3}, {2, 0}}, {{2, 0}, {1, 1}}};
+    return ways[first][second][sum];
+}
+
+// The same of a positive clause, which reads as a join.
+inline unsigned way_at(const Clause& clause, const std::vector<Row>& variables, std::size_t leaf) {
+    const auto full = [&](std::size_t term) { return full_at(clause.terms[term], variables, leaf); };
+    switch (clause.said) {
+        case Said::join: return way_of(full(0), full(1), full(2));
+        case Said::equal: return way_of(full(0), false, full(1));
+        case Said::full: return way_of(full(0), false, true);
+        case Said::together: return full(0) && full(1) ? 1 : 0;
+        case Said::empty: break;  // of disequations alone
+    }
+    return 0;
+}
+
+// A clause that does not hold: which one, by its number, and where and how it fails if it is a positive one.
+struct Broken {
+    const Clause* clause;
+    std::size_t number;
+    unsigned way;
+    std::size_t leaf;
+};
+
+// The lowest clause of the first system that does not hold, in the order of the question; none if all hold.
+inline Broken lowest_broken(const Question& question, const std::vector<Row>& rows) {
+    std::size_t number = 0;
     for (const Clause& clause : question.clauses) {
         if (clause.second) continue;
-        if (!holds(clause, rows)) return number;
+        if (!holds(clause, rows)) {
+            for (std::size_t leaf = 0; leaf < 1024 && !clause.negated; ++leaf)
+                if (const unsigned way = way_at(clause, rows, leaf); way != 0) return {&clause, number, way, leaf};
+            return {&clause, number, 0, 0};
+        }
         ++number;
     }
-    return -1;
+    return {nullptr, 0, 0, 0};
 }
 
 // ---------------------------------------------------------------- The second system
@@ -152,8 +188,10 @@ inline std::uint64_t judge(const std::vector<std::uint8_t>& question, const std:
     for (std::size_t i = 128 * reading.question.free; i < rows.size(); ++i)
         if (rows[i] != 0) return 19 << 8;
     const std::vector<Row> shares = rows_of_bytes(rows);
-    const int broken = lowest_broken(reading.question, shares);
-    if (broken >= 0) return std::uint64_t{2} | static_cast<std::uint64_t>(broken) << 32;
+    const Broken broken = lowest_broken(reading.question, shares);
+    if (broken.clause != nullptr)
+        return std::uint64_t{2} | std::uint64_t{broken.number} << 32 | std::uint64_t{broken.way} << 40 |
+               std::uint64_t{broken.leaf} << 48;
     return reading.question.entailment && extends(reading.question, shares) ? 3 : 1;
 }
 

@@ -2,7 +2,7 @@
 // taken and what the question means after it. The question's bytes, read by a reader of its own (reader.hpp), must mean
 // just that, and the library must accept them: after every step, taken or not, with any value of any enum, with numbers
 // that name nothing, and with constants of other questions and of earlier starts. Rows are judged for some of the
-// questions, and must come out as a judge of its own (judge.hpp) says.
+// questions, and must come out, and be told as one line, as a judge of its own (judge.hpp) says.
 //
 //     programs [FOLDER [PROGRAMS]]
 //
@@ -95,10 +95,10 @@ struct Step {
     bool gives_constant() const { return sort == Sort::leaves || sort == Sort::text || sort == Sort::join; }
 };
 
-// How often each error was due, and each judgement.
+// How often each error was due, each judgement, and of broken clauses each way; way 0 is a disequation's.
 struct Seen {
     std::array<long, static_cast<std::size_t>(Error::undefined_join) + 1> errors{};
-    std::array<long, 4> judgements{};
+    std::array<long, 4> judgements{}, ways{};
 };
 
 Error due_term(const Model& model, bool second, const Put& put, reader::Term& means) {
@@ -450,6 +450,18 @@ bool Program::reads_damage_alike(std::size_t which) {
 
 // ---------------------------------------------------------------- Clauses by their number
 
+// A clause with these texts for its terms.
+std::string clause_with(const reader::Clause& clause, const std::string (&terms)[3]) {
+    const auto& [a, b, c] = terms;
+    switch (clause.said) {
+        case reader::Said::join: return (clause.negated ? "not " : "") + a + " join " + b + " is " + c;
+        case reader::Said::equal: return a + (clause.negated ? " is not " : " is ") + b;
+        case reader::Said::full: return a + " may write";
+        case reader::Said::empty: return a + " may read";
+        default: return a + " with " + b;
+    }
+}
+
 // A clause as ClauseText is to write it.
 std::string clause_text(const reader::Question& question, const reader::Clause& clause) {
     std::string terms[3];
@@ -459,14 +471,7 @@ std::string clause_text(const reader::Question& question, const reader::Clause& 
         terms[i] = term.sort == reader::Sort::share ? text_by_halves(term.value, 32)
                                                     : (variable < 10 ? "v0" : "v") + std::to_string(variable);
     }
-    const auto& [a, b, c] = terms;
-    switch (clause.said) {
-        case reader::Said::join: return (clause.negated ? "not " : "") + a + " join " + b + " is " + c;
-        case reader::Said::equal: return a + (clause.negated ? " is not " : " is ") + b;
-        case reader::Said::full: return a + " may write";
-        case reader::Said::empty: return a + " may read";
-        default: return a + " with " + b;
-    }
+    return clause_with(clause, terms);
 }
 
 // Each clause is found by its number in its system, and no other.
@@ -513,17 +518,59 @@ void Program::turn_leaf(Rows& rows, std::size_t free) {
     if (set.error != Error::none) check(false, "a row is set");
 }
 
+// A positive clause at the leaf where it fails, as it is to be told.
+std::string failing_text(const reader::Broken& broken, const std::vector<reader::Row>& rows) {
+    const char* const ways[] = {"", "overlap: both parts are full",
+                                "surplus: just one part is full and the sum is empty",
+                                "shortfall: both parts are empty and the sum is full"};
+    std::string path, values[3];
+    std::size_t from = 0;
+    for (std::size_t width = 512; width > 0; width /= 2) {
+        const bool right = broken.leaf >= from + width;
+        path += right ? 'R' : 'L';
+        from += right ? width : 0;
+    }
+    for (std::size_t i = 0; i < broken.clause->terms.size(); ++i)
+        values[i] = reader::full_at(broken.clause->terms[i], rows, broken.leaf) ? "*" : "o";
+    return std::string("; ") + ways[broken.way] + ", at leaf " + std::to_string(broken.leaf) + ", " + path + ": " +
+           clause_with(*broken.clause, values);
+}
+
+// What judging is to give, as JudgedText is to write it.
+std::string judged_text(const reader::Question& question, const Rows& rows, std::uint64_t due) {
+    const char* const judgements[] = {"refused: a bit set in a row of no free variable", "accepted",
+                                      "rejected: a clause of the first system is broken",
+                                      "rejected: the rows extend to the second system"};
+    const std::string judgement = judgements[due & 0xFF];
+    if ((due & 0xFF) != 2) return judgement;
+    const Bytes bytes = rows.bytes();
+    const std::vector<reader::Row> shares = reader::rows_of_bytes({bytes.begin(), bytes.end()});
+    const reader::Broken broken = reader::lowest_broken(question, shares);
+    const std::string told =
+        judgement + ", number " + std::to_string(broken.number) + ": " + clause_text(question, *broken.clause);
+    return broken.way == 0 ? told : told + failing_text(broken, shares);
+}
+
+// The fields of what judging is to give.
+bool has_fields(const Judged& judged, std::uint64_t due) {
+    const bool broken = (due & 0xFF) == 2, positive = broken && (due >> 40 & 0xFF) != 0;
+    return static_cast<std::uint64_t>(judged.judgement) == (due & 0xFF) &&
+           static_cast<std::uint64_t>(judged.refusal) == (due >> 8 & 0xFF) && judged.place == 0 &&
+           judged.clause == (broken ? std::optional<std::size_t>(due >> 32 & 0xFF) : std::nullopt) &&
+           judged.failing.has_value() == positive &&
+           (!positive || (static_cast<std::uint64_t>(judged.failing->way) == (due >> 40 & 0xFF) &&
+                          judged.failing->leaf == due >> 48));
+}
+
 bool Program::judges_alike(std::size_t which, const Rows& rows, Seen& seen) const {
     const std::vector<std::uint8_t> question = copy(questions_[which]);
     const Bytes bytes = rows.bytes();
     const std::uint64_t due = reader::judge(question, {bytes.begin(), bytes.end()});
     const Judged judged = judge(questions_[which], rows);
     ++seen.judgements[due & 0xFF];
-    const auto clause = (due & 0xFF) == 2 ? std::optional<std::size_t>(due >> 32) : std::nullopt;
-    return zimorgal_judge(question.data(), question.size(), bytes.data, bytes.size) == due &&
-           static_cast<std::uint64_t>(judged.judgement) == (due & 0xFF) &&
-           static_cast<std::uint64_t>(judged.refusal) == (due >> 8 & 0xFF) && judged.place == 0 &&
-           judged.clause == clause;
+    if ((due & 0xFF) == 2) ++seen.ways[due >> 40 & 0xFF];
+    return zimorgal_judge(question.data(), question.size(), bytes.data, bytes.size) == due && has_fields(judged, due) &&
+           text_of(questions_[which], rows, judged).str() == judged_text(models_[which].question, rows, due);
 }
 
 // A solution of the first system is judged, and rows that differ from it at some leaves; and what asking shows is
@@ -618,6 +665,8 @@ int main(int count, char** words) {
         check(seen.errors[i] > 20, "the programs meet: " + std::string(describe(static_cast<Error>(i))));
     for (unsigned i = 0; i < seen.judgements.size() && programs >= enough; ++i)
         check(seen.judgements[i] > 200, "rows are: " + std::string(describe(static_cast<Judgement>(i))));
+    for (unsigned i = 0; i < seen.ways.size() && programs >= enough; ++i)
+        check(seen.ways[i] > 200, "a broken clause, way " + std::to_string(i));
     check(meanings.flush().good(), "the meanings are written");
     const Question longest = longest_text();
     if (!folder.empty()) leave(folder, 10, longest);

@@ -165,7 +165,7 @@ void* judge_only(void* argument) {
     return nullptr;
 }
 
-// Puts rows together from tree texts, judges them and writes the clause that they break, with everything on this stack.
+// Puts rows together from tree texts, judges them and writes what comes of it, with everything on this stack.
 void* judge_with_all(void* argument) {
     Run& run = *static_cast<Run*>(argument);
     const Question question = run.shape->question;
@@ -176,7 +176,8 @@ void* judge_with_all(void* argument) {
     }
     run.judged = judge(question, rows);
     const ClauseText clause = text_of(question, System::first, run.judged.clause.value_or(0));
-    run.length = clause.view().size();
+    const JudgedText line = text_of(question, rows, run.judged);
+    run.length = clause.view().size() + line.view().size();
     return nullptr;
 }
 

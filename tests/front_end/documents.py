@@ -2,12 +2,14 @@
 
 import json
 import re
+from itertools import product
 
 import cases
 import judging
 from commands import KEYS
 from front_end import judge
 from front_end.answer import MEANINGS
+from front_end.broken import WAYS
 from front_end.question import CLAUSES, OPERANDS, read_question
 from front_end.text import RESERVED, read_text
 from front_end.trees import read_tree, write_tree
@@ -155,14 +157,20 @@ def example_rows(cell):
     """The rows of an example: zero but for those that are written, or so many bytes."""
     if cell.endswith(" bytes"):
         return bytes(int(cell.split()[0].replace(",", "")))
-    rows = {int(number): tree for number, tree in re.findall(r"`v(\d\d) (\S+)`", cell)}
+    rows = {int(number): tree for number, tree in re.findall(r"`v(\d\d) ([(o*)]+)`", cell)}
     return b"".join(read_tree(rows.get(number, "o"), 10).to_bytes(128, "little") for number in range(12))
+
+
+def broken_command(question, number):
+    """The command of the broken clause, and the way, where judging a question gives that number."""
+    first = [clause[0] for clause in read_question(question).clauses if not CLAUSES[clause[0]].second]
+    return f"{first[number >> 32 & 0xFF]:02X}", number >> 40 & 0xFF
 
 
 def test_format_judging():
     """The examples of judging in docs/FORMAT.md are what the library's call and the judging program give; the meanings, the keys, and rows as text."""
     markdown = (TOP / "docs" / "FORMAT.md").read_text()
-    rows, seen = list(tables(markdown)), set()
+    rows, seen, ways = list(tables(markdown)), set(), set()
     for row in rows:
         if "zimorgal_judge" not in row:
             continue
@@ -173,10 +181,62 @@ def test_format_judging():
             check(f"{name}: the program", judging_program(given + question), row["judging prints"].strip("`"))
             check(f"{name}: number", judging.packed(row["judging prints"].strip("`")), number)
         seen.add((number & 0xFF, number >> 8 & 0xFF))
+        ways |= {broken_command(question, number)} if number & 0xFF == 2 else set()
+    due = {("10", 1), ("10", 2), ("10", 3), ("12", 2), ("12", 3), ("30", 3), ("32", 1), ("11", 0), ("13", 0), ("31", 0)}
+    check("FORMAT.md has each way of each clause, and each disequation", ways, due)
     check("FORMAT.md has each judgement", seen, {(1, 0), (2, 0), (3, 0), (0, 8), (0, 18), (0, 19)})
     words = {(kind, row["judgement"]): row[f"kind {kind}"] for row in rows for kind in (0, 1) if "judgement" in row}
     check("FORMAT.md has the meanings of judgements", words, {**judge.MEANINGS, (0, "extends"): "does not occur"})
     check("FORMAT.md has the keys of --judge --json", [row["key with --judge"].strip("`") for row in rows if "key with --judge" in row], judging.KEYS)
+
+
+def reads_as(row, command):
+    """The outcome of a clause's test for all values of its terms, by what docs/FORMAT.md says of its parts and sum, and of the four ways."""
+    terms = command.split()[1:]
+    for values in product((0, 1), repeat=len(terms)):
+        a, b, whole = ({"empty": 0, "full": 1, **dict(zip(terms, values))}.get(row[head]) for head in ("part", "other part", "sum"))
+        full = a + b
+        way = "overlap" if full == 2 else "holds" if whole in (full, None) else "surplus" if full else "shortfall"
+        yield values, way
+
+
+def test_format_ways():
+    """How clauses fail, in docs/FORMAT.md: what is said there of each clause is what the library does with all values, and what ask says."""
+    rows = list(tables((TOP / "docs" / "FORMAT.md").read_text()))
+    ways = {row["way"]: (row["number"], row["at the leaf"]) for row in rows if "at the leaf" in row}
+    check("FORMAT.md has the ways in order", list(ways), ["holds", *judging.JOINS])
+    check("with their numbers", [number for number, _ in ways.values()], ["0", "1", "2", "3"])
+    check("and what they mean for a join", {way: meaning for way, (_, meaning) in ways.items() if way != "holds"}, judging.JOINS)
+    seen = {}
+    for row in rows:
+        if "positive clause" not in row:
+            continue
+        clause = row["positive clause"].strip("`")
+        command, found = int(clause.split()[0], 16), set()
+        for values, way in reads_as(row, clause):
+            string = bytes([1, 0, len(values), 0, command, *range(len(values)), 0])
+            given = b"".join(bytes([255 * value] * 128) for value in values).ljust(1536, b"\0")
+            due = "accepted" if way == "holds" else f"broken 0 {way} at 0"
+            check(f"FORMAT.md, {clause} with {values}", (judging_program(given + string), library_judges([(string, given)])), (due, [judging.packed(due)]))
+            found.add(way)
+        meanings = {way: row[way] for way in judging.JOINS if row[way] != "does not occur"}
+        check(f"FORMAT.md, the ways of {clause}", set(meanings) | {"holds"}, found)
+        seen[CLAUSES[command].words] = meanings
+    check("FORMAT.md has what each way means", {(words, way): meaning for words, meanings in seen.items() for way, meaning in meanings.items()}, WAYS)
+
+
+def test_format_broken():
+    """What docs/FORMAT.md says of a broken clause, in words."""
+    markdown = (TOP / "docs" / "FORMAT.md").read_text()
+    head = re.findall(r"`(.*?)`", re.search(r"for a FILE with the lines (.*?) before the clause", markdown)[1])
+    examples = [[re.findall(r"`(.*?)`", cell) for cell in row.values()] for row in tables(markdown) if "broken clause" in row]
+    for [clause], rows, due in examples:
+        others = [f"{name} = o" for name in head[1].split()[1:] if not any(row.startswith(name) for row in rows)]
+        status, out, errors = judging.judged("\n".join([*head, clause]), "\n".join(rows + others))
+        check(f"FORMAT.md, {rows} for {clause}", (status, out.decode().splitlines()[1:], errors), (1, due, ""))
+    said = "".join(line for *_, due in examples for line in due)
+    check("FORMAT.md has each way of each clause in words", [meaning for meaning in WAYS.values() if f"({meaning})" not in said], [])
+    check("and each disequation", said.count("at every leaf: "), 3)
 
 
 def test_format_rows():
@@ -187,10 +247,11 @@ def test_format_rows():
     check("FORMAT.md, the form of rows", judging.judged(question, form, "--plain"), (1, b"extends\n", ""))
     lines = re.findall(r"`(.*?)`", re.search(r"for a FILE with the lines (.*?):\n", markdown)[1])
     examples = [[re.findall(r"`(.*?)`", cell) for cell in row.values()] for row in tables(markdown) if "rows in ROWS" in row]
-    for rows, [due] in examples:
+    for rows, due in examples:
         status, out, errors = judging.judged("\n".join(lines), "\n".join(rows))
-        check(f"FORMAT.md, {rows}", (out.decode() or errors.removeprefix("-:"), status), (f"{due}\n", 2 if due[0].isdigit() else 1))
-    check("FORMAT.md has rows and errors in them", [due[0].isdigit() for _, [due] in examples], [False] * 2 + [True] * 7)
+        said = "".join(line + "\n" for line in due)
+        check(f"FORMAT.md, {rows}", (out.decode() or errors.removeprefix("-:"), status), (said, 2 if said[0].isdigit() else 1))
+    check("FORMAT.md has rows and errors in them", [due[0][0].isdigit() for _, due in examples], [False] * 2 + [True] * 7)
 
 
 def test_format_text():

@@ -160,7 +160,8 @@ def try_rows(rows, question):
     if status == 2:
         check(name, (out, fits(rows, errors) or errors), (b"", True))
     else:
-        check(name, (out.count(b"\n"), said in [["accepted"], ["broken", "extends"]][status], errors), (1, True, ""))
+        lines = 1 if said != "broken" else 2 if b"\nat every leaf: " in out else 3
+        check(name, (out.count(b"\n"), said in [["accepted"], ["broken", "extends"]][status], errors), (lines, True, ""))
     return said
 
 
@@ -174,6 +175,9 @@ def test_random_rows():
         if number % 3 == 0:
             said = json.loads(command("ask", "--judge", "--json", question, "-", given=rows)[1])
             check(f"--json of {rows!r}", (said["judgement"] or "", said["error"] is None), (seen[-1], bool(seen[-1])))
+        if number % 3 == 0 and seen[-1]:
+            svg = ElementTree.fromstring(command("ask", "--judge", "--svg", question, "-", given=rows)[1])
+            check(f"--svg of {rows!r}", svg.tag, "{http://www.w3.org/2000/svg}svg")
         if number % 5 == 0 and seen[-1]:
             string = command("ask", "--judge", "--bytes", question, "-", given=rows)[1]
             check(f"the program judges the bytes of {rows!r}", judging_program(string).split()[0], seen[-1])

@@ -12,6 +12,7 @@ import cases
 import make
 from front_end.judge import read_judgement
 from front_end.question import read_question
+from front_end.rows import read_rows
 from front_end.text import read_text, write_text
 from front_end.trees import write_tree
 from harness import FOLDER, TOP, check, command, file, judging_program, library_judges, process, program, surroundings, wrong_program
@@ -31,6 +32,23 @@ SOLVED = "a = (o*)\nb = L\nc = *\n"  # rows that solve WHOLE
 
 EXTENDS = "extends: the rows solve the first system, and some own shares extend them to the second"
 
+# How a positive clause fails: the sorts of clauses and the ways.
+JOINS = {"overlap": "both parts are full", "surplus": "just one part is full and the sum is empty", "shortfall": "both parts are empty and the sum is full"}
+EQUALS = {"surplus": "the left side is full and the right side is empty", "shortfall": "the left side is empty and the right side is full"}
+WRITES, WITHS = {"shortfall": "the share is empty"}, {"overlap": "both shares are full"}
+SORTS = [JOINS, EQUALS, WRITES, WITHS]
+
+
+def fails(clause, sort, way, values, leaf, path):
+    """What is said of a positive clause that is broken."""
+    return f"broken: clause {clause}\n{way} ({sort[way]}): {values}\nat leaf {leaf:,} of 1,024, the leftmost that fails: {path}"
+
+
+def never(clause, everywhere):
+    """What is said of a disequation that is broken."""
+    return f"broken: clause {clause}\nat every leaf: {everywhere}"
+
+
 # A question, rows, and what is said of them.
 JUDGED = [
     (WHOLE, "a = (o*)\nb = L\nc = *", "accepted"),
@@ -38,29 +56,36 @@ JUDGED = [
     (WHOLE, "answer yes\nheight 1\na (o*)\nb (*o)\nc *\n", "accepted"),
     (WHOLE, "\ufeff# rows\r\n\r\n a=(o*) # a = o\r\nb\t(*o)\n\nc = L join (o*)\r", "accepted"),
     (WHOLE, b"a (o*) # \xff\xfe\nb L\nc (o(o*)) join L join (o(*o))", "accepted"),
-    (WHOLE, "a = (o*)\nb = L\nc = (*o)", "broken: clause 0, line 5: a join b is c"),
-    (WHOLE, "a = *\nb = L\nc = *", "broken: clause 0, line 5: a join b is c"),
-    (WHOLE, "a = o\nb = L\nc = L", "broken: clause 1, line 6: a is not o"),
-    (WHOLE, "a = L\nb = (o*)\nc = *", "broken: clause 2, line 7: b is L"),
-    (WHOLE, "a = o\nb = o\nc = o", "broken: clause 1, line 6: a is not o"),
+    (WHOLE, "a = (o*)\nb = L\nc = (*o)",
+     fails("0, line 5: a join b is c", JOINS, "surplus", "a is full, b is empty, c is empty", 512, "right, then always left")),
+    (WHOLE, "a = *\nb = L\nc = *", fails("0, line 5: a join b is c", JOINS, "overlap", "a is full, b is full, c is full", 0, "always left")),
+    (WHOLE, "a = o\nb = L\nc = (*(o(*o)))",
+     fails("0, line 5: a join b is c", JOINS, "shortfall", "a is empty, b is empty, c is full", 768, "right, right, then always left")),
+    (WHOLE, "a = o\nb = L\nc = L", never("1, line 6: a is not o", "a is o")),
+    (WHOLE, "a = L\nb = (o*)\nc = *", fails("2, line 7: b is L", EQUALS, "shortfall", "b is empty, L is full", 0, "always left")),
+    (WHOLE, "a = (o(o*))\nb = (*(*o))\nc = *", fails("2, line 7: b is L", EQUALS, "surplus", "b is full, L is empty", 512, "right, then always left")),
+    (WHOLE, "a = o\nb = o\nc = o", never("1, line 6: a is not o", "a is o")),
     # Clauses of the second system in between are not counted, and own shares may be taller than the rows.
-    (MIXED, "a = o", "broken: clause 0, line 7: a is not o"),
-    (MIXED, "a = *", "broken: clause 1, line 11: a is not *"),
+    (MIXED, "a = o", never("0, line 7: a is not o", "a is o")),
+    (MIXED, "a = *", never("1, line 11: a is not *", "a is *")),
     (MIXED, "a = (*o)", EXTENDS),
     (MIXED, f"a = {TALL}", EXTENDS),
     (FULL_OWN, "a = (*o)", EXTENDS),
     (FULL_OWN.replace("x is not o", "x is (*o)"), "a = (o*)", EXTENDS),
     (FULL_OWN.replace("x is not o", "x is (*o)"), "a = (*o)", "accepted"),
-    (FULL_OWN, "a = *", "broken: clause 0, line 4: a is not *"),
+    (FULL_OWN, "a = *", never("0, line 4: a is not *", "a is *")),
     # Joins inside a clause: the rows of their variables are not given, and follow from the others.
     (INSIDE, "a ((*o)o)\nb ((o*)o)\nc (o(*o))\nd (*(*o))", "accepted"),
-    (INSIDE, "a *\nb *\nc o\nd *", "broken: clause 0, line 3: a join b join c is d"),
-    (INSIDE, "a ((*o)o)\nb ((o*)o)\nc (o(*o))\nd *", "broken: clause 1, line 3: a join b join c is d"),
-    (INSIDE, "a ((*o)o)\nb ((o*)o)\nc (*o)\nd (*o)", "broken: clause 1, line 3: a join b join c is d"),
-    (INSIDE, "a ((*o)o)\nb ((o*)o)\nc (o*)\nd *", "broken: clause 2, line 4: d is not *"),
+    (INSIDE, "a *\nb *\nc o\nd *", fails("0, line 3: a join b join c is d", JOINS, "overlap", "a is full, b is full", 0, "always left")),
+    (INSIDE, "a ((*o)o)\nb ((o*)o)\nc (o(*o))\nd *",
+     fails("1, line 3: a join b join c is d", JOINS, "shortfall", "a join b is empty, c is empty, d is full", 768, "right, right, then always left")),
+    (INSIDE, "a ((*o)o)\nb ((o*)o)\nc (*o)\nd (*o)",
+     fails("1, line 3: a join b join c is d", JOINS, "overlap", "a join b is full, c is full, d is full", 0, "always left")),
+    (INSIDE, "a ((*o)o)\nb ((o*)o)\nc (o*)\nd *", never("2, line 4: d is not *", "d is *")),
     # Names that an answer's other lines start with, and a constant that an answer's first line ends with.
     (NAMED, "answer yes\nheight 1\nreason 3 12\nanswer = yes\nheight (*o)\nreason o", "accepted"),
-    (NAMED, "answer no\nheight 10\nanswer = o\nheight = (*o)\nreason = o\nreason 0", "broken: clause 0, line 4: answer is yes"),
+    (NAMED, "answer no\nheight 10\nanswer = o\nheight = (*o)\nreason = o\nreason 0",
+     fails("0, line 4: answer is yes", EQUALS, "shortfall", "answer is empty, yes is full", 0, "always left")),
     # As many bytes as rows have that are in bytes, also with a comment of bytes that are no text.
     (WHOLE, f"{SOLVED}#".ljust(ROWS, "-"), "accepted"),
     (WHOLE, f"{SOLVED}#".encode().ljust(ROWS, b"\0"), "accepted"),
@@ -68,12 +93,14 @@ JUDGED = [
     # No free variable; no clause; policies; the tallest tree, and the longest text of one.
     ("satisfiable", "", "accepted"),
     ("satisfiable", "# nothing\n\nanswer yes\nheight 0\n", "accepted"),
-    ("satisfiable\n* is o", "", "broken: clause 0, line 2: * is o"),
+    ("satisfiable\n* is o", "", fails("0, line 2: * is o", EQUALS, "surplus", "* is full, o is empty", 0, "always left")),
     ("entails", "", EXTENDS),
     ("entails\nthen\n* is o", "", "accepted"),
-    ("satisfiable\nfree a b\na may read\na with b\nb may write", "a (*o)\nb (o*)", "broken: clause 2, line 5: b may write"),
+    ("satisfiable\nfree a b\na may read\na with b\nb may write", "a (*o)\nb (o*)",
+     fails("2, line 5: b may write", WRITES, "shortfall", "b is empty", 0, "always left")),
     ("satisfiable\nfree a\na is not o", f"a {TALL}", "accepted"),
-    ("satisfiable\nfree a\na is (((((*o)o)o)o)o)", f"a {TALL}", "broken: clause 0, line 3: a is (((((*o)o)o)o)o)"),
+    ("satisfiable\nfree a\na is (((((*o)o)o)o)o)", f"a {TALL}",
+     fails("0, line 3: a is (((((*o)o)o)o)o)", EQUALS, "shortfall", "a is empty, (((((*o)o)o)o)o) is full", 1, "left, " * 9 + "right")),
     ("satisfiable\nfree a b\na join b is *", "a {0}\nb {1}".format(*(write_tree((1 << 1024) // 3 * one, 10) for one in (1, 2))), "accepted"),
 ]
 
@@ -202,7 +229,8 @@ def judged(question, rows, *options):
 
 def plain(said):
     """What the judging program says where ask says so."""
-    return re.sub(r"^(broken): clause (\d+),.*|^(extends): .*", lambda found: f"{found[1]} {found[2]}" if found[1] else found[3], said)
+    word, clause, way, leaf = re.fullmatch(r"(\w+)(?:: clause (\d+),.*\n(?:at every.*|(\w+) .*\nat leaf ([\d,]+) .*)|: the rows.*)?", said).groups()
+    return " ".join([word, *([clause] if clause else []), *([way, "at", leaf.replace(",", "")] if way else [])])
 
 
 def packed(said):
@@ -210,20 +238,26 @@ def packed(said):
     word, *numbers = said.split()
     if word == "refused":
         return int(numbers[0]) << 8 | int(numbers[2]) << 16
-    return WORDS.index(word) | int(numbers[0] if numbers else 0) << 32
+    clause, way, _, leaf = [*numbers, "holds", "at", "0"] if len(numbers) == 1 else numbers or ["0", "holds", "at", "0"]
+    return WORDS.index(word) | int(clause) << 32 | ["holds", *JOINS].index(way) << 40 | int(leaf) << 48
+
+
+def check_judged(question, rows, due):
+    """Judges rows; the bytes that ask hands over are judged alike by the program and by the library."""
+    name, status = f"{rows!r} for {question!r}", int(due != "accepted")
+    check(name, judged(question, rows), (status, f"{due}\n".encode(), ""))
+    check(f"--plain: {name}", judged(question, rows, "--plain"), (status, f"{plain(due)}\n".encode(), ""))
+    status, string, errors = judged(question, rows, "--bytes")
+    due_bytes = command("ask", "--bytes", "-", given=as_bytes(question))[1]
+    check(f"--bytes: {name}", (status, string[ROWS:], errors), (0, due_bytes, ""))
+    check(f"the program: {name}", judging_program(string), plain(due))
+    check(f"the library: {name}", library_judges([(string[ROWS:], string[:ROWS])]), [packed(plain(due))])
 
 
 def test_judged():
-    """Rows that were worked by hand; the bytes that ask hands over are judged alike by the program and by the library."""
+    """Rows that were worked by hand."""
     for question, rows, due in JUDGED:
-        name, status = f"{rows!r} for {question!r}", int(due != "accepted")
-        check(name, judged(question, rows), (status, f"{due}\n".encode(), ""))
-        check(f"--plain: {name}", judged(question, rows, "--plain"), (status, f"{plain(due)}\n".encode(), ""))
-        status, string, errors = judged(question, rows, "--bytes")
-        due_bytes = command("ask", "--bytes", "-", given=as_bytes(question))[1]
-        check(f"--bytes: {name}", (status, string[ROWS:], errors), (0, due_bytes, ""))
-        check(f"the program: {name}", judging_program(string), plain(due))
-        check(f"the library: {name}", library_judges([(string[ROWS:], string[:ROWS])]), [packed(plain(due))])
+        check_judged(question, rows, due)
 
 
 def test_row_bytes():
@@ -232,7 +266,8 @@ def test_row_bytes():
     string = judged(question, f"c {TALL}\na = L join (o(o*))\nb *", "--bytes")[1]
     due = b"\xff" * 64 + bytes(32) + b"\xff" * 32 + b"\xff" * 128 + b"\1" + bytes(127)
     check("rows of the named variables", string[:3 * ROW], due)
-    check("the row of a join that is undefined, and of no free variable", string[3 * ROW:ROWS], bytes(9 * ROW))
+    check("the row of a join that is undefined: full where one of its parts is", string[3 * ROW:4 * ROW], b"\xff" * 128)
+    check("rows of no free variable", string[4 * ROW:ROWS], bytes(8 * ROW))
     string = judged(question, "a (*o)\nb (o(*o))\nc o", "--bytes")[1]
     check("the row of a join", string[3 * ROW:4 * ROW], b"\xff" * 96 + bytes(32))
 
@@ -266,7 +301,7 @@ def test_rows_in_bytes():
         string = judged(question, rows, "--bytes")[1][:ROWS]
         check(f"{rows!r} in bytes for {question!r}", piped(question, string), b"accepted\n")
         zeroed = string[:4 * ROW].ljust(ROWS, b"\0")
-        check(f"{rows!r} in bytes for {question!r}, and no joins", (string != zeroed, piped(question, zeroed)), (True, b"broken 0\n"))
+        check(f"{rows!r} in bytes for {question!r}, and no joins", (string != zeroed, piped(question, zeroed)), (True, b"broken 0 surplus at 0\n"))
         check(f"{rows!r} in bytes for {question!r} as text", judged(question, string), (2, b"", f"-:1:1: {IN_BYTES}\n"))
     rows = judged(WHOLE, SOLVED, "--bytes")[1][:ROWS]
     check("no joins inside", piped(WHOLE, rows), b"accepted\n")
@@ -278,7 +313,7 @@ def test_judge_command():
     check("two files", process("ask", "--judge", question, rows), (0, b"accepted\n", ""))
     check("the question from standard input", process("ask", "--judge", "-", rows, given=WHOLE.encode()), (0, b"accepted\n", ""))
     check("the rows from standard input", process("ask", question, "-", "--judge", given=b"a o\nb L\nc L"),
-          (1, b"broken: clause 1, line 6: a is not o\n", ""))
+          (1, b"broken: clause 1, line 6: a is not o\nat every leaf: a is o\n", ""))
     check("an error in the question comes first", process("ask", "--judge", "-", "none.rows", given=b"entails\nfree a a"),
           (2, b"", "-:2:8: 'a' is defined already, in line 2\n"))
     check("no such rows", process("ask", "--judge", question, "none.rows"), (2, b"", "none.rows: it could not be read: No such file or directory\n"))
@@ -289,12 +324,12 @@ def test_judge_command():
     check("--bytes runs no program", process("ask", "--judge", "--bytes", question, rows, ZIMORGAL_JUDGE_CLI="no/program")[0], 0)
     check("the printing program is not run", process("ask", "--judge", question, rows, ZIMORGAL_CLI="no/program")[0], 0)
     for arguments, due in [((question,), "--judge takes two files, FILE and ROWS"), ((question, rows, rows), "--judge takes two files, FILE and ROWS"),
-                           (("--svg", question, rows), "--svg draws answers, and --judge has none"),
                            (("-", "-"), "'-' may stand once: standard input is read to its end")]:
         check(f"ask --judge {arguments}", process("ask", "--judge", *arguments), (2, b"", f"{due} ('ask --help' says what may be written)\n"))
     help_text = process("ask", "--help")[1].decode()
     missing = [form for form in ("writer = (*o)", "reader (o(*o))", "rest = L join (o(*o))") if not re.search(f"^ +{re.escape(form)}  ", help_text, re.M)]
     check("the help has the forms of a row", missing, [])
+    check("the help has the ways in which a clause fails", [way for way in JOINS if f"'{way}'" not in help_text], [])
 
 
 def test_pasted():
@@ -311,12 +346,17 @@ def test_pasted():
     check("examples of both sorts", (seen[0] >= 10, seen[2] >= 5), (True, True))
 
 
-KEYS = ["file", "rows", "judgement", "question", "meaning", "clause", "error"]
+KEYS = ["file", "rows", "judgement", "question", "meaning", "clause", "way", "leaf", "path", "values", "error"]
 # A question and rows, the status, and what --json says of them, but for the files.
 OBJECTS = [
     (WHOLE, "a (o*)\nb L\nc *", 0, {"judgement": "accepted", "question": "satisfiable", "meaning": "the rows solve the system"}),
     (WHOLE, "a L\nb (o*)\nc *", 1, {"judgement": "broken", "question": "satisfiable", "clause": {"number": 2, "line": 7, "text": "b is L"},
+                                    "way": "shortfall", "leaf": 0, "path": ["left"] * 10, "values": {"b": "empty", "L": "full"},
                                     "meaning": "the rows break a clause of the system; the lowest that they break is named"}),
+    (INSIDE, "a ((*o)o)\nb ((o*)o)\nc (o(*o))\nd *", 1,
+     {"judgement": "broken", "question": "satisfiable", "clause": {"number": 1, "line": 3, "text": "a join b join c is d"}, "way": "shortfall",
+      "leaf": 768, "path": ["right"] * 2 + ["left"] * 8, "values": {"a join b": "empty", "c": "empty", "d": "full"},
+      "meaning": "the rows break a clause of the system; the lowest that they break is named"}),
     (MIXED, "a *", 1, {"judgement": "broken", "question": "entails", "clause": {"number": 1, "line": 11, "text": "a is not *"},
                        "meaning": "the rows break a clause of the first system; the lowest that they break is named"}),
     (MIXED, "a (*o)", 1, {"judgement": "extends", "question": "entails",
@@ -348,23 +388,59 @@ def test_judge_json():
         check(f"--json, a name that is no text, of {at}", (said[at], said["error"]["file"]), ("\\xff", "\\xff"))
 
 
-# What is no whole judgement of rows for MIXED, which has two clauses in its first system.
+# What is no whole judgement of rows for MIXED, which has two clauses in its first system, both disequations.
 NO_JUDGEMENT = ["", "accepted", "accepted\n\n", "accepted 0\n", "accept\n", "broken\n", "broken \n", "broken 2\n", "broken 00\n", "broken 01\n", "broken -1\n",
                 "broken 1", "broken 1 \n", " broken 1\n", "broken \u0661\n", "broken 1\nextends\n", "extends 0\n", "extends", "Extends\n", "refused 18 at 0\n",
-                "accepted\r\n", "answer yes\n", "broken " + "1" * 9999 + "\n"]
+                "accepted\r\n", "answer yes\n", "broken " + "1" * 9999 + "\n", "broken 0 overlap at 0\n", "broken 0 surplus at 0\n", "broken 1 shortfall at 0\n",
+                "broken 1 holds at 0\n", "broken 1 at 0\n"]
+# And of rows for WHOLE with a and b full at leaf 0; a full, b and c empty at leaf 512; all three empty at leaf 768.
+NO_FAILING = ["broken 0\n", "broken 2\n", "broken 3 overlap at 0\n", "broken 0 overlap\n", "broken 0 overlap at\n", "broken 0 overlap at \n", "broken 0 overlap 0\n",
+              "broken 0 at 0\n", "broken overlap at 0\n", "broken 0 overlap at 00\n", "broken 0 surplus at 0512\n", "broken 0 overlap at -0\n", "broken 0 overlap at +0\n",
+              "broken 00 overlap at 0\n", "broken 0 overlap at 0 \n", "broken 0 overlap at 0 0\n", "broken 0 overlap at 0\n\n", "broken 0 overlap at 0\r\n",
+              "broken 0 overlap at 0\naccepted\n", " broken 0 overlap at 0\n", "broken 0  overlap at 0\n", "broken 0 overlap  at 0\n", "broken 0 overlap at  0\n",
+              "broken 0 Overlap at 0\n", "broken 0 overlaps at 0\n", "broken 0 holds at 0\n", "broken 0 overlap at \u0660\n", "broken 0 overlap at 0.0\n",
+              "broken 0 1 at 0\n", "broken 0 overlap in 0\n", "accepted overlap at 0\n", "accepted 0 overlap at 0\n", "extends 0 overlap at 0\n",
+              "broken 0 overlap at 1024\n", "broken 0 surplus at 1024\n", "broken 0 shortfall at 1024\n", "broken 0 overlap at 9999\n", "broken 0 overlap at 10000\n",
+              "broken 0 overlap at " + "1" * 9999 + "\n",
+              # Another way than the values at the leaf give, or none of the clause; a leaf where it holds; a disequation.
+              "broken 0 surplus at 0\n", "broken 0 shortfall at 0\n", "broken 0 overlap at 512\n", "broken 0 shortfall at 512\n", "broken 0 surplus at 768\n",
+              "broken 0 overlap at 768\n", "broken 2 overlap at 0\n", "broken 2 surplus at 0\n", "broken 2 shortfall at 512\n", "broken 1 overlap at 0\n"]
 
 
 def test_whole_judgements():
     """Each judgement is taken, and nothing that is lost, cut or not one of these rows."""
-    mixed, whole = read_text(MIXED), read_text(WHOLE)
+    mixed, rows = read_text(MIXED), [0]
     for said in ("accepted\n", "broken 0\n", "broken 1\n", "extends\n"):
-        check(f"{said!r} is taken", read_judgement(said, mixed).plain() + "\n", said)
+        check(f"{said!r} is taken", read_judgement(said, mixed, rows).plain() + "\n", said)
         for length in range(len(said)):
-            check(f"{said[:length]!r} is cut", read_judgement(said[:length], mixed), None)
+            check(f"{said[:length]!r} is cut", read_judgement(said[:length], mixed, rows), None)
     for said in NO_JUDGEMENT:
-        check(f"{said!r} is no judgement", read_judgement(said, mixed), None)
-    check("rows of a satisfiability do not extend", (read_judgement("extends\n", whole), read_judgement("broken 2\n", whole).clause), (None, 2))
-    check("the third clause is the last", read_judgement("broken 3\n", whole), None)
+        check(f"{said!r} is no judgement", read_judgement(said, mixed, rows), None)
+
+
+def test_whole_failings():
+    """The same of positive clauses. Way and leaf are there exactly for them, and are those that the values of the clause's shares give."""
+    whole = read_text(WHOLE)
+    rows = read_rows(b"a = (*(*o))\nb = L\nc = L", whole)
+    for said in ("accepted\n", "broken 1\n", "broken 0 overlap at 0\n", "broken 0 surplus at 512\n"):
+        check(f"{said!r} is taken", read_judgement(said, whole, rows).plain() + "\n", said)
+        for length in range(len(said)):
+            check(f"{said[:length]!r} is cut", read_judgement(said[:length], whole, rows), None)
+    for said in NO_FAILING:
+        check(f"{said!r} is no judgement", read_judgement(said, whole, rows), None)
+    check("rows of a satisfiability do not extend", read_judgement("extends\n", whole, rows), None)
+    last = read_rows(f"a = o\nb = (*{'(o' * 9}*{')' * 10}\nc = *".encode(), whole)
+    for said in ("broken 2 surplus at 1023\n", "broken 0 shortfall at 1022\n"):
+        check(f"{said!r} is taken", read_judgement(said, whole, last).plain() + "\n", said)
+    for said in ("broken 2 surplus at 1022\n", "broken 2 surplus at 1024\n", "broken 0 shortfall at 1023\n", "broken 2 surplus at 102\n"):
+        check(f"{said!r} is no judgement of other rows", read_judgement(said, whole, last), None)
+    policy = read_text("satisfiable\nfree a b\na with b\na may write\na is b")
+    rows = read_rows(b"a = (*(*o))\nb = (*o)", policy)  # both are full at leaf 0, a alone at leaf 512, and none at leaf 768
+    for said in ("broken 0 overlap at 0\n", "broken 1 shortfall at 768\n", "broken 2 surplus at 512\n"):
+        check(f"{said!r} is taken, of a policy", read_judgement(said, policy, rows).plain() + "\n", said)
+    for said in ("broken 0 surplus at 512\n", "broken 0 shortfall at 768\n", "broken 1 overlap at 0\n", "broken 1 surplus at 0\n", "broken 1 shortfall at 512\n",
+                 "broken 1 shortfall at 1024\n", "broken 1 shortfall at 2000\n", "broken 2 overlap at 0\n", "broken 2 shortfall at 512\n"):
+        check(f"{said!r} is no judgement, of a policy", read_judgement(said, policy, rows), None)
 
 
 def test_lost_judgements():
@@ -375,6 +451,8 @@ def test_lost_judgements():
                         (f"{real}; kill -9 $$", "was ended by signal 9"), ("exit 0", "gave no judgement: it printed nothing"),
                         ("echo lost >&2", "gave no judgement: it printed nothing; its error: lost"),
                         ("echo broken 3", "gave no whole judgement: it printed 'broken 3\\n'"),
+                        ("echo broken 0", "gave no whole judgement: it printed 'broken 0\\n'"),
+                        ("echo broken 0 overlap at 0", "gave no whole judgement: it printed 'broken 0 overlap at 0\\n'"),
                         ("echo extends", "gave no whole judgement: it printed 'extends\\n'"),
                         ("echo refused 19 at 0", "refused the rows and the question: refused 19 at 0")]:
         found = process("ask", "--judge", *names, ZIMORGAL_JUDGE_CLI=wrong_program("wrong", script))
@@ -483,22 +561,66 @@ def broken_part(clause, shares):
     return left if left is not None else parts(clause) - 1 if right is None else len(clause.left) - 1 + right
 
 
+def pieces(clause):
+    """The clauses that a clause of a text is in bytes: of each its sort, None for a disequation, and for each term the words that are joined to it."""
+    joins = [(JOINS, [side[:at], side[at:at + 1], side[:at + 1]]) for side in (clause.left, clause.right) for at in range(1, len(side))]
+    if isinstance(clause, Policy):
+        return joins + [({"may write": WRITES, "may read": None, "with": WITHS}[clause.verb], [clause.left, clause.right][:2 if clause.right else 1])]
+    if clause.negated or len(clause.left) == 1:
+        return [(None if clause.negated else EQUALS, [*([word] for word in clause.left), clause.right])]
+    return joins[:-1] + [(JOINS, [*joins[-1][1][:2], clause.left if len(clause.right) > 1 else clause.right])]
+
+
+def way_at(sort, values):
+    """In which way a positive clause of a sort fails where its terms have these values, by the definitions; None where it holds. The sum of parts that
+    cannot be joined has no value."""
+    full = sum(values[:2] if sort in (JOINS, WITHS) else values[:1])
+    if full == 2:
+        return "overlap"
+    due = full if sort is WITHS or values[-1] is None else 1 if sort is WRITES else values[-1]
+    return None if full == due else "surplus" if full else "shortfall"
+
+
+def way_down(leaf):
+    """The path to a leaf of 1,024, in words."""
+    steps = f"{leaf:010b}".rstrip("0")
+    words = [["left", "right"][int(step)] for step in steps]
+    return ", ".join(words + ([] if len(steps) == 10 else ["then always left"] if steps else ["always left"]))
+
+
+def told_broken(head, sort, terms, shares, levels):
+    """What is to be said of a broken clause with that sort and these terms; shares have 2^levels leaves."""
+    if sort is None:
+        words = [" join ".join(term) for term in terms]
+        return never(head, ["{} is empty", "{} is {}", "{} join {} is {}"][len(words) - 1].format(*words))
+    whole = {" join ".join(term): total(term, shares) for term in terms}
+    for leaf in range(1 << levels):
+        values = {word: None if share is None else share >> leaf & 1 for word, share in whole.items()}
+        way = way_at(sort, [values[" join ".join(term)] for term in terms])
+        if way:
+            told = ", ".join(f"{word} is {['empty', 'full'][value]}" for word, value in values.items() if value is not None)
+            return fails(head, sort, way, told, leaf << (10 - levels), way_down(leaf << (10 - levels)))
+    return "it does not fail"
+
+
 def meant(meaning, shares):
-    """What is to be said of shares, by the definitions; the own ones are gone through."""
+    """What is to be said of shares, by the definitions, and of a broken clause its sort; the own ones are gone through."""
     number = 0
     for system, clause in meaning.clauses:
         if system == 0 and not clause.holds(shares):
-            return f"broken: clause {number + broken_part(clause, shares)}, line {{}}: {clause}"
+            part = broken_part(clause, shares)
+            sort, terms = pieces(clause)[part]
+            return told_broken(f"{number + part}, line {{}}: {clause}", sort, terms, shares, meaning.levels), sort
         number += parts(clause) if system == 0 else 0
     check(f"how many clauses the first system of {meaning.text()!r} is in bytes", len(read_text(meaning.text()).first_clauses()), number)
     if meaning.kind == 0:
-        return "accepted"
-    return EXTENDS if any(all(had) for had in meaning.beside(shares)) else "accepted"
+        return "accepted", None
+    return EXTENDS if any(all(had) for had in meaning.beside(shares)) else "accepted", None
 
 
 def test_judged_meaning():
-    """Random questions with joins inside and rows no taller than is shown, against what the clauses mean."""
-    random, seen = Random(32), Counter()
+    """Random questions with joins inside and rows no taller than is shown, against what the clauses mean. Each way of each sort of clause is met."""
+    random, seen, ways = Random(32), Counter(), Counter()
     while min(seen[key] for key in [(word, inside) for word in WORDS[1:] for inside in (False, True)]) < 25 and sum(seen.values()) < 4000:
         meaning = random_meaning(random)
         if meaning.variables() > 12 or meaning.cost() > 1 << 15:
@@ -507,11 +629,13 @@ def test_judged_meaning():
         solutions = list(meaning.solutions()) if random.randrange(2) else []
         shares = random.choice(solutions) if solutions else {**meaning.constants, **dict(zip(meaning.free, values))}
         rows = "".join(f"{name} {write_tree(shares[name], meaning.levels)}\n" for name in meaning.free)
-        due = meant(meaning, shares)
+        due, sort = meant(meaning, shares)
         status, out, errors = judged(meaning.text(), rows)
         line = re.search(r"line (\d+): (.*)", out.decode())
         if line:
             check(f"the line that is named, {rows!r} for {meaning.text()!r}", meaning.text().split("\n")[int(line[1]) - 1], line[2])
         check(f"{rows!r} for {meaning.text()!r}", (status, re.sub(r"line \d+", "line {}", out.decode()), errors), (int(due != "accepted"), f"{due}\n", ""))
         seen[re.match(r"\w+", due)[0], any(clause.fresh() for clause in meaning.first)] += 1
+        ways.update(meaning for meaning in (sort or {}).values() if f"({meaning})" in due)
     check("every judgement was seen, with joins inside and without", min(seen.values()) >= 25 and len(seen) == 6, True)
+    check("every way was seen", [meaning for sort in SORTS for meaning in sort.values() if ways[meaning] < 5], [])

@@ -20,7 +20,7 @@ EXTENDING = "editor ((*o)o)\nplayer ((o*)o)\nboth (*o)\nlogger (o(*o))\nlist (*(
 PRINTING = [("ask", str(ANSWERED)), ("ask", "--bytes", str(ANSWERED)), ("ask", "--plain", str(ANSWERED)), ("ask", "--json", str(ANSWERED)),
             ("ask", "--svg", str(ANSWERED)), ("ask", "--help"), ("explain", "question.bytes"), ("explain", str(ANSWERED)),
             ("explain", "--help"), ("docs/draw",), ("ask", *JUDGED), ("ask", "--json", *JUDGED), ("ask", "--plain", *JUDGED),
-            ("ask", "--bytes", *JUDGED)]
+            ("ask", "--bytes", *JUDGED), ("ask", "--svg", *JUDGED)]
 
 
 def end(arguments, before=None, given=subprocess.DEVNULL, out=subprocess.PIPE, errors=subprocess.PIPE, **environment):

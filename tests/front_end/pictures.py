@@ -1,11 +1,13 @@
-"""Tests of pictures: of every kind of answer, of low trees and of tall ones, and the one that is stored."""
+"""Tests of pictures: of every kind of answer and of judgement, of low trees and of tall ones, the leaf that is marked, and the one that is stored."""
 
 import json
 import re
 from itertools import combinations
 from xml.etree import ElementTree
 
+from failing import FAILING, INSIDE
 from harness import TOP, check, command, process
+from judging import EQUALS, EXTENDS, JOINS, TALL as TALLEST, WITHS, fails, judged, never
 
 SVG = "{http://www.w3.org/2000/svg}"
 FULL, EMPTY = "#1f3a5f", "#ffffff"
@@ -68,12 +70,12 @@ def leaf_places(tree, path=""):
     return leaf_places(tree[1:at + 1], path + "l") + leaf_places(tree[at + 1:-1], path + "r")
 
 
-def check_picture(name, svg, shown, said):
+def check_picture(name, svg, shown, *said):
     """A picture of shown trees: well formed, all within its frame, each leaf once, nothing on top of something else."""
     root = ElementTree.fromstring(svg)
-    check(f"{name}: title", root.find(f"{SVG}title").text, ", ".join([said] + [f"{variable} {tree}" for variable, tree in shown.items()]))
+    check(f"{name}: title", root.find(f"{SVG}title").text, ", ".join(["; ".join(said)] + [f"{variable} {tree}" for variable, tree in shown.items()]))
     texts = [element.text for element in root.iter(f"{SVG}text")]
-    check(f"{name}: the sentence", " ".join(texts[:len(texts) - 2 * len(shown)]), said)
+    check(f"{name}: the sentences", " ".join(texts[:len(texts) - 2 * len(shown)]), " ".join(said))
     check(f"{name}: all within the frame", [element.attrib for element in root.iter() if not inside(root, element)], [])
     drawn = {group.find(f"{SVG}title").text: group for group in root.iter(f"{SVG}g") if group.find(f"{SVG}title") is not None}
     check(f"{name}: each tree", list(drawn), [f"{variable} {tree}" for variable, tree in shown.items()])
@@ -100,6 +102,64 @@ def test_pictures():
         check_picture(name, svg, answer["solution"] or {}, said)
         check(f"{name}: docs/draw draws the same", command("docs/draw", "-", given=text.encode()), (0, svg, ""))
     check("no picture without an answer", process("docs/draw", "-", given=b"no"), (2, b"", "-:1:1: 'satisfiable' or 'entails' is due here, not 'no'\n"))
+
+
+def marked(svg):
+    """Which leaves of each tree are marked, as paths of left and right."""
+    found = {}
+    for group in ElementTree.fromstring(svg).iter(f"{SVG}g"):
+        title = group.find(f"{SVG}title")
+        if title is not None:
+            name, tree = title.text.rsplit(" ", 1)
+            found[name] = [path for path, leaf in zip(leaf_places(tree), group.iter(f"{SVG}rect")) if leaf.get("stroke")]
+    return found
+
+
+OUTLINE = "that leaf has a red outline"
+PARTS = "satisfiable\nfree a b c\nlet L = (*o)\na join b is c\nc is L\na is not o"
+# A question, rows, what is said of them, the trees that are shown, and in which of them which leaf is marked.
+JUDGED = [
+    ("accepted", PARTS, "c L\na ((*o)o)\nb ((o*)o)", ["accepted: the rows solve the system"], {"a": "((*o)o)", "b": "((o*)o)", "c": "(*o)"}, {}),
+    ("extends", "entails\nfree a\nown x\nthen\nx is a", "a (o*)", [EXTENDS], {"a": "(o*)"}, {}),
+    ("no extension", "entails\nfree a\nthen\na is o", "a (o*)",
+     ["accepted: the rows solve the first system, and no own shares extend them to the second"], {"a": "(o*)"}, {}),
+    ("no variable", "satisfiable\n* is o", "", [*fails("0, line 2: * is o", EQUALS, "surplus", "* is full, o is empty", 0, "always left").split("\n"), OUTLINE],
+     {"*": "*", "o": "o"}, {"*": "", "o": ""}),
+    ("a join", PARTS, "a ((*o)o)\nb ((o*)(o*))\nc (*o)",
+     [*fails("0, line 4: a join b is c", JOINS, "surplus", "a is empty, b is full, c is empty", 768, "right, right, then always left").split("\n"), OUTLINE],
+     {"a": "((*o)o)", "b": "((o*)(o*))", "c": "(*o)"}, {"a": "r", "b": "rr", "c": "r"}),
+    ("a constant", PARTS, "a (o*)\nb (*o)\nc *",
+     [*fails("1, line 5: c is L", EQUALS, "surplus", "c is full, L is empty", 512, "right, then always left").split("\n"), OUTLINE],
+     {"a": "(o*)", "b": "(*o)", "c": "*", "L": "(*o)"}, {"c": "", "L": "r"}),
+    ("a disequation", PARTS, "a o\nb L\nc L", never("2, line 6: a is not o", "a is o").split("\n"), {"a": "o", "b": "(*o)", "c": "(*o)", "o": "o"}, {}),
+    ("joins inside", "satisfiable\nfree a b c d\na join b join (o*) is d", "a ((*o)o)\nb ((o*)o)\nc o\nd (*(*o))",
+     [*fails("1, line 3: a join b join (o*) is d", JOINS, "surplus", "a join b is empty, (o*) is full, d is empty", 768,
+             "right, right, then always left").split("\n"), OUTLINE],
+     {"a": "((*o)o)", "b": "((o*)o)", "c": "o", "d": "(*(*o))", "a join b": "(*o)", "(o*)": "(o*)"}, {"a join b": "r", "(o*)": "r", "d": "rr"}),
+    ("a join that is undefined", "satisfiable\nfree a b c\na join b join c is *", "a *\nb (o*)\nc o",
+     [*fails("0, line 3: a join b join c is *", JOINS, "overlap", "a is full, b is full", 512, "right, then always left").split("\n"), OUTLINE],
+     {"a": "*", "b": "(o*)", "c": "o"}, {"a": "", "b": "r"}),
+    ("a tall row", "satisfiable\nfree a b\na with b", f"a {TALLEST}\nb ((((*o)o)o)*)",
+     [*fails("0, line 3: a with b", WITHS, "overlap", "a is full, b is full", 0, "always left").split("\n"), OUTLINE],
+     {"a": TALLEST, "b": "((((*o)o)o)*)"}, {"a": "l" * 10, "b": "llll"}),
+]
+
+
+def test_judged_pictures():
+    """Rows that were judged, the trees that are shown beside them, and the leaf that is marked."""
+    for name, question, rows, said, shown, marks in JUDGED:
+        status, svg, errors = judged(question, rows, "--svg")
+        check(f"{name}, judged: status", (status, errors), (int(not said[0].startswith("accepted")), ""))
+        check_picture(f"{name}, judged", svg, shown, *said)
+        check(f"{name}, judged: the leaf that is marked", marked(svg), {word: [marks[word]] if word in marks else [] for word in shown})
+    for question, rows, _ in FAILING + INSIDE:
+        said, svg = json.loads(judged(question, rows, "--json")[1]), judged(question, rows, "--svg")[1]
+        path, found = "".join(step[0] for step in said["path"] or []), marked(svg)
+        check(f"{rows!r} for {question!r}: the leaf that is marked", {word: len(paths) for word, paths in found.items()},
+              {word: int(word in (said["values"] or {})) for word in found})
+        check(f"{rows!r} for {question!r}: where it is", [word for word, paths in found.items() if not all(path.startswith(place) for place in paths)], [])
+        check(f"{rows!r} for {question!r}: each share is drawn", set(said["values"] or {}) - set(found), set())
+    check("no picture of rows in error", judged(PARTS, "a o", "--svg"), (2, b"", "-:1:4: no row for b, c: a line for each is due before the text ends\n"))
 
 
 def test_stored_picture():

@@ -16,7 +16,7 @@ use Rattle.leaves.specs.Fixed.{fixedAt, withUnmet, withMissed}
 use Rattle.leaves.specs.Second as leaf
 use Rattle.systems.specs.Clauses.{Atom}
 use Rattle.systems.specs.Questions.{Question}
-use Rattle.systems.specs.AtLeaves.{readAs, readingAt, atomAt, allAt, bothAt, firstAt, secondAt}
+use Rattle.systems.specs.AtLeaves.{readAs, atomAt, allAt, bothAt, firstAt, secondAt}
 use Rattle.words.specs.Clause.{termValue}
 use Rattle.words.specs.Choices.{allPass, clauseFails, allPassBut, someOwn}
 use Rattle.words.specs.TermLaws.{position-free, value-variable, value-free, value-own}
@@ -30,7 +30,7 @@ use Rattle.format.specs.declared.Section.the-variants.{FirstPositive, FirstDise
 use Rattle.leaves.specs.Numbers.{numbered}
 use Rattle.leaves.specs.SameLaws.{solvable-same, fixed-same}
 use Rattle.steps.specs.Tests.{leafValues, firstMeets, firstDiffers, secondMeets, secondDiffers, specialIn, testsOf}
-use Rattle.decide.specs.StoredLaws.{row-digit, allReadings, all-read, reading-same, section-same}
+use Rattle.decide.specs.StoredLaws.{readingAt, row-digit, allReadings, all-read, reading-same, section-same}
 use Rattle.decide.specs.NamedLaws.{reading-kept}
 use Rattle.steps.specs.declared.Search.the-variants.{First, Unmet, Missed}
 

@@ -3,6 +3,7 @@ use mathlib.Core.Path.{_≡_, refl, sym, ap, ap₂, _∙_, subst}
 use mathlib.Core.Bool.{Bool, true, false, not, cond, _&&_, and-true, and-assoc}
 use mathlib.Core.List.{List, [], _∷_, _++_, map}
 use mathlib.Core.Logic.{_⊎_, inl, inr}
+use mathlib.Core.Option.{none, some}
 use Prim.Native.Nat.{ℕ, zero, suc, _+_, _-_, _*_, _^_, _≤_, _<_}
 use native.Mathlib.Nat.{le-of-suc-le-suc, not-suc-le-zero}
 use native.Mathlib.Omega.{arith}
@@ -13,16 +14,17 @@ use Rattle.shares.specs.Test.{is-true}
 use Rattle.shares.specs.Parts.{emptyPart, fullPart}
 use Rattle.shares.specs.Below.{everyBelow, one}
 use Rattle.shares.specs.Blocks.{firstOf}
-use Rattle.shares.specs.Tree.{joins}
+use Rattle.shares.specs.Tree.{isWay, leafTest}
+use Rattle.shares.specs.declared.Way.the-variants.{Holds}
 use Rattle.shares.specs.Constant.{constantLevels, bit}
 use Rattle.shares.specs.BitLaws.{bit-number}
 use Rattle.leaves.specs.Choices.{Row, nil, cons, at}
 use Rattle.leaves.specs.RowNumbers.{value}
 use Rattle.leaves.specs.ChoiceLaws.{value-lt}
 use Rattle.systems.specs.Clauses.{Term, variable, constant, Atom, Constants}
-use Rattle.systems.specs.AtLeaves.{LeafReading, joinsTo, apart, readAs, termAt, partAt, readingAt, atomAt, allAt}
+use Rattle.systems.specs.AtLeaves.{LeafReading, joinsTo, apart, readAs, readingWay, termAt, partAt, atomAt, allAt}
 use Rattle.systems.specs.AtomLaws.{InPart, InReading}
-use Rattle.words.specs.Clause.{testValue, clauseTest, allClauses, termValue}
+use Rattle.words.specs.Clause.{testWay, clauseTest, allClauses, termValue}
 use Rattle.words.specs.Choices.{valuesAt}
 use Rattle.shares.specs.BitParts.{bit-low, bit-high}
 use Rattle.shares.specs.BelowLaws.{every-more}
@@ -49,6 +51,10 @@ row-digit (suc n) (cons b v) (suc t) l =
     row-digit n v t (le-of-suc-le-suc l) ∙ sym (ap (bit (one b * 2 ^ n + value v)) (omega arith) ∙ bit-low n (one b) (value v) (value-lt n v) (n - 1 - t) (omega arith))
 
 -- ---- readings in a list
+
+-- a reading holds at a leaf
+abbrev pub readingAt : ℕ → Constants → ℕ → (ℕ → Bool) → LeafReading → Bool
+readingAt h cs b X t = isWay Holds (readingWay (partAt h cs b X) t)
 
 -- all of some readings
 abbrev pub allReadings : ℕ → Constants → ℕ → (ℕ → Bool) → List LeafReading → Bool
@@ -112,7 +118,7 @@ module _ (S : Stored) (d h b : ℕ) (few : d ≤ 32) where
     -- the test of a stored clause is the reading that its bytes stand for
     pub reading-same : (at : ℕ) → StoredClause k d (fourAt (S .clauses) at) → InReading (Kept (S .named)) (readingFrom (fourAt (S .clauses) at))
         → readingAt h (storedConstants S d) b X (readingFrom (fourAt (S .clauses) at)) ≡ clauseTest (S .clauses) (termValue n m (leafValues S h b) z) at
-    unfolding readingFrom clauseTest testValue readingAt
+    unfolding readingFrom clauseTest testWay readingWay
     reading-same at C p = go (eqb (getD (S .clauses) at 0) 0) p
       where
         j : LeafJoin
@@ -123,7 +129,7 @@ module _ (S : Stored) (d h b : ℕ) (few : d ≤ 32) where
 
         go : (v : Bool) → InReading (Kept (S .named)) (cond v (joinsTo (partOf (j .first)) (partOf (j .second)) (partOf (j .sum))) (apart (partOf (j .first)) (partOf (j .second))))
             → readingAt h (storedConstants S d) b X (cond v (joinsTo (partOf (j .first)) (partOf (j .second)) (partOf (j .sum))) (apart (partOf (j .first)) (partOf (j .second))))
-            ≡ cond v (joins (val (j .first)) (val (j .second)) (val (j .sum))) (not (val (j .first) && val (j .second)))
+            ≡ isWay Holds (leafTest (val (j .first)) (val (j .second)) (cond v (some (val (j .sum))) none))
         go true g = rw (part-same (j .first) (C .first) (g .0), part-same (j .second) (C .second) (g .1), part-same (j .sum) (C .sum) (g .2)) refl
         go false g = rw (part-same (j .first) (C .first) (g .0), part-same (j .second) (C .second) (g .1)) refl
 

@@ -1,22 +1,19 @@
 -- What the code finds of the rows is the judgement. Assumes nothing.
-use mathlib.Core.Path.{_≡_, sym, ap, ap₂, _∙_, subst}
-use mathlib.Core.Bool.{Bool, true, false}
+use mathlib.Core.Path.{_≡_, refl, sym, ap, ap₂, _∙_, subst}
+use mathlib.Core.Bool.{Bool, true, false, cond}
 use mathlib.Core.List.{List}
 use mathlib.Core.Logic.{_↔_}
 use Prim.Native.Nat.{ℕ, _+_, _-_, _*_, _^_, _≤_, _<_}
 use native.Mathlib.Omega.{arith}
-use lib.Dec.{T}
+use lib.Dec.{T, ltb}
 use lib.ListN.{length, getD, drop, length-drop}
 use lib.Seq.{getD-drop}
 use Rattle.shares.specs.Constant.{constantLevels}
 use Rattle.shares.specs.Test.{same-test, is-true, of-true}
-use Rattle.systems.specs.Questions.{entailment, Question, WellFormed}
-use Rattle.format.specs.declared.Section.the-variants.{FirstPositive, FirstDisequation}
+use Rattle.systems.specs.Questions.{entailment, Question}
 use Rattle.format.specs.declared.Question as stored
 use Rattle.format.specs.FormatLaws.{accepted-formed}
 use Rattle.format.specs.Stored.{storedOf, Stands}
-use Rattle.format.specs.SectionLaws.{both-counts}
-use Rattle.format.specs.KeepingLaws.{section-count}
 use Rattle.format.specs.Callers.{kind-satisfiability, kind-entailment}
 use Rattle.beside.specs.declared.Sizes.{Sizes}
 use Rattle.beside.specs.Beside.{Readable}
@@ -27,15 +24,15 @@ use Rattle.decide.specs.NamedLaws.{named-lt, first-kept}
 use Rattle.unfolded.specs.Unfolded.{Unfolded, ZeroBytes}
 use Rattle.extending.specs.Extending.{extendsIn}
 use Rattle.asking.specs.Demand3.{rowShares}
-use Rattle.judging.specs.Judging.{turnedAway, judged, isZero, judgedWith, lowestBroken, extendsAt, unbroken, judgementOf}
+use Rattle.judging.specs.Judging.{turnedAway, judged, isZero, judgedWith, clauseOf, lowestBroken, extendsAt, brokenAs, unbroken, judgementOf}
 use Rattle.judging.specs.Exactly.{Exactly, AskingShows}
-use Rattle.judging.specs.Walk.{Laid}
+use Rattle.judging.specs.Walk.{Laid, firstJudged}
 use Rattle.judging.specs.ExtendLaws.{extends-same}
 use Rattle.judging.specs.CaseLaws.{zero-part, zero-bytes, judged-read}
-use Rattle.judging.specs.ModelLaws.{given-broken, given-unbroken, judged-exactly}
+use Rattle.judging.specs.ModelLaws.{said-broken, judged-exactly}
 use Rattle.judging.specs.ShownAccepted.{shown-accepted}
 use Rattle.judging.specs.declared.Judgement.{Judgement}
-use Rattle.judging.specs.declared.Judgement.the-variants.{Refused, Accepted, Broken, Extending}
+use Rattle.judging.specs.declared.Judgement.the-variants.{Refused, Accepted, Extending}
 
 -- ---- rows of a question that was read
 
@@ -43,11 +40,6 @@ module _ (x : stored.Question) (clauses rows : List ℕ) (q : Question) (St : St
   -- a table of the rows and the constants
   pub laid : (table : List ℕ) → Unfolded constantLevels rows (x .constants) (x .named) table → Laid q rows (x .constants) (x .named) table
   laid table U = record { constants-are = St .constants; kept = first-kept (storedOf x clauses) q St; unfolded = U }
-
-  -- how many clauses the first system has
-  count-first : length (q .first) ≡ getD (x .counts) 0 0 + getD (x .counts) 1 0
-  count-first =
-      omega (arith, both-counts (q .first), section-count (storedOf x clauses) q St FirstPositive, section-count (storedOf x clauses) q St FirstDisequation)
 
   -- what the second system's clauses are asked with
   module _ (sizes : Sizes) (sized : sizes ≡ sizesOf x) where
@@ -59,14 +51,27 @@ module _ (x : stored.Question) (clauses rows : List ℕ) (q : Question) (St : St
     extends-found table U b e =
         e ∙ ap (λ z. extendsIn (storedBy z clauses (x .constants)) table) sized ∙ extends-same (storedOf x clauses) q St rows (x .constants) table (x .named) U
 
-  module _ (F : WellFormed q) (k : ℕ) (found : k ≡ lowestBroken q rows) where
-    pub rows-broken : k < getD (x .counts) 0 0 + getD (x .counts) 1 0 → Broken k ≡ judgementOf (judged q) rows
-    rows-broken l = ap Broken found ∙ sym (given-broken q F rows (omega (arith, found, count-first)))
+  -- the judgement of the first system alone
+  module _ (r : Judgement) (found : r ≡ firstJudged q rows) where
+    -- where it is broken, that is the whole judgement
+    pub rows-broken : (r ≡ Accepted → ⊥) → r ≡ judgementOf (judged q) rows
+    rows-broken other = found ∙ go (ltb (lowestBroken q rows) (length (q .first))) refl
+      where
+        go : (b : Bool) → ltb (lowestBroken q rows) (length (q .first)) ≡ b → firstJudged q rows ≡ judgementOf (judged q) rows
+        go true e = rw e refl
+        go false e = absurd (other (found ∙ rw e refl))
 
-    module _ (m : getD (x .counts) 0 0 + getD (x .counts) 1 0 ≤ k) where
+    module _ (solved : r ≡ Accepted) where
       -- no clause is broken
       unbroken-here : judgementOf (judged q) rows ≡ unbroken (q .kind) (extendsAt q rows)
-      unbroken-here = given-unbroken q F rows (omega (arith, found, count-first))
+      unbroken-here = go (ltb (lowestBroken q rows) (length (q .first))) (sym found ∙ solved)
+        where
+          broken : Judgement
+          broken = brokenAs (q .constants) rows (lowestBroken q rows) (clauseOf (q .first) (lowestBroken q rows))
+
+          go : (b : Bool) → cond b broken Accepted ≡ Accepted → cond b broken (unbroken (q .kind) (extendsAt q rows)) ≡ unbroken (q .kind) (extendsAt q rows)
+          go true e = absurd (said-broken (q .constants) rows (lowestBroken q rows) (clauseOf (q .first) (lowestBroken q rows)) .accepted e)
+          go false e = refl
 
       pub rows-satisfied : x .kind ≡ 0 → Accepted ≡ judgementOf (judged q) rows
       rows-satisfied z = sym (unbroken-here ∙ ap (λ k. unbroken k (extendsAt q rows)) (kind-satisfiability (storedOf x clauses) q St z))

@@ -6,12 +6,15 @@ use lib.Dec.{eqb, ltb}
 use lib.ListN.{length, getD, drop}
 use Rattle.shares.specs.Below.{everyBelow, firstBelow}
 use Rattle.shares.specs.Blocks.{blockOf}
+use Rattle.shares.specs.Tree.{isWay}
+use Rattle.shares.specs.declared.Way.{Way}
+use Rattle.shares.specs.declared.Way.the-variants.{Holds}
 use Rattle.leaves.specs.Choices.{Row, table, least}
 use Rattle.leaves.specs.Problem.{solvable}
 use Rattle.leaves.specs.Second.{beside}
 use Rattle.systems.specs.Clauses.{Constants, variable, Atom, equal, Clause, positive, negated, System}
 use Rattle.systems.specs.Questions.{Kind, satisfiability, entailment, Question}
-use Rattle.systems.specs.AtLeaves.{atomAt, secondAt}
+use Rattle.systems.specs.AtLeaves.{atomWay, secondAt}
 use Rattle.format.specs.Format.{Result, refused, accepted, read}
 use Rattle.rows.specs.Rows.{rowLevels, rowBytes, answerBytes, rowLeaf, rowPart}
 use Rattle.judging.specs.declared.Judgement.{Judgement}
@@ -47,10 +50,17 @@ judgedWith s rows = handedTo (read s) rows
 abbrev pub rowAt : ℕ → List ℕ → ℕ → ℕ → Bool
 rowAt levels rows i v = rowLeaf (rowPart (rowLevels levels) rows v) i
 
--- an atom holds at every leaf of the rows
+-- how an atom comes out at leaf i of the rows
+abbrev pub rowWay : Constants → List ℕ → Atom → ℕ → Way
+rowWay cs rows a i = atomWay (cs .levels) cs (blockOf (cs .levels) (rowLevels (cs .levels)) i) (rowAt (cs .levels) rows i) a
+
+-- it holds at every leaf of the rows
 unfoldable pub everywhere : Constants → List ℕ → Atom → Bool
-everywhere cs rows a =
-    everyBelow (2 ^ rowLevels (cs .levels)) (λ i. atomAt (cs .levels) cs (blockOf (cs .levels) (rowLevels (cs .levels)) i) (rowAt (cs .levels) rows i) a)
+everywhere cs rows a = everyBelow (2 ^ rowLevels (cs .levels)) (λ i. isWay Holds (rowWay cs rows a i))
+
+-- the lowest leaf of the rows at which it does not hold; their count if there is none
+unfoldable pub failingLeaf : Constants → List ℕ → Atom → ℕ
+failingLeaf cs rows a = firstBelow (2 ^ rowLevels (cs .levels)) (λ i. not (isWay Holds (rowWay cs rows a i)))
 
 -- a clause that stands for none
 abbrev pub noClause : Clause
@@ -81,6 +91,11 @@ extendsAt q rows =
 
 -- ---- the result
 
+-- clause k is broken: of a positive one, how it comes out at the lowest leaf at which it does not hold, and that leaf; of a disequation neither
+abbrev pub brokenAs : Constants → List ℕ → ℕ → Clause → Judgement
+brokenAs cs rows k (positive a) = Broken k (rowWay cs rows a (failingLeaf cs rows a)) (failingLeaf cs rows a)
+brokenAs cs rows k (negated a) = Broken k Holds 0
+
 -- where no clause of the first system is broken: only an entailment asks whether the rows extend
 abbrev pub unbroken : Kind → Bool → Judgement
 unbroken satisfiability extends = Accepted
@@ -89,4 +104,7 @@ unbroken entailment extends = cond extends Extending Accepted
 -- what judging gives
 abbrev pub judgementOf : Judged → List ℕ → Judgement
 judgementOf (turnedAway n place) rows = Refused n place
-judgementOf (judged q) rows = cond (ltb (lowestBroken q rows) (length (q .first))) (Broken (lowestBroken q rows)) (unbroken (q .kind) (extendsAt q rows))
+judgementOf (judged q) rows =
+    cond (ltb (lowestBroken q rows) (length (q .first)))
+    (brokenAs (q .constants) rows (lowestBroken q rows) (clauseOf (q .first) (lowestBroken q rows)))
+    (unbroken (q .kind) (extendsAt q rows))

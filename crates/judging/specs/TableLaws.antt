@@ -1,24 +1,26 @@
 -- The joins of a table are the readings of atoms at the leaves of the rows. Assumes nothing.
-use mathlib.Core.Path.{_≡_, refl, _∙_}
-use mathlib.Core.Bool.{true, false}
+use mathlib.Core.Path.{_≡_, refl, ap, _∙_}
+use mathlib.Core.Bool.{true, false, not}
 use mathlib.Core.List.{List}
 use Prim.Native.Nat.{ℕ, _-_, _^_, _≤_, _<_}
 use native.Mathlib.Nat.{mul-one}
 use native.Mathlib.Omega.{arith}
 use lib.ListN.{length, take, length-take}
 use lib.Seq.{getD-take}
-use Rattle.shares.specs.BelowLaws.{every-ext}
+use Rattle.shares.specs.BelowLaws.{first-ext}
 use Rattle.shares.specs.Blocks.{blockOf}
+use Rattle.shares.specs.Tree.{isWay}
+use Rattle.shares.specs.declared.Way.the-variants.{Holds}
 use Rattle.systems.specs.Clauses.{Term, variable, constant, Constants, Atom}
 use Rattle.systems.specs.Questions.{Defined, InAtom}
-use Rattle.systems.specs.AtLeaves.{Part, of, always, LeafReading, joinsTo, apart, readAs, termAt, partAt, readingAt}
+use Rattle.systems.specs.AtLeaves.{Part, of, always, LeafReading, joinsTo, apart, readAs, readingWay, termAt, partAt}
 use Rattle.systems.specs.AtomLaws.{InPart, InReading, in-reading}
 use Rattle.format.specs.Stored.{partByte, fourOf}
-use Rattle.words.specs.Clause.{testValue}
+use Rattle.words.specs.Clause.{testWay}
 use Rattle.decide.specs.StoredLaws.{Kept}
 use Rattle.rows.specs.Rows.{rowLevels, rowCount}
-use Rattle.unfolded.specs.Unfolded.{rowWords, leafOf, Unfolded, joinAt, joinEverywhere, PartsIn}
-use Rattle.judging.specs.Judging.{rowAt, everywhere}
+use Rattle.unfolded.specs.Unfolded.{rowWords, leafOf, Unfolded, joinWay, joinFailing, PartsIn}
+use Rattle.judging.specs.Judging.{rowAt, rowWay, failingLeaf}
 
 -- a term names something defined and, if it is a constant, its bit is set among those that are named
 abbrev pub DefinedKept : ℕ → Constants → ℕ → Term → Type 0
@@ -45,15 +47,20 @@ module _ (levels : ℕ) (rows constants : List ℕ) (named : ℕ) (table : List 
 
       -- a join there
       join-leaf : (t : LeafReading) → InReading (DefinedKept n cs named) t
-          → joinAt (rowWords levels) table (fourOf t) i ≡ readingAt levels cs (blockOf levels (rowLevels levels) i) (rowAt levels rows i) t
-      unfolding testValue readingAt
+          → joinWay (rowWords levels) table (fourOf t) i ≡ readingWay (partAt levels cs (blockOf levels (rowLevels levels) i) (rowAt levels rows i)) t
+      unfolding testWay readingWay
       join-leaf (joinsTo u v w) d = rw (part-leaf u (d .0), part-leaf v (d .1), part-leaf w (d .2)) refl
       join-leaf (apart u v) d = rw (part-leaf u (d .0), part-leaf v (d .1)) refl
 
-    -- at every leaf
-    pub join-everywhere : (a : Atom) → InAtom (DefinedKept n cs named) a → joinEverywhere levels table (fourOf (readAs a)) ≡ everywhere cs rows a
-    unfolding everywhere
-    join-everywhere a d = every-ext (2 ^ rowLevels levels) _ _ (λ i l. join-leaf i l (readAs a) (in-reading (DefinedKept n cs named) a d))
+    module _ (a : Atom) (d : InAtom (DefinedKept n cs named) a) where
+      -- an atom there
+      pub join-way : (i : ℕ) → i < 2 ^ rowLevels levels → joinWay (rowWords levels) table (fourOf (readAs a)) i ≡ rowWay cs rows a i
+      join-way i l = join-leaf i l (readAs a) (in-reading (DefinedKept n cs named) a d)
+
+      -- the lowest leaf at which it does not hold
+      pub join-failing : joinFailing levels table (fourOf (readAs a)) ≡ failingLeaf cs rows a
+      unfolding failingLeaf
+      join-failing = first-ext (2 ^ rowLevels levels) _ _ (λ i l. ap (λ w. not (isWay Holds w)) (join-way i l))
 
 -- ---- the parts of an atom have a place in the table
 

@@ -1,18 +1,24 @@
 -- Going over the commands of an accepted question meets the clauses of its first system one by one. Assumes nothing.
 use mathlib.Core.Path.{_≡_, refl, sym, ap, _∙_, subst}
-use mathlib.Core.Bool.{Bool, true, false, not, cond, Bool·not-not}
+use mathlib.Core.Bool.{Bool, true, false, not, cond, Bool·not-not, true≢false}
 use mathlib.Core.List.{List, [], _∷_, _++_, append-nil, append-assoc}
 use mathlib.Core.Logic.{_⊎_, inl, inr}
-use Prim.Native.Nat.{ℕ, zero, suc, _+_, _-_, _*_, _≤_, _<_}
+use Prim.Native.Nat.{ℕ, zero, suc, _+_, _-_, _*_, _^_, _≤_, _<_}
 use native.Mathlib.Nat.{eq-or-lt-of-le, le-of-suc-le-suc, not-suc-le-zero}
 use native.Mathlib.Omega.{arith}
-use borrow.Author.Tests.{lt-ltb, le-ltb}
-use lib.ListN.{length, getD, length-append}
+use borrow.Author.Tests.{lt-ltb, le-ltb, eq-eqb}
+use lib.Arith.{lt-of-le-ne}
+use lib.Dec.{eqb, ltb}
+use lib.ListN.{length, getD, take, length-append}
 use lib.Seq.{getD-at}
 use Rattle.shares.specs.Constant.{constantLevels, bytesAt}
-use Rattle.shares.specs.BelowLaws.{first-is, first-none}
+use Rattle.shares.specs.BelowLaws.{every-first, first-le, first-is, first-none}
+use Rattle.shares.specs.Tree.{isWay}
+use Rattle.shares.specs.declared.Way.{Way}
+use Rattle.shares.specs.declared.Way.the-variants.{Holds}
 use Rattle.systems.specs.Clauses.{Term, Atom, Clause, positive, negated, Constants}
 use Rattle.systems.specs.Questions.{Question, Defined, InAtom, InSystem, WellFormed}
+use Rattle.systems.specs.AtLeaves.{readAs}
 use Rattle.systems.specs.SystemLaws.{in-system}
 use Rattle.format.specs.declared.Section.{Section}
 use Rattle.format.specs.declared.Section.the-variants.{FirstPositive, FirstDisequation, SecondPositive, SecondDisequation}
@@ -23,17 +29,19 @@ use Rattle.format.specs.declared.Step.the-variants.{Take, Refused}
 use Rattle.format.specs.Format.{mostPositive, mostDisequations, accepted, read, entryOf, operands, commandOf, wholeAt, readAt, atomOf}
 use Rattle.format.specs.SectionLaws.{both-counts}
 use Rattle.format.specs.FormatLaws.{size-some, Whole, read-whole, Limited, accepted-formed, accepted-limited}
-use Rattle.format.specs.Stored.{definedBy, constantSize, constantAt, placeOf, leading}
+use Rattle.format.specs.Stored.{fourOf, definedBy, constantSize, constantAt, placeOf, leading}
 use Rattle.format.specs.Keeping.{isEnd}
 use Rattle.format.specs.LeadLaws.{constant-read}
 use Rattle.decide.specs.StoredLaws.{Kept}
 use Rattle.encoding.specs.Order.{readOn, commandsFrom, firstSaid, firstClause, firstClauses}
 use Rattle.encoding.specs.OrderLaws.{in-order}
-use Rattle.rows.specs.Rows.{rowCount}
-use Rattle.judging.specs.Judging.{everywhere, clauseMet, noClause, clauseOf, lowestBroken}
-use Rattle.judging.specs.Walk.{breaksIn, CommandFits, commandBreaks, saysFirst, Laid, Lowest, Walk, HeldBelow, Gone}
+use Rattle.rows.specs.Rows.{rowLevels, rowCount}
+use Rattle.unfolded.specs.Unfolded.{joinFailing}
+use Rattle.judging.specs.Judging.{rowWay, everywhere, failingLeaf, clauseMet, noClause, clauseOf, lowestBroken, brokenAs}
+use Rattle.judging.specs.Walk.{breaksIn, saidIn, commandBreaks, commandSaid, CommandFits, saysFirst, Laid, firstJudged, First, Walk, HeldBelow, Gone}
 use Rattle.judging.specs.ModelLaws.{InClause, in-clause}
-use Rattle.judging.specs.TableLaws.{DefinedKept, join-everywhere, parts-in}
+use Rattle.judging.specs.TableLaws.{DefinedKept, join-way, join-failing, parts-in}
+use Rattle.judging.specs.declared.Judgement.the-variants.{Accepted, Broken}
 
 -- ---- what stands at an offset, by its byte and the bytes left
 
@@ -200,12 +208,39 @@ command-fits n cs few some Command.Head d = tt
 command-fits n cs few some (Command.Constant x) d = tt
 command-fits n cs few some (Command.Clause σ t a b c) d = parts-in n cs few some (atomOf t a b c) d
 
--- it is broken exactly if its clause is not met
+-- an atom holds at every leaf exactly if none is the lowest at which it does not
+everywhere-first : (cs : Constants) (rows : List ℕ) (a : Atom) → everywhere cs rows a ≡ eqb (failingLeaf cs rows a) (2 ^ rowLevels (cs .levels))
+unfolding everywhere failingLeaf
+everywhere-first cs rows a = every-first (2 ^ rowLevels (cs .levels)) (λ i. isWay Holds (rowWay cs rows a i))
+
+pub failing-le : (cs : Constants) (rows : List ℕ) (a : Atom) → failingLeaf cs rows a ≤ 2 ^ rowLevels (cs .levels)
+unfolding failingLeaf
+failing-le cs rows a = first-le (2 ^ rowLevels (cs .levels)) (λ i. not (isWay Holds (rowWay cs rows a i)))
+
+-- a clause is broken exactly if it is not met
 breaks-same : (cs : Constants) (rows : List ℕ) (x : Clause) (σ : Section) (a : Atom) → firstSaid σ a ≡ x ∷ [] → breaksIn σ (everywhere cs rows a) ≡ not (clauseMet cs rows x)
 breaks-same cs rows x FirstPositive a e = let f : x ≡ positive a = cc in rw f refl
 breaks-same cs rows x FirstDisequation a e = let f : x ≡ negated a = cc in rw f (sym (Bool·not-not (everywhere cs rows a)))
 breaks-same cs rows x SecondPositive a e = let z : _≡_ {A = ℕ} 0 1 = cc in absurd (omega arith)
 breaks-same cs rows x SecondDisequation a e = let z : _≡_ {A = ℕ} 0 1 = cc in absurd (omega arith)
+
+-- and what is said of it is the judgement
+said-same : (cs : Constants) (rows : List ℕ) (k : ℕ) (x : Clause) (σ : Section) (a : Atom) → firstSaid σ a ≡ x ∷ [] → saidIn σ (rowWay cs rows a) (failingLeaf cs rows a) k ≡ brokenAs cs rows k x
+said-same cs rows k x FirstPositive a e = let f : x ≡ positive a = cc in rw f refl
+said-same cs rows k x FirstDisequation a e = let f : x ≡ negated a = cc in rw f refl
+said-same cs rows k x SecondPositive a e = let z : _≡_ {A = ℕ} 0 1 = cc in absurd (omega arith)
+said-same cs rows k x SecondDisequation a e = let z : _≡_ {A = ℕ} 0 1 = cc in absurd (omega arith)
+
+-- where a positive clause is broken, the leaf is one of the row
+pub leaf-lt : (leaf n : ℕ) → leaf ≤ n → not (eqb leaf n) ≡ true → leaf < n
+leaf-lt leaf n l b = lt-of-le-ne l (λ e. true≢false (sym b ∙ ap not (eq-eqb leaf n e)))
+
+-- only what stands at the leaves counts for that
+said-ext : (σ : Section) (n k : ℕ) (v w : ℕ → Way) (i j : ℕ) → i ≡ j → j ≤ n → breaksIn σ (eqb j n) ≡ true → ((i : ℕ) → i < n → v i ≡ w i) → saidIn σ v i k ≡ saidIn σ w j k
+said-ext FirstPositive n k v w i j e l b f = rw e (ap (λ x. Broken k x j) (f j (leaf-lt j n l b)))
+said-ext FirstDisequation n k v w i j e l b f = refl
+said-ext SecondPositive n k v w i j e l b f = refl
+said-ext SecondDisequation n k v w i j e l b f = refl
 
 module _ (s : List ℕ) (q : Question) (e : read s ≡ accepted q) where
   F : WellFormed q
@@ -222,25 +257,52 @@ module _ (s : List ℕ) (q : Question) (e : read s ≡ accepted q) where
     clause-fits : CommandFits c
     clause-fits = command-fits (q .free) (q .constants) (omega (arith, L .variables)) (L .constants) c (its-terms (Defined (q .free) (q .constants)) (F .first))
 
-    clause-breaks : (rows constants : List ℕ) (named : ℕ) (table : List ℕ) → Laid q rows constants named table
-        → commandBreaks constantLevels table c ≡ not (clauseMet (q .constants) rows (clauseOf (q .first) n))
-    clause-breaks rows constants named table laid =
-        go c f (its-terms _ (in-system (Defined (q .free) (q .constants)) (Kept named) (DefinedKept (q .free) (q .constants) named) (λ t d k. (d, k)) (q .first) (F .first) (laid .kept)))
-      where
-        few : q .free ≤ rowCount
-        few = omega (arith, L .variables)
+    module _ (rows constants : List ℕ) (named : ℕ) (table : List ℕ) (laid : Laid q rows constants named table) where
+      few : q .free ≤ rowCount
+      few = omega (arith, L .variables)
 
-        go : (c : Command) → firstClause c ≡ clauseOf (q .first) n ∷ [] → InCommand (DefinedKept (q .free) (q .constants) named) c
-            → commandBreaks constantLevels table c ≡ not (clauseMet (q .constants) rows (clauseOf (q .first) n))
-        go Command.End g d = let z : _≡_ {A = ℕ} 0 1 = cc in absurd (omega arith)
-        go Command.Head g d = let z : _≡_ {A = ℕ} 0 1 = cc in absurd (omega arith)
-        go (Command.Constant x) g d = let z : _≡_ {A = ℕ} 0 1 = cc in absurd (omega arith)
-        go (Command.Clause σ t a b c) g d =
-            ap (breaksIn σ)
-            (join-everywhere constantLevels rows constants named table (laid .unfolded) (definedBy q) (q .free) few (atomOf t a b c)
-            (subst (λ cs. InAtom (DefinedKept (q .free) cs named) (atomOf t a b c)) (laid .constants-are) d)
-            ∙ ap (λ cs. everywhere cs rows (atomOf t a b c)) (sym (laid .constants-are)))
-            ∙ breaks-same (q .constants) rows (clauseOf (q .first) n) σ (atomOf t a b c) g
+      -- the constants as the table has them
+      abbrev cs : Constants
+      cs = record { levels = constantLevels; numbers = take (definedBy q) constants }
+
+      kept : InCommand (DefinedKept (q .free) cs named) c
+      kept =
+          subst (λ cs. InCommand (DefinedKept (q .free) cs named) c) (laid .constants-are)
+          (its-terms _ (in-system (Defined (q .free) (q .constants)) (Kept named) (DefinedKept (q .free) (q .constants) named) (λ t d k. (d, k)) (q .first) (F .first) (laid .kept)))
+
+      -- the lowest leaf at which an atom does not hold, of the table and of the rows
+      failing-same : (a : Atom) → InAtom (DefinedKept (q .free) cs named) a → joinFailing constantLevels table (fourOf (readAs a)) ≡ failingLeaf cs rows a
+      failing-same a d = join-failing constantLevels rows constants named table (laid .unfolded) (definedBy q) (q .free) few a d
+
+      -- the clause is broken exactly if it is not met
+      clause-breaks : commandBreaks constantLevels table c ≡ not (clauseMet (q .constants) rows (clauseOf (q .first) n))
+      clause-breaks = rw (laid .constants-are) (go c f kept)
+        where
+          go : (c : Command) → firstClause c ≡ clauseOf (q .first) n ∷ [] → InCommand (DefinedKept (q .free) cs named) c
+              → commandBreaks constantLevels table c ≡ not (clauseMet cs rows (clauseOf (q .first) n))
+          go Command.End g d = let z : _≡_ {A = ℕ} 0 1 = cc in absurd (omega arith)
+          go Command.Head g d = let z : _≡_ {A = ℕ} 0 1 = cc in absurd (omega arith)
+          go (Command.Constant x) g d = let z : _≡_ {A = ℕ} 0 1 = cc in absurd (omega arith)
+          go (Command.Clause σ t a b c) g d =
+              ap (λ l. breaksIn σ (eqb l (2 ^ rowLevels constantLevels))) (failing-same (atomOf t a b c) d) ∙ ap (breaksIn σ) (sym (everywhere-first cs rows (atomOf t a b c)))
+              ∙ breaks-same cs rows (clauseOf (q .first) n) σ (atomOf t a b c) g
+
+      -- and what is said of it is the judgement
+      clause-said : commandBreaks constantLevels table c ≡ true → commandSaid constantLevels table c n ≡ brokenAs (q .constants) rows n (clauseOf (q .first) n)
+      clause-said = rw (laid .constants-are) (go c f kept)
+        where
+          go : (c : Command) → firstClause c ≡ clauseOf (q .first) n ∷ [] → InCommand (DefinedKept (q .free) cs named) c
+              → commandBreaks constantLevels table c ≡ true → commandSaid constantLevels table c n ≡ brokenAs cs rows n (clauseOf (q .first) n)
+          go Command.End g d e = let z : _≡_ {A = ℕ} 0 1 = cc in absurd (omega arith)
+          go Command.Head g d e = let z : _≡_ {A = ℕ} 0 1 = cc in absurd (omega arith)
+          go (Command.Constant x) g d e = let z : _≡_ {A = ℕ} 0 1 = cc in absurd (omega arith)
+          go (Command.Clause σ t a b c) g d e =
+              let atom = atomOf t a b c in
+              let same = failing-same atom d in
+              said-ext σ (2 ^ rowLevels constantLevels) n _ (rowWay cs rows atom) _ (failingLeaf cs rows atom) same (failing-le cs rows atom)
+              (ap (λ l. breaksIn σ (eqb l (2 ^ rowLevels constantLevels))) (sym same) ∙ e)
+              (join-way constantLevels rows constants named table (laid .unfolded) (definedBy q) (q .free) few atom d)
+              ∙ said-same cs rows n (clauseOf (q .first) n) σ atom g
 
 -- ---- the lowest clause that is broken
 
@@ -258,6 +320,25 @@ held-more q rows n held e k l = go (eq-or-lt-of-le (le-of-suc-le-suc (omega arit
     go (inl f) = rw f e
     go (inr m) = held k m
 
+-- ---- the judgement of the first system
+
+-- no clause is broken
+first-none-broken : (q : Question) (rows : List ℕ) (n : ℕ) → HeldBelow q rows n → length (q .first) ≡ n → Accepted ≡ firstJudged q rows
+first-none-broken q rows n held e =
+    let none : ltb (lowestBroken q rows) (length (q .first)) ≡ false = le-ltb (lowestBroken q rows) (length (q .first)) (omega (arith, lowest-none q rows n held e)) in
+    rw none refl
+
+-- clause n is, and none below it
+first-is-broken : (q : Question) (rows : List ℕ) (n : ℕ) → HeldBelow q rows n → n < length (q .first)
+    → not (clauseMet (q .constants) rows (clauseOf (q .first) n)) ≡ true → brokenAs (q .constants) rows n (clauseOf (q .first) n) ≡ firstJudged q rows
+first-is-broken q rows n held l broken = rw (lowest-there q rows n held l broken, lt-ltb n (length (q .first)) l) refl
+
+-- the number of "accepted" among the judgements is that of no other
+pub no-other : (_≡_ {A = ℕ} 1 0) ⊎ ((_≡_ {A = ℕ} 1 2) ⊎ (_≡_ {A = ℕ} 1 3)) → ⊥
+no-other (inl e) = omega arith
+no-other (inr (inl e)) = omega arith
+no-other (inr (inr e)) = omega arith
+
 -- ---- a turn of going over the commands
 
 module _ (s table : List ℕ) where
@@ -265,12 +346,12 @@ module _ (s table : List ℕ) where
   gone-start q e = (walk-start s q e, λ _ _ _ _ k l. absurd (not-suc-le-zero l))
 
   module _ {at n : ℕ} (g : Gone s table at n) where
-    pub lowest-refused : (m : ℕ) → readAt s at ≡ Refused m → Lowest s table n
-    lowest-refused m r q rows constants named e laid = sym (lowest-none q rows n (g q e .1 rows constants named laid) (walk-none s q (g q e .0) m r))
+    pub first-refused : (m : ℕ) → readAt s at ≡ Refused m → First s table Accepted
+    first-refused m r q rows constants named e laid = first-none-broken q rows n (g q e .1 rows constants named laid) (walk-none s q (g q e .0) m r)
 
     module _ {c : Command} {next : ℕ} (r : readAt s at ≡ Take c next) where
-      pub lowest-end : isEnd c ≡ true → Lowest s table n
-      lowest-end d q rows constants named e laid = sym (lowest-none q rows n (g q e .1 rows constants named laid) (walk-end s q (g q e .0) c next r d))
+      pub first-end : isEnd c ≡ true → First s table Accepted
+      first-end d q rows constants named e laid = first-none-broken q rows n (g q e .1 rows constants named laid) (walk-end s q (g q e .0) c next r d)
 
       module _ (d : isEnd c ≡ false) where
         pub gone-other : saysFirst c ≡ false → Gone s table next n
@@ -286,9 +367,11 @@ module _ (s table : List ℕ) where
               let w = walk-clause s q (g q e .0) c next r d f in
               clause-breaks s q e n c (w .0) (w .1) rows constants named table laid
 
-          pub lowest-broken : commandBreaks constantLevels table c ≡ true → Lowest s table n
-          lowest-broken b q rows constants named e laid =
-              sym (lowest-there q rows n (g q e .1 rows constants named laid) (gone-fits q e .1) (sym (breaks q rows constants named e laid) ∙ b))
+          pub first-broken : commandBreaks constantLevels table c ≡ true → First s table (commandSaid constantLevels table c n)
+          first-broken b q rows constants named e laid =
+              let w = walk-clause s q (g q e .0) c next r d f in
+              clause-said s q e n c (w .0) (w .1) rows constants named table laid b
+              ∙ first-is-broken q rows n (g q e .1 rows constants named laid) (w .0) (sym (breaks q rows constants named e laid) ∙ b)
 
           pub gone-first : commandBreaks constantLevels table c ≡ false → Gone s table next (n + 1)
           gone-first b q e = (

@@ -3,16 +3,17 @@ use mathlib.Core.Path.{_≡_, refl}
 use mathlib.Core.List.{List, [], _∷_, _++_}
 use Prim.Native.Nat.{ℕ}
 use Rattle.shares.specs.Below.{everyBelow, someBelow, firstBelow}
-use Rattle.shares.specs.Tree.{joinLeaf, joins}
+use Rattle.shares.specs.Tree.{joinLeaf, leafTest}
 use Rattle.shares.specs.Constant.{bit}
+use Rattle.shares.specs.declared.Way.the-variants.{Holds, Overlap, Surplus, Shortfall}
 use Rattle.leaves.specs.Choices.{someChoice, at, table, pickRow}
 use Rattle.leaves.specs.Problem.{plainAt, specialAt, solvable}
-use Rattle.systems.specs.Clauses.{variable, joined, equal, isFull, isEmpty, positive, negated, System, positives, disequations}
+use Rattle.systems.specs.Clauses.{variable, joined, equal, isFull, isEmpty, together, positive, negated, System, positives, disequations}
 use Rattle.systems.specs.Questions.{Kind, satisfiability, entailment, Question}
-use Rattle.systems.specs.AtLeaves.{termAt, partAt, readingAt, allAt, bothAt}
+use Rattle.systems.specs.AtLeaves.{readingWay, termAt, partAt, allAt, bothAt}
 use Rattle.format.specs.Format.{accepted}
 use Rattle.rows.specs.Rows.{rowLeaf, rowRange, rowPart, zeros}
-use Rattle.judging.specs.Judging.{turnedAway, judged, isZero, handedTo, everywhere, judgementOf}
+use Rattle.judging.specs.Judging.{turnedAway, judged, isZero, handedTo, everywhere, failingLeaf, judgementOf}
 use Rattle.judging.specs.declared.Judgement.the-variants.{Accepted, Broken, Extending}
 
 -- ---- the questions
@@ -25,6 +26,16 @@ asks kind free own first second =
 -- v0 is not v1; v0 is full
 abbrev unlike : Question
 unlike = asks satisfiability 2 0 (negated (equal (variable 0) (variable 1)) ∷ positive (isFull (variable 0)) ∷ []) []
+
+-- v0 is v1; v0 and v1 may be held together; v0 join v1 is the empty share v2
+abbrev alike : Question
+alike = asks satisfiability 2 0 (positive (equal (variable 0) (variable 1)) ∷ []) []
+
+abbrev beside : Question
+beside = asks satisfiability 2 0 (positive (together (variable 0) (variable 1)) ∷ []) []
+
+abbrev empty : Question
+empty = asks satisfiability 3 0 (positive (joined (variable 0) (variable 1) (variable 2)) ∷ []) []
 
 -- v0 is not empty; entails: it is full
 abbrev whole : Question
@@ -48,21 +59,34 @@ less = 0xFF ∷ 0xFF ∷ 0xFF ∷ 0x7F ∷ []
 abbrev last : List ℕ
 last = 0x00 ∷ 0x00 ∷ 0x00 ∷ 0x80 ∷ []
 
+-- these of the first eight leaves
+abbrev leaves : ℕ → List ℕ
+leaves byte = byte ∷ zeros 3
+
 -- those of v0 and v1, and zero for the others
 abbrev rowsWith : List ℕ → List ℕ → List ℕ
 rowsWith r s = r ++ (s ++ zeros 40)
 
 -- ---- what is given
 
--- the disequation stands first, so it is clause 0, and one leaf will do for it; the positive clause is asked at every leaf
-pub first-judged : (judgementOf (judged unlike) (rowsWith full full) ≡ Broken 0)
-    × (judgementOf (judged unlike) (rowsWith full less) ≡ Accepted) × (judgementOf (judged unlike) (rowsWith less full) ≡ Broken 1)
-unfolding everyBelow firstBelow joinLeaf joins bit positives disequations termAt partAt readingAt rowLeaf rowRange rowPart zeros everywhere
+-- the disequation stands first, so it is clause 0, and one leaf will do for it; the positive clause is asked at every leaf, and fails at the last
+pub first-judged : (judgementOf (judged unlike) (rowsWith full full) ≡ Broken 0 Holds 0)
+    × (judgementOf (judged unlike) (rowsWith full less) ≡ Accepted) × (judgementOf (judged unlike) (rowsWith less full) ≡ Broken 1 Shortfall 31)
+unfolding everyBelow firstBelow joinLeaf leafTest bit positives disequations readingWay termAt partAt rowLeaf rowRange rowPart zeros everywhere failingLeaf
 first-judged = (refl, refl, refl)
+
+-- of two leaves that fail the left one is named: leaf 3 is full in the first alone, and leaf 4 in the second alone; and of overlaps too
+pub ways-judged : (judgementOf (judged alike) (rowsWith (leaves 0x08) (leaves 0x10)) ≡ Broken 0 Surplus 3)
+    × (judgementOf (judged alike) (rowsWith (leaves 0x10) (leaves 0x08)) ≡ Broken 0 Shortfall 3)
+    × (judgementOf (judged beside) (rowsWith (leaves 0x70) (leaves 0x60)) ≡ Broken 0 Overlap 5)
+    × (judgementOf (judged empty) (rowsWith (leaves 0x30) (leaves 0x20)) ≡ Broken 0 Surplus 4)
+    × (judgementOf (judged empty) (rowsWith (leaves 0x20) (leaves 0x20)) ≡ Broken 0 Overlap 5)
+unfolding everyBelow firstBelow joinLeaf leafTest bit positives disequations readingWay termAt partAt rowLeaf rowRange rowPart zeros everywhere failingLeaf
+ways-judged = (refl, refl, refl, refl, refl)
 
 -- a share with one full leaf is not full; but it is the join of two, which are taller than the rows
 pub second-judged : (judgementOf (judged whole) (rowsWith last (zeros 4)) ≡ Accepted) × (judgementOf (judged parted) (rowsWith last (zeros 4)) ≡ Extending)
-unfolding everyBelow someBelow firstBelow joinLeaf joins bit someChoice at table pickRow plainAt specialAt solvable positives disequations termAt partAt readingAt allAt bothAt rowLeaf rowRange rowPart zeros everywhere
+unfolding everyBelow someBelow firstBelow joinLeaf leafTest bit someChoice at table pickRow plainAt specialAt solvable positives disequations readingWay termAt partAt allAt bothAt rowLeaf rowRange rowPart zeros everywhere
 second-judged = (refl, refl)
 
 -- rows of another length are 18, whatever is set in them; a bit in the row of an own variable is 19

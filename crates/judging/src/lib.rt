@@ -10,31 +10,42 @@ use format::Section;
 use format::Shape;
 use format::Test;
 use rows::ANSWER_BYTES;
+use shares::Way;
 use unfolded::ROW_WORDS;
 use unfolded::TABLE_WORDS;
 ghost use mathlib.Core.Path.{_≡_};
+ghost use mathlib.Core.Bool.{true};
 ghost use mathlib.Core.List.{List};
 ghost use Prim.Native.Nat.{ℕ, _+_, _≤_};
 ghost use lib.ListN.{length};
 ghost use Rattle.shares.specs.Constant.{constantLevels};
 ghost use Rattle.systems.specs.Questions as model;
+ghost use Rattle.format.specs.declared.Section.the-variants.{FirstPositive};
 ghost use Rattle.format.specs.Format.{mostConstants, termCount, operands, termByte, commandOf, accepted, read};
 ghost use Rattle.format.specs.Stored.{joinFor, storedOf, Stands, placeOf, leading};
 ghost use Rattle.format.specs.Keeping.{isEnd};
 ghost use Rattle.rows.specs.Rows.{answerBytes};
 ghost use Rattle.asking.specs.Demand3.{rowShares};
-ghost use Rattle.unfolded.specs.Unfolded.{joinEverywhere, PartsIn};
+ghost use Rattle.unfolded.specs.Unfolded.{PartsIn};
 ghost use Rattle.judging.specs.Judging.{judged, judgedWith, judgementOf};
 ghost use Rattle.judging.specs.Exactly.{Exactly, AskingShows};
 ghost use Rattle.judging.specs.declared.Judgement.the-variants.{Accepted};
-ghost use Rattle.judging.specs.Walk.{breaksIn, CommandFits, commandBreaks, saysFirst, Lowest};
+ghost use Rattle.judging.specs.Walk.{joinBreaks, joinSaid, commandBreaks, commandSaid, CommandFits, saysFirst, First};
 
 // What judging gives. Refused: the question with the reader's number and place, or the rows with 18 or 19. Accepted. Rejected because clause number k of the
-// first system is broken, the lowest such; or because the rows extend.
+// first system is broken, the lowest such; or because the rows extend. Of a broken positive clause: how its test comes out at the lowest leaf where it does not hold,
+// and that leaf; of a disequation neither.
 pub enum Judgement {
-    Refused { number: u8, place: usize },
+    Refused {
+        number: u8,
+        place: usize,
+    },
     Accepted,
-    Broken(usize),
+    Broken {
+        clause: usize,
+        way: Way,
+        leaf: usize,
+    },
     Extending,
 }
 
@@ -66,7 +77,7 @@ fn is_first(shape: Shape) -> bool
 // every leaf.
 fn breaks(leaves: &[u64; TABLE_WORDS], section: Section, join: LeafJoin) -> bool
     requires { ⌜ PartsIn join ⌝ }
-    ensures { λ r. ⌜ r ≡ breaksIn section (joinEverywhere constantLevels (now (leaves .entry)) join) ⌝ }
+    ensures { λ r. ⌜ r ≡ joinBreaks constantLevels (now (leaves .entry)) section join ⌝ }
 {
     let holds = unfolded::everywhere(leaves, join);
     match section {
@@ -74,6 +85,38 @@ fn breaks(leaves: &[u64; TABLE_WORDS], section: Section, join: LeafJoin) -> bool
         Section::FirstDisequation => holds,
         Section::SecondPositive => false,
         Section::SecondDisequation => false,
+    }
+}
+
+// What is said of positive clause k, which reads so and is broken: how its test comes out at the lowest leaf where it does not hold, and that leaf.
+fn broken_positive(leaves: &[u64; TABLE_WORDS], join: LeafJoin, k: usize) -> Judgement
+    requires { ⌜ PartsIn join × (joinBreaks constantLevels (now leaves) FirstPositive join ≡ true) ⌝ }
+    ensures { λ r. ⌜ r ≡ joinSaid constantLevels (now (leaves .entry)) FirstPositive join k ⌝ }
+{
+    let leaf = unfolded::first_failing(leaves, join);
+    Judgement::Broken {
+        clause: k,
+        way: unfolded::way_at(leaves, join, leaf),
+        leaf,
+    }
+}
+
+// Of clause k of a section. A disequation has neither, and one of the second system is never broken.
+fn broken(leaves: &[u64; TABLE_WORDS], section: Section, join: LeafJoin, k: usize) -> Judgement
+    requires { ⌜ PartsIn join × (joinBreaks constantLevels (now leaves) section join ≡ true) ⌝ }
+    ensures { λ r. ⌜ r ≡ joinSaid constantLevels (now (leaves .entry)) section join k ⌝ }
+{
+    match section {
+        Section::FirstPositive => broken_positive(leaves, join, k),
+        Section::FirstDisequation => {
+            Judgement::Broken {
+                clause: k,
+                way: Way::Holds,
+                leaf: 0,
+            }
+        }
+        Section::SecondPositive => Judgement::Accepted,
+        Section::SecondDisequation => Judgement::Accepted,
     }
 }
 
@@ -102,37 +145,55 @@ fn is_broken(leaves: &[u64; TABLE_WORDS], bytes: &[u8], i: usize, shape: Shape) 
     }
 }
 
-// The lowest clause of the first system that the rows of a table break, in the order of the question, or their count. The question is gone over once more from
-// behind its constants, for what was stored of it is apart by sections.
-fn lowest_broken(bytes: &[u8], from: usize, leaves: &[u64; TABLE_WORDS]) -> usize
+// What is said of that clause, which is broken, as clause k.
+fn broken_at(
+    leaves: &[u64; TABLE_WORDS],
+    bytes: &[u8],
+    i: usize,
+    shape: Shape,
+    k: usize,
+) -> Judgement
+    requires { ⌜ (i + operands shape ≤ length (now bytes)) × CommandFits (commandOf (now bytes) i shape) ⌝ }
+    requires { ⌜ commandBreaks constantLevels (now leaves) (commandOf (now bytes) i shape) ≡ true ⌝ }
+    ensures { λ r. ⌜ r ≡ commandSaid constantLevels (now (leaves .entry)) (commandOf (now (bytes .entry)) i shape) k ⌝ }
+{
+    let Shape::Clause(section, test) = shape else {
+        return Judgement::Accepted;
+    };
+    broken(leaves, section, join_at(bytes, i, test), k)
+}
+
+// The judgement of the first system alone: its lowest clause that the rows of a table break, in the order of the question, or accepted. The question is gone over
+// once more from behind its constants, for what was stored of it is apart by sections.
+fn judge_first(bytes: &[u8], from: usize, leaves: &[u64; TABLE_WORDS]) -> Judgement
     requires { ⌜ ((q : model.Question) × (read (now bytes) ≡ accepted q)) × (from ≡ placeOf (leading mostConstants (now bytes) 0)) ⌝ }
-    ensures { λ r. ⌜ Lowest (now (bytes .entry)) (now (leaves .entry)) r ⌝ }
+    ensures { λ r. ⌜ First (now (bytes .entry)) (now (leaves .entry)) r ⌝ }
 {
     let mut count: usize = 0;
     let mut at = from;
     while at < bytes.len() {
         let entry = table::entry_of(bytes[at]);
         let Entry::Known(shape) = entry else {
-            return count;
+            return Judgement::Accepted;
         };
         let width = table::operand_count(shape);
         let first = at + 1;
         if bytes.len() - first < width {
-            return count;
+            return Judgement::Accepted;
         }
         if is_end(shape) {
-            return count;
+            return Judgement::Accepted;
         }
         let next = first + width;
         if is_first(shape) {
             if is_broken(leaves, bytes, first, shape) {
-                return count;
+                return broken_at(leaves, bytes, first, shape, count);
             }
             count += 1;
         }
         at = next;
     }
-    count
+    Judgement::Accepted
 }
 
 // Judges rows that are as long as they must be, of a question that was read.
@@ -149,10 +210,10 @@ fn judge_rows(
 {
     let mut leaves = [0u64; TABLE_WORDS];
     unfolded::unfold(rows, &question.constants, question.named, &mut leaves);
-    let k = lowest_broken(bytes, 4 + CONSTANT_SIZE * question.defined, &leaves);
-    if k < question.counts[0] + question.counts[1] {
-        return Judgement::Broken(k);
-    }
+    let first = judge_first(bytes, 4 + CONSTANT_SIZE * question.defined, &leaves);
+    let Judgement::Accepted = first else {
+        return first;
+    };
     if question.kind == 0 {
         return Judgement::Accepted;
     }

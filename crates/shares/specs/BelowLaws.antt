@@ -6,7 +6,8 @@ use Prim.Native.Nat.{ℕ, zero, suc, _+_, _-_, _≤_, _<_, zero-le, suc-le-suc}
 use native.Mathlib.Nat.{le-of-suc-le-suc, not-suc-le-zero, eq-or-lt-of-le, le-antisymm, lt-of-lt-of-le}
 use native.Mathlib.Decide.{decLt}
 use native.Mathlib.Omega.{arith}
-use lib.Dec.{T, T-not, not-T}
+use lib.Dec.{T, T-not, not-T, eqb}
+use borrow.Author.Tests.{eq-eqb, ne-eqb}
 use Rattle.shares.specs.Below.{everyBelow, someBelow, firstBelow, one, countBelow}
 use Rattle.shares.specs.Test.{is-true, is-false, of-true, of-false, passes, holds, same-test, and-intro, and-left, and-right, or-left, or-right, or-cases}
 
@@ -194,6 +195,19 @@ first-none n p none = le-antisymm (first-le n p) (low (decLt (firstBelow n p) n)
     low : Dec (firstBelow n p < n) → n ≤ firstBelow n p
     low (yes l) = absurd (T-not (p (firstBelow n p)) (of-false (none (firstBelow n p) l)) (first-below n p l))
     low (no g) = omega arith
+
+-- all pass exactly if none is the first that does not
+pub every-first : (n : ℕ) (p : ℕ → Bool) → everyBelow n p ≡ eqb (firstBelow n (λ i. not (p i))) n
+every-first n p = go (every-or n p)
+  where
+    go : ((i : ℕ) → i < n → T (p i)) ⊎ Below n (λ i. not (p i)) → everyBelow n p ≡ eqb (firstBelow n (λ i. not (p i))) n
+    go (inl f) =
+        is-true (everyBelow n p) (every-intro n p f)
+        ∙ sym (eq-eqb (firstBelow n (λ i. not (p i))) n (first-none n (λ i. not (p i)) (λ i l. ap not (is-true (p i) (f i l)))))
+    go (inr (i, l, t)) =
+        let below = first-passes n (λ i. not (p i)) i l t .0 in
+        is-false (everyBelow n p) (not-T (everyBelow n p) (λ u. T-not (p i) t (every-at n p u i l)))
+        ∙ sym (ne-eqb (firstBelow n (λ i. not (p i))) n (λ e. omega (arith, below)))
 
 -- a range in which some number passes has the same first number as a longer one
 pub first-longer : (a b : ℕ) (p : ℕ → Bool) → a ≤ b → T (someBelow a p) → firstBelow b p ≡ firstBelow a p

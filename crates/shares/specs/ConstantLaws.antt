@@ -1,5 +1,5 @@
 -- Laws of numbers as trees and trees as numbers, each for every number of leaves; the join of two numbers. Assumes nothing.
-use mathlib.Core.Path.{_≡_, sym, ap, _∙_, subst}
+use mathlib.Core.Path.{_≡_, refl, sym, ap, _∙_, subst}
 use mathlib.Core.Bool.{Bool, true, false, not, cond, _&&_, _||_}
 use mathlib.Core.Logic.{_↔_, _⊎_, inl, inr}
 use mathlib.Core.Option.{none, some}
@@ -11,7 +11,8 @@ use lib.Pow.{pow-pos}
 use borrow.Author.Tests.{eq-eqb, ne-eqb}
 use Rattle.shares.specs.Test.{is-true, is-false, passes}
 use Rattle.shares.specs.BelowLaws.{Below, some-intro, some-found}
-use Rattle.shares.specs.Tree.{Tree, leaf, Folded, height, leafAt, joinLeaf, joins, join}
+use Rattle.shares.specs.Tree.{Tree, leaf, Folded, height, leafAt, joinLeaf, join, leafTest}
+use Rattle.shares.specs.declared.Way.the-variants.{Holds}
 use Rattle.shares.specs.TreeLaws.{treeOf-folded, treeOf-height, leafAt-treeOf, leafAt-leaf, treeOf-ext, treeOf-leafAt}
 use Rattle.shares.specs.JoinLaws.{join-iff, join-none-iff}
 use Rattle.shares.specs.Constant.{bit, setInBoth, numberTree, treeNumber}
@@ -50,12 +51,12 @@ leaf-tree-number k b = bits-same (2 ^ k) _ _ (tree-number-lt k _) (low b) (λ i 
 
 -- ---- the join of two numbers
 
-joins-either : (x y : Bool) → T (not (x && y)) → T (joins x y (x || y))
-unfolding joins joinLeaf
+joins-either : (x y : Bool) → T (not (x && y)) → leafTest x y (some (x || y)) ≡ Holds
+unfolding leafTest joinLeaf
 joins-either true true t = absurd t
-joins-either true false t = tt
-joins-either false true t = tt
-joins-either false false t = tt
+joins-either true false t = refl
+joins-either false true t = refl
+joins-either false false t = refl
 
 module _ (w x y : ℕ) where
   shared-iff : T (setInBoth w x y) ↔ Below w (λ i. bit x i && bit y i)

@@ -4,7 +4,8 @@ use mathlib.Core.Bool.{true, false}
 use mathlib.Core.List.{[], _∷_}
 use mathlib.Core.Option.{none, some}
 use Rattle.shares.specs.Below.{everyBelow}
-use Rattle.shares.specs.Tree.{Tree, leaf, pair, twins, fold, height, half, full, leafAt, treeOf, joinLeaf, treeIf, joinAt, join}
+use Rattle.shares.specs.Tree.{Tree, leaf, pair, twins, fold, height, half, full, leafAt, treeOf, joinLeaf, treeIf, joinAt, join, leafTest}
+use Rattle.shares.specs.declared.Way.the-variants.{Holds, Overlap, Surplus, Shortfall}
 use Rattle.shares.specs.Constant.{bit, numberTree, constantLevels, number}
 use Rattle.shares.specs.Text.{text}
 
@@ -27,6 +28,14 @@ unfolded = (refl, refl, refl, refl)
 joined : (join L R ≡ some (leaf true)) × (join R R ≡ none) × (join (leaf false) L ≡ some L) × (join L (leaf true) ≡ none)
 unfolding treeOf fold twins joinLeaf treeIf join joinAt everyBelow leafAt half full height
 joined = (refl, refl, refl, refl)
+
+-- the test of a join at one leaf, of all parts and sums; where no sum is asked, the parts can only overlap
+tests : (leafTest true true (some true) ≡ Overlap) × (leafTest true true (some false) ≡ Overlap) × (leafTest true false (some false) ≡ Surplus)
+    × (leafTest false true (some false) ≡ Surplus) × (leafTest false false (some true) ≡ Shortfall) × (leafTest true false (some true) ≡ Holds)
+    × (leafTest false true (some true) ≡ Holds) × (leafTest false false (some false) ≡ Holds)
+    × (leafTest true true none ≡ Overlap) × (leafTest true false none ≡ Holds) × (leafTest false true none ≡ Holds) × (leafTest false false none ≡ Holds)
+unfolding leafTest joinLeaf
+tests = (refl, refl, refl, refl, refl, refl, refl, refl, refl, refl, refl, refl)
 
 -- a taller right half counts too
 heights : (height (leaf true) ≡ 0) × (height L ≡ 1) × (height (pair L (leaf false)) ≡ 2) × (height (pair (leaf false) R) ≡ 2)

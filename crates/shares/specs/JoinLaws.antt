@@ -1,29 +1,22 @@
 -- Laws of the join, each for every height: the join and its negation leaf by leaf, and when it is undefined. Assumes nothing.
 use mathlib.Core.Path.{_≡_, refl, sym, ap, ap₂, _∙_}
-use mathlib.Core.Bool.{Bool, true, false, not, cond, _&&_, Bool·beq}
+use mathlib.Core.Bool.{Bool, true, false, not, cond, _&&_}
 use mathlib.Core.Logic.{_↔_, _⊎_, inl, inr}
 use mathlib.Core.Option.{Option, none, some, Option·getD, Option·some-injective, Option·some-ne-none, Option·none-ne-some}
 use Prim.Native.Nat.{ℕ, _^_, _≤_, _<_, max, zero-le}
 use native.Mathlib.Nat.{max-le, le-max-left, le-max-right, le-refl}
 use lib.Dec.{T, T-not, not-T}
-use Rattle.shares.specs.Test.{passes, is-false, beq-iff, same-test, cond-passed, cond-failed, cond-law}
+use Rattle.shares.specs.Test.{passes, is-false, same-test, cond-passed, cond-failed, cond-law}
 use Rattle.shares.specs.Below.{everyBelow}
 use Rattle.shares.specs.BelowLaws.{Below, every-at, every-intro, every-ext, every-or, fails-iff}
 use Rattle.shares.specs.Blocks.{blockOf, firstOf}
 use Rattle.shares.specs.BlockLaws.{block-lt, first-lt, block-first}
-use Rattle.shares.specs.Tree.{Tree, leaf, Folded, height, leafAt, treeOf, joinLeaf, isLeaf, joins, defined, treeIf, joinAt, join}
-use Rattle.shares.specs.TreeLaws.{leafAt-leaf, equal-iff, equal-test-iff, leafAt-treeOf, treeOf-folded, treeOf-height, treeOf-ext, treeOf-leafAt, treeOf-blocks, blocks}
+use Rattle.shares.specs.Tree.{Tree, leaf, Folded, height, leafAt, treeOf, joinLeaf, defined, treeIf, joinAt, join, isWay, leafTest}
+use Rattle.shares.specs.declared.Way.the-variants.{Holds}
+use Rattle.shares.specs.WayLaws.{way-iff, is-way-iff, apart-iff}
+use Rattle.shares.specs.TreeLaws.{leafAt-leaf, equal-iff, leafAt-treeOf, treeOf-folded, treeOf-height, treeOf-ext, treeOf-leafAt, treeOf-blocks, blocks}
 
 -- ---- one leaf
-
-is-leaf-iff : (o : Option Bool) (z : Bool) → T (isLeaf o z) ↔ (o ≡ some z)
-is-leaf-iff none z = (λ t. absurd t, λ e. absurd (Option·none-ne-some z e))
-is-leaf-iff (some v) z = (λ t. ap some (beq-iff v z .0 t), λ e. beq-iff v z .1 (Option·some-injective v z e))
-
--- the test at one leaf says that the join there is the third
-joins-iff : (x y z : Bool) → T (joins x y z) ↔ (joinLeaf x y ≡ some z)
-unfolding joins
-joins-iff x y z = is-leaf-iff (joinLeaf x y) z
 
 -- it is undefined for full with full alone
 overlap : (x y : Bool) → not (defined (joinLeaf x y)) ≡ (x && y)
@@ -134,19 +127,21 @@ join-comm a b =
 -- ---- the join, leaf by leaf
 
 pub join-iff : (k : ℕ) (a b c : Tree) → Folded c → height a ≤ k → height b ≤ k → height c ≤ k
-    → (join a b ≡ some c) ↔ ((i : ℕ) → i < 2 ^ k → T (joins (leafAt k a i) (leafAt k b i) (leafAt k c i)))
+    → (join a b ≡ some c) ↔ ((i : ℕ) → i < 2 ^ k → leafTest (leafAt k a i) (leafAt k b i) (some (leafAt k c i)) ≡ Holds)
 unfolding joinAt
 join-iff k a b c fc ha hb hc =
     let J = treeIf-iff k (λ i. joinLeaf (leafAt k a i) (leafAt k b i)) c fc hc in (
-      λ e i l. joins-iff (leafAt k a i) (leafAt k b i) (leafAt k c i) .1 (J .0 (joinAt-join k a b ha hb ∙ e) i l),
-      λ f. sym (joinAt-join k a b ha hb) ∙ J .1 (λ i l. joins-iff (leafAt k a i) (leafAt k b i) (leafAt k c i) .0 (f i l)),
+      λ e i l. way-iff Holds (leafAt k a i) (leafAt k b i) (leafAt k c i) .1 (J .0 (joinAt-join k a b ha hb ∙ e) i l),
+      λ f. sym (joinAt-join k a b ha hb) ∙ J .1 (λ i l. way-iff Holds (leafAt k a i) (leafAt k b i) (leafAt k c i) .0 (f i l)),
     )
 
 -- it fails at a leaf, which is found
 pub not-join-iff : (k : ℕ) (a b c : Tree) → Folded c → height a ≤ k → height b ≤ k → height c ≤ k
-    → (¬ (join a b ≡ some c)) ↔ Below (2 ^ k) (λ i. not (joins (leafAt k a i) (leafAt k b i) (leafAt k c i)))
+    → (¬ (join a b ≡ some c)) ↔ Below (2 ^ k) (λ i. not (isWay Holds (leafTest (leafAt k a i) (leafAt k b i) (some (leafAt k c i)))))
 not-join-iff k a b c fc ha hb hc =
-    fails-iff (2 ^ k) (λ i. joins (leafAt k a i) (leafAt k b i) (leafAt k c i)) (join-iff k a b c fc ha hb hc)
+    let J = join-iff k a b c fc ha hb hc in
+    fails-iff (2 ^ k) (λ i. isWay Holds (leafTest (leafAt k a i) (leafAt k b i) (some (leafAt k c i))))
+    (λ e i l. is-way-iff Holds _ .1 (J .0 e i l), λ f. J .1 (λ i l. is-way-iff Holds _ .0 (f i l)))
 
 -- it is undefined exactly if some leaf is full in both, and one is found
 pub join-none-iff : (k : ℕ) (a b : Tree) → height a ≤ k → height b ≤ k → (join a b ≡ none) ↔ Below (2 ^ k) (λ i. leafAt k a i && leafAt k b i)
@@ -157,40 +152,45 @@ join-none-iff k a b ha hb =
       λ (i, l, t). sym (joinAt-join k a b ha hb) ∙ J .1 (i, l, rw (overlap (leafAt k a i) (leafAt k b i)) t),
     )
 
--- it is defined exactly if no leaf is full in both
+-- it is defined exactly if the test without a sum holds at every leaf: none is full in both
 pub join-defined-iff : (k : ℕ) (a b : Tree) → height a ≤ k → height b ≤ k
-    → ((c : Tree) × (join a b ≡ some c)) ↔ ((i : ℕ) → i < 2 ^ k → T (not (leafAt k a i && leafAt k b i)))
+    → ((c : Tree) × (join a b ≡ some c)) ↔ ((i : ℕ) → i < 2 ^ k → leafTest (leafAt k a i) (leafAt k b i) none ≡ Holds)
 join-defined-iff k a b ha hb = (
-  λ (c, e) i l. not-T (leafAt k a i && leafAt k b i) (λ t. Option·none-ne-some c (sym (join-none-iff k a b ha hb .1 (i, l, t)) ∙ e)),
-  λ f. given (join a b) refl (λ e. let (i, l, t) = join-none-iff k a b ha hb .0 e in T-not (leafAt k a i && leafAt k b i) (f i l) t),
+  λ (c, e) i l. apart i .1 (not-T (leafAt k a i && leafAt k b i) (λ t. Option·none-ne-some c (sym (join-none-iff k a b ha hb .1 (i, l, t)) ∙ e))),
+  λ f. given (join a b) refl (λ e. let (i, l, t) = join-none-iff k a b ha hb .0 e in T-not (leafAt k a i && leafAt k b i) (apart i .0 (f i l)) t),
 )
   where
+    apart : (i : ℕ) → (leafTest (leafAt k a i) (leafAt k b i) none ≡ Holds) ↔ T (not (leafAt k a i && leafAt k b i))
+    apart i = apart-iff (leafAt k a i) (leafAt k b i)
+
     given : (o : Option Tree) → join a b ≡ o → (join a b ≡ none → ⊥) → (c : Tree) × (join a b ≡ some c)
     given none e f = absurd (f e)
     given (some c) e f = (c, e)
 
 -- ---- the join with a leaf
 
-empty-beside : (x z : Bool) → joins x false z ≡ Bool·beq x z
-unfolding joins joinLeaf
-empty-beside true z = refl
-empty-beside false z = refl
+empty-beside : (x z : Bool) → (leafTest x false (some z) ≡ Holds) ↔ (x ≡ z)
+unfolding joinLeaf
+empty-beside x z =
+    let W = way-iff Holds x false z in
+    (λ e. Option·some-injective x z (sym (beside x) ∙ W .0 e), λ e. W .1 (beside x ∙ ap some e))
+  where
+    beside : (x : Bool) → joinLeaf x false ≡ some x
+    beside true = refl
+    beside false = refl
 
 -- with the empty share it is the other one
 pub join-empty-iff : (a b : Tree) → Folded a → Folded b → (join a (leaf false) ≡ some b) ↔ (a ≡ b)
 unfolding height
 join-empty-iff a b fa fb =
     let J = join-iff k a (leaf false) b fb (le-max-left _ _) zero-le (le-max-right (height a) _) in
-    let E = equal-test-iff k a b fa fb (le-max-left _ _) (le-max-right (height a) _) in (
-      λ e. E .1 (λ i l. rw (same i) at (J .0 e i l)),
-      λ e. J .1 (λ i l. rw (same i) (E .0 e i l)),
+    let E = equal-iff k a b fa fb (le-max-left _ _) (le-max-right (height a) _) in (
+      λ e. E .1 (λ i l. empty-beside (leafAt k a i) (leafAt k b i) .0 (rw (leafAt-leaf k false i) at (J .0 e i l))),
+      λ e. J .1 (λ i l. rw (leafAt-leaf k false i) (empty-beside (leafAt k a i) (leafAt k b i) .1 (E .0 e i l))),
     )
   where
     k : ℕ
     k = max (height a) (height b)
-
-    same : (i : ℕ) → joins (leafAt k a i) (leafAt k (leaf false) i) (leafAt k b i) ≡ Bool·beq (leafAt k a i) (leafAt k b i)
-    same i = ap (λ x. joins (leafAt k a i) x (leafAt k b i)) (leafAt-leaf k false i) ∙ empty-beside (leafAt k a i) (leafAt k b i)
 
 -- with the full share only the empty one can be joined
 pub join-full : (b c : Tree) → Folded b → join (leaf true) b ≡ some c → b ≡ leaf false
@@ -198,7 +198,7 @@ unfolding height
 join-full b c fb e =
     let f = join-defined-iff (height b) (leaf true) b zero-le (le-refl _) .0 (c, e) in
     equal-iff (height b) b (leaf false) fb tt (le-refl _) zero-le .1 (λ i l.
-    is-false (leafAt (height b) b i) (rw (leafAt-leaf (height b) true i) at (f i l)) ∙ sym (leafAt-leaf (height b) false i))
+    is-false (leafAt (height b) b i) (apart-iff true (leafAt (height b) b i) .0 (rw (leafAt-leaf (height b) true i) at (f i l))) ∙ sym (leafAt-leaf (height b) false i))
 
 -- a join that is defined is folded, and no taller than the two
 pub join-folded : (a b c : Tree) → join a b ≡ some c → Folded c × (height c ≤ max (height a) (height b))

@@ -10,6 +10,7 @@ pub mod BelowLaws
 pub mod Blocks
 pub mod BlockLaws
 pub mod TreeLaws
+pub mod WayLaws
 pub mod JoinLaws
 pub mod BitLaws
 pub mod BitParts

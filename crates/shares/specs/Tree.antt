@@ -3,7 +3,10 @@ use mathlib.Core.Path.{_≡_}
 use mathlib.Core.Bool.{Bool, true, false, cond, Bool·beq}
 use mathlib.Core.Option.{Option, none, some, Option·getD}
 use Prim.Native.Nat.{ℕ, zero, suc, _+_, _/_, _%_, _^_, max}
+use lib.Dec.{eqb}
 use Rattle.shares.specs.Below.{everyBelow}
+use Rattle.shares.specs.declared.Way.{Way}
+use Rattle.shares.specs.declared.Way.the-variants.{Holds, Overlap, Surplus, Shortfall}
 
 -- a tree: a leaf, empty (false) or full (true), or a pair of trees, left and right
 pub data Tree : Type 0 where
@@ -67,15 +70,6 @@ joinLeaf false true = some true
 joinLeaf true false = some true
 joinLeaf true true = none
 
--- whether a leaf that may be undefined is z
-abbrev pub isLeaf : Option Bool → Bool → Bool
-isLeaf none z = false
-isLeaf (some v) z = Bool·beq v z
-
--- the test of "x join y is z" at one leaf
-unfoldable pub joins : Bool → Bool → Bool → Bool
-joins x y z = isLeaf (joinLeaf x y) z
-
 -- whether a leaf is defined
 abbrev pub defined : Option Bool → Bool
 defined none = false
@@ -92,3 +86,29 @@ joinAt k a b = treeIf k (λ i. joinLeaf (leafAt k a i) (leafAt k b i))
 -- of two trees: both are unfolded to one height, that of the taller
 unfoldable pub join : Tree → Tree → Option Tree
 join a b = joinAt (max (height a) (height b)) a b
+
+-- ---- the test of a join at one leaf
+
+-- the number of each way in which it comes out
+abbrev pub wayNumber : Way → ℕ
+wayNumber Holds = 0
+wayNumber Overlap = 1
+wayNumber Surplus = 2
+wayNumber Shortfall = 3
+
+-- whether it comes out in this way
+abbrev pub isWay : Way → Way → Bool
+isWay v w = eqb (wayNumber v) (wayNumber w)
+
+-- what two leaves join to, none where they overlap, beside the sum that is asked, if one is
+abbrev pub compared : Option Bool → Option Bool → Way
+compared none sum = Overlap
+compared (some v) none = Holds
+compared (some false) (some false) = Holds
+compared (some true) (some true) = Holds
+compared (some true) (some false) = Surplus
+compared (some false) (some true) = Shortfall
+
+-- the test of two parts and the sum that is asked
+unfoldable pub leafTest : Bool → Bool → Option Bool → Way
+leafTest x y sum = compared (joinLeaf x y) sum

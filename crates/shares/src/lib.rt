@@ -3,7 +3,7 @@ ghost use mathlib.Core.Path.{_≡_};
 ghost use mathlib.Core.Bool.{cond};
 ghost use Prim.Native.Nat.{_+_, _^_};
 ghost use lib.Dec.{eqb};
-ghost use Rattle.shares.specs.Tree.{height, join};
+ghost use Rattle.shares.specs.Tree.{height, wayNumber, join};
 ghost use Rattle.shares.specs.Constant.{constantLevels, numberTree, setInBoth};
 ghost use Rattle.shares.specs.Unlike as Unlike;
 ghost use Rattle.shares.specs.Answer.{joinOf};
@@ -31,6 +31,27 @@ fn overlap(a: u32, b: u32) -> bool
     ensures { λ r. ⌜ r ≡ setInBoth (2 ^ constantLevels) a b ⌝ }
 {
     a & b != 0
+}
+
+// How the test of a join comes out at one leaf. It holds, or fails by overlap: both parts are full; by surplus: just one part is full and the sum is empty; or by
+// shortfall: both parts are empty and the sum is full.
+pub enum Way {
+    Holds,
+    Overlap,
+    Surplus,
+    Shortfall,
+}
+
+// The number of a way.
+pub fn way_number(way: Way) -> u8
+    ensures { λ r. ⌜ r ≡ wayNumber way ⌝ }
+{
+    match way {
+        Way::Holds => 0,
+        Way::Overlap => 1,
+        Way::Surplus => 2,
+        Way::Shortfall => 3,
+    }
 }
 
 // The height of a constant, all leaves at once.

@@ -1,16 +1,19 @@
 -- A question at the leaves: how an atom reads there as a join, and the problems that the two systems pose. Assumes nothing.
 use mathlib.Core.Bool.{Bool, true, false, not, cond, _&&_}
 use mathlib.Core.List.{List, [], _∷_}
+use mathlib.Core.Option.{none, some}
 use Prim.Native.Nat.{ℕ, _-_}
 use lib.Dec.{ltb}
 use lib.ListN.{length, getD}
 use Rattle.shares.specs.Blocks.{firstOf}
 use Rattle.shares.specs.Constant.{bit}
-use Rattle.shares.specs.Tree.{joins}
+use Rattle.shares.specs.Tree.{Tree, leaf, leafAt, isWay, leafTest}
+use Rattle.shares.specs.declared.Way.{Way}
+use Rattle.shares.specs.declared.Way.the-variants.{Holds}
 use Rattle.leaves.specs.Choices.{Row, at}
 use Rattle.leaves.specs.Problem.{Problem}
 use Rattle.leaves.specs.Second.{Second}
-use Rattle.systems.specs.Clauses.{Constants, Term, variable, constant, Atom, joined, equal, isFull, isEmpty, together, positives, disequations, disequation}
+use Rattle.systems.specs.Clauses.{Constants, Term, variable, constant, Atom, joined, equal, isFull, isEmpty, together, positives, disequations, disequation, Assignment, valueOf}
 use Rattle.systems.specs.Questions.{Question}
 
 -- ---- the reading of an atom as a join
@@ -33,6 +36,11 @@ readAs (isFull a) = joinsTo (of a) (always false) (always true)
 readAs (isEmpty a) = joinsTo (of a) (always false) (always false)
 readAs (together a b) = apart (of a) (of b)
 
+-- how a reading comes out where each part has a value
+unfoldable pub readingWay : (Part → Bool) → LeafReading → Way
+readingWay f (joinsTo u v w) = leafTest (f u) (f v) (some (f w))
+readingWay f (apart u v) = leafTest (f u) (f v) none
+
 -- ---- at one leaf
 
 -- a term at leaf b of 2 ^ h, where variable v is x v; a constant has there the first of its own leaves below it
@@ -45,19 +53,31 @@ unfoldable pub partAt : ℕ → Constants → ℕ → (ℕ → Bool) → Part �
 partAt h cs b x (of t) = termAt h cs b x t
 partAt h cs b x (always v) = v
 
--- whether a reading holds there
-unfoldable pub readingAt : ℕ → Constants → ℕ → (ℕ → Bool) → LeafReading → Bool
-readingAt h cs b x (joinsTo u v w) = joins (partAt h cs b x u) (partAt h cs b x v) (partAt h cs b x w)
-readingAt h cs b x (apart u v) = not (partAt h cs b x u && partAt h cs b x v)
+-- how an atom comes out there
+abbrev pub atomWay : ℕ → Constants → ℕ → (ℕ → Bool) → Atom → Way
+atomWay h cs b x a = readingWay (partAt h cs b x) (readAs a)
 
--- an atom there
+-- it holds there
 abbrev pub atomAt : ℕ → Constants → ℕ → (ℕ → Bool) → Atom → Bool
-atomAt h cs b x a = readingAt h cs b x (readAs a)
+atomAt h cs b x a = isWay Holds (atomWay h cs b x a)
 
 -- all of some atoms
 unfoldable pub allAt : ℕ → Constants → ℕ → (ℕ → Bool) → List Atom → Bool
 allAt h cs b x [] = true
 allAt h cs b x (a ∷ l) = atomAt h cs b x a && allAt h cs b x l
+
+-- ---- at one leaf of trees
+
+-- the tree of a part
+abbrev pub partTree : Constants → Assignment → Part → Tree
+partTree cs ρ (of t) = valueOf cs ρ t
+partTree cs ρ (always b) = leaf b
+
+-- how an atom comes out at leaf i of the shares, all unfolded to height k
+abbrev pub treeWay : ℕ → Constants → Assignment → Atom → ℕ → Way
+treeWay k cs ρ a i = readingWay (λ p. leafAt k (partTree cs ρ p) i) (readAs a)
+
+-- ---- the problems that the systems pose at the leaves
 
 -- the n free variables first, then the own ones
 unfoldable pub bothAt : ℕ → (ℕ → Bool) → (ℕ → Bool) → ℕ → Bool

@@ -13,7 +13,10 @@ use Rattle.shares.specs.Test.{and-intro, and-left, and-right}
 use Rattle.shares.specs.BelowLaws.{Below, fails-iff}
 use Rattle.shares.specs.Blocks.{blockOf, firstOf}
 use Rattle.shares.specs.BlockLaws.{block-lt, first-lt, block-first}
-use Rattle.shares.specs.Tree.{Tree, leaf, Folded, height, leafAt, joinLeaf, joins, join}
+use Rattle.shares.specs.Tree.{Tree, leaf, Folded, height, leafAt, joinLeaf, join, leafTest}
+use Rattle.shares.specs.declared.Way.{Way}
+use Rattle.shares.specs.declared.Way.the-variants as way
+use Rattle.shares.specs.WayLaws.{is-way-iff}
 use Rattle.shares.specs.TreeLaws.{leafAt-leaf, blocks}
 use Rattle.shares.specs.JoinLaws.{join-iff, join-defined-iff, join-empty-iff}
 use Rattle.shares.specs.Constant.{bit, numberTree}
@@ -23,7 +26,7 @@ use Rattle.systems.specs.Clauses.{Term, variable, constant, Atom, joined
 use Rattle.systems.specs.Questions.{satisfiability, Question, Defined, InAtom, InSystem}
 use Rattle.systems.specs.Bounds.{Within}
 use Rattle.systems.specs.SystemLaws.{value-folded, InAtoms, in-positives, in-disequation}
-use Rattle.systems.specs.AtLeaves.{Part, of, always, LeafReading, joinsTo, apart, readAs, termAt, partAt, readingAt, atomAt, allAt, firstAt}
+use Rattle.systems.specs.AtLeaves.{Part, of, always, LeafReading, joinsTo, apart, readAs, termAt, readingWay, partAt, atomWay, atomAt, allAt, partTree, treeWay, firstAt}
 
 -- ---- an example, computed: full join full is undefined, so its negation holds
 
@@ -38,31 +41,27 @@ fullTwice = record {
 }
 
 full-twice-denied : firstAt 0 fullTwice .dis 0 0 nil ≡ true
-unfolding disequations termAt partAt readingAt joins joinLeaf bit
+unfolding disequations termAt partAt readingWay leafTest joinLeaf bit
 full-twice-denied = refl
 
--- ---- another: at one leaf, of a full and of an empty share, what each of the atoms without a third term reads as
+-- ---- another: at one leaf, of a full and of an empty share, how each of the atoms without a third term comes out
 
 abbrev fullAndEmpty : Constants
 fullAndEmpty = record { levels = 0; numbers = 1 ∷ 0 ∷ [] }
 
-abbrev passesThere : Atom → Bool
-passesThere = atomAt 0 fullAndEmpty 0 (λ v. false)
+abbrev comesOut : (Term → Atom) → List Way
+comesOut a = map (λ i. atomWay 0 fullAndEmpty 0 (λ v. false) (a (constant i))) (0 ∷ 1 ∷ [])
 
-read-at-a-leaf : (map (λ a. passesThere (isFull (constant a))) (0 ∷ 1 ∷ []) ≡ true ∷ false ∷ [])
-    × (map (λ a. passesThere (isEmpty (constant a))) (0 ∷ 1 ∷ []) ≡ false ∷ true ∷ [])
-    × (map (λ a. passesThere (equal (constant 0) (constant a))) (0 ∷ 1 ∷ []) ≡ true ∷ false ∷ [])
-    × (map (λ a. passesThere (together (constant 0) (constant a))) (0 ∷ 1 ∷ []) ≡ false ∷ true ∷ [])
-    × (map (λ a. passesThere (together (constant 1) (constant a))) (0 ∷ 1 ∷ []) ≡ true ∷ true ∷ [])
-unfolding termAt partAt readingAt joins joinLeaf bit
-read-at-a-leaf = (refl, refl, refl, refl, refl)
+read-at-a-leaf : (comesOut isFull ≡ way.Holds ∷ way.Shortfall ∷ [])
+    × (comesOut isEmpty ≡ way.Surplus ∷ way.Holds ∷ [])
+    × (comesOut (equal (constant 0)) ≡ way.Holds ∷ way.Surplus ∷ [])
+    × (comesOut (equal (constant 1)) ≡ way.Shortfall ∷ way.Holds ∷ [])
+    × (comesOut (together (constant 0)) ≡ way.Overlap ∷ way.Holds ∷ [])
+    × (comesOut (together (constant 1)) ≡ way.Holds ∷ way.Holds ∷ [])
+unfolding termAt partAt readingWay leafTest joinLeaf bit
+read-at-a-leaf = (refl, refl, refl, refl, refl, refl)
 
 -- ---- what a reading says of trees
-
--- the tree of a part
-abbrev partTree : Constants → Assignment → Part → Tree
-partTree cs ρ (of t) = valueOf cs ρ t
-partTree cs ρ (always b) = leaf b
 
 -- a reading holds of trees
 abbrev ReadingHolds : Constants → Assignment → LeafReading → Type 0
@@ -132,19 +131,20 @@ module _ (n h : ℕ) (cs : Constants) (hw : h ≤ cs .levels) (k : ℕ) (hk : h 
   part-at (of t) g i l = term-at t g i l
   part-at (always b) g i l = sym (leafAt-leaf k b i)
 
-  -- a reading holds of trees exactly if it does at every leaf
-  reading-iff : (t : LeafReading) → InReading (Good n h cs) t → ReadingHolds cs ρ t ↔ ((i : ℕ) → i < 2 ^ k → T (readingAt h cs (blockOf h k i) (x i) t))
-  unfolding readingAt
+  -- a reading comes out at a leaf as it does at that leaf of trees
+  reading-at : (t : LeafReading) → InReading (Good n h cs) t → (i : ℕ) → i < 2 ^ k
+      → readingWay (partAt h cs (blockOf h k i) (x i)) t ≡ readingWay (λ p. leafAt k (partTree cs ρ p) i) t
+  unfolding readingWay
+  reading-at (joinsTo u v w) g i l = rw (part-at u (g .0) i l, part-at v (g .1) i l, part-at w (g .2) i l) refl
+  reading-at (apart u v) g i l = rw (part-at u (g .0) i l, part-at v (g .1) i l) refl
+
+  -- it holds of trees exactly if it does at every leaf
+  reading-iff : (t : LeafReading) → InReading (Good n h cs) t
+      → ReadingHolds cs ρ t ↔ ((i : ℕ) → i < 2 ^ k → readingWay (λ p. leafAt k (partTree cs ρ p) i) t ≡ way.Holds)
+  unfolding readingWay
   reading-iff (joinsTo u v w) g =
-      let J = join-iff k (partTree cs ρ u) (partTree cs ρ v) (partTree cs ρ w) (part-folded w) (part-low u (g .0)) (part-low v (g .1)) (part-low w (g .2)) in (
-        λ e i l. rw (part-at u (g .0) i l, part-at v (g .1) i l, part-at w (g .2) i l) (J .0 e i l),
-        λ f. J .1 (λ i l. rw (← (part-at u (g .0) i l), ← (part-at v (g .1) i l), ← (part-at w (g .2) i l)) (f i l)),
-      )
-  reading-iff (apart u v) g =
-      let J = join-defined-iff k (partTree cs ρ u) (partTree cs ρ v) (part-low u (g .0)) (part-low v (g .1)) in (
-        λ e i l. rw (part-at u (g .0) i l, part-at v (g .1) i l) (J .0 e i l),
-        λ f. J .1 (λ i l. rw (← (part-at u (g .0) i l), ← (part-at v (g .1) i l)) (f i l)),
-      )
+      join-iff k (partTree cs ρ u) (partTree cs ρ v) (partTree cs ρ w) (part-folded w) (part-low u (g .0)) (part-low v (g .1)) (part-low w (g .2))
+  reading-iff (apart u v) g = join-defined-iff k (partTree cs ρ u) (partTree cs ρ v) (part-low u (g .0)) (part-low v (g .1))
 
   -- an atom holds of trees exactly if its reading does
   reads-iff : (a : Atom) → Holds cs ρ a ↔ ReadingHolds cs ρ (readAs a)
@@ -154,9 +154,17 @@ module _ (n h : ℕ) (cs : Constants) (hw : h ≤ cs .levels) (k : ℕ) (hk : h 
   reads-iff (isEmpty u) = Iff·symm (join-empty-iff (valueOf cs ρ u) (leaf false) (value-folded cs ρ u) tt)
   reads-iff (together u v) = Iff·rfl
 
-  -- an atom holds exactly if its reading does at every leaf
+  -- an atom comes out at a leaf as it does at that leaf of trees
+  pub atom-way : (a : Atom) → InAtom (Good n h cs) a → (i : ℕ) → i < 2 ^ k → atomWay h cs (blockOf h k i) (x i) a ≡ treeWay k cs ρ a i
+  atom-way a g = reading-at (readAs a) (in-reading (Good n h cs) a g)
+
+  -- it holds exactly if it does at every leaf
   pub atom-iff : (a : Atom) → InAtom (Good n h cs) a → Holds cs ρ a ↔ ((i : ℕ) → i < 2 ^ k → T (atomAt h cs (blockOf h k i) (x i) a))
-  atom-iff a g = Iff·trans (reads-iff a) (reading-iff (readAs a) (in-reading (Good n h cs) a g))
+  atom-iff a g =
+      let E = Iff·trans (reads-iff a) (reading-iff (readAs a) (in-reading (Good n h cs) a g)) in (
+        λ e i l. is-way-iff way.Holds _ .1 (atom-way a g i l ∙ E .0 e i l),
+        λ f. E .1 (λ i l. sym (atom-way a g i l) ∙ is-way-iff way.Holds _ .0 (f i l)),
+      )
 
   all-iff : (l : List Atom) → InAtoms (Good n h cs) l → AllHold cs ρ l ↔ ((i : ℕ) → i < 2 ^ k → T (allAt h cs (blockOf h k i) (x i) l))
   unfolding allAt

@@ -7,7 +7,7 @@ use native.Mathlib.Omega.{arith}
 use lib.Dec.{T, T-not, leb, leb→le}
 use Rattle.shares.specs.Test.{of-true, and-left, and-right}
 use Rattle.shares.specs.Below.{everyBelow, someBelow, firstBelow}
-use Rattle.shares.specs.Tree.{twins, fold, height, treeOf, joinLeaf, joins}
+use Rattle.shares.specs.Tree.{twins, fold, height, treeOf, joinLeaf, leafTest}
 use Rattle.shares.specs.Constant.{bit}
 use Rattle.leaves.specs.Heights.{c, atMost, exactly}
 use Rattle.leaves.specs.Choices.{someChoice, at, pickRow, least}
@@ -20,7 +20,7 @@ use Rattle.systems.specs.Clauses.{positives, disequations}
 use Rattle.systems.specs.Questions.{Question, WellFormed, namedIn, tallestAmong, questionHeight}
 use Rattle.systems.specs.Solutions.{Solution}
 use Rattle.systems.specs.Answers.{heightGiven}
-use Rattle.systems.specs.AtLeaves.{termAt, partAt, readingAt, allAt, bothAt, firstAt}
+use Rattle.systems.specs.AtLeaves.{readingWay, termAt, partAt, allAt, bothAt, firstAt}
 use Rattle.systems.specs.Decide.{decideKind, decide}
 use Rattle.systems.specs.Link.{read-most}
 use Rattle.systems.specs.Exact.{to-leaves}
@@ -74,7 +74,7 @@ _also_ a b = (a, b)
 
 -- a line for each
 computed : AllComputed worked
-unfolding decideKind namedIn tallestAmong treeOf fold twins height bit joins joinLeaf positives disequations termAt partAt readingAt allAt bothAt solvable plainAt specialAt someChoice everyBelow someBelow firstBelow pickRow at c meets meetsWith canBeUnmet canBeMissed firstMissed solvesTest solvableAt
+unfolding decideKind namedIn tallestAmong treeOf fold twins height bit leafTest joinLeaf positives disequations readingWay termAt partAt allAt bothAt solvable plainAt specialAt someChoice everyBelow someBelow firstBelow pickRow at c meets meetsWith canBeUnmet canBeMissed firstMissed solvesTest solvableAt
 computed =
     (refl, refl, refl, refl)
     also (refl, refl, refl, refl)

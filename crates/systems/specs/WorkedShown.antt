@@ -3,7 +3,7 @@ use mathlib.Core.Path.{_≡_, refl}
 use mathlib.Core.Bool.{true, false}
 use mathlib.Core.List.{[], _∷_}
 use Rattle.shares.specs.Below.{everyBelow, someBelow, firstBelow, countBelow}
-use Rattle.shares.specs.Tree.{leaf, pair, twins, fold, height, treeOf, joinLeaf, joins}
+use Rattle.shares.specs.Tree.{leaf, pair, twins, fold, height, treeOf, joinLeaf, leafTest}
 use Rattle.shares.specs.Constant.{constantLevels, bit}
 use Rattle.leaves.specs.Heights.{c}
 use Rattle.leaves.specs.Choices.{someChoice, at, pickRow}
@@ -14,7 +14,7 @@ use Rattle.leaves.specs.Entailment.{canBeUnmet, canBeMissed, firstMissed}
 use Rattle.systems.specs.Clauses.{variable, constant, joined, equal, positive, negated, positives, disequations}
 use Rattle.systems.specs.Questions.{satisfiability, entailment, Question, namedIn, tallestAmong, questionHeight}
 use Rattle.systems.specs.Answers.{satisfied, unmet, heightGiven}
-use Rattle.systems.specs.AtLeaves.{termAt, partAt, readingAt, allAt, bothAt}
+use Rattle.systems.specs.AtLeaves.{readingWay, termAt, partAt, allAt, bothAt}
 use Rattle.systems.specs.Decide.{decideKind, decide, sharesOf, shownAt}
 
 -- v0 join L is full
@@ -30,7 +30,7 @@ printed = record {
 
 printed-shown : (decide printed ≡ satisfied) × (heightGiven (questionHeight printed) printed satisfied ≡ 1)
     × (shownAt (questionHeight printed) printed 0 .tree ≡ pair (leaf false) (leaf true))
-unfolding decideKind sharesOf namedIn tallestAmong treeOf fold twins height bit joins joinLeaf positives disequations termAt partAt readingAt allAt bothAt solvable plainAt specialAt someChoice everyBelow someBelow firstBelow countBelow pickRow at c leafOf rankOf heldAt carriedAt fixedAt
+unfolding decideKind sharesOf namedIn tallestAmong treeOf fold twins height bit leafTest joinLeaf positives disequations readingWay termAt partAt allAt bothAt solvable plainAt specialAt someChoice everyBelow someBelow firstBelow countBelow pickRow at c leafOf rankOf heldAt carriedAt fixedAt
 printed-shown = (refl, refl, refl)
 
 -- v0 not empty, v1 is R, entails L join own v2 is v0: in the left half the choice beside which nothing meets the second system, v0 empty,
@@ -48,5 +48,5 @@ ordered = record {
 ordered-shown : (decide ordered ≡ unmet) × (heightGiven (questionHeight ordered) ordered unmet ≡ 2)
     × (shownAt (questionHeight ordered) ordered 0 .tree ≡ pair (pair (leaf false) (leaf true)) (leaf false))
     × (shownAt (questionHeight ordered) ordered 1 .tree ≡ pair (leaf false) (leaf true))
-unfolding decideKind sharesOf namedIn tallestAmong treeOf fold twins height bit joins joinLeaf positives disequations termAt partAt readingAt allAt bothAt solvable plainAt specialAt someChoice everyBelow someBelow firstBelow countBelow pickRow at c leafOf rankOf heldAt carriedAt fixedAt meets meetsWith canBeUnmet canBeMissed firstMissed
+unfolding decideKind sharesOf namedIn tallestAmong treeOf fold twins height bit leafTest joinLeaf positives disequations readingWay termAt partAt allAt bothAt solvable plainAt specialAt someChoice everyBelow someBelow firstBelow countBelow pickRow at c leafOf rankOf heldAt carriedAt fixedAt meets meetsWith canBeUnmet canBeMissed firstMissed
 ordered-shown = (refl, refl, refl, refl)

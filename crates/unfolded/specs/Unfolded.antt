@@ -1,16 +1,20 @@
 -- Rows and constants in words of 64 leaves: a table with the same number of words for each part of a join. Assumes nothing.
 use mathlib.Core.Path.{_≡_}
-use mathlib.Core.Bool.{Bool, true, false}
+use mathlib.Core.Bool.{Bool, true, false, not}
 use mathlib.Core.List.{List}
 use Prim.Native.Nat.{ℕ, _+_, _-_, _*_, _/_, _%_, _^_, _≤_, _<_}
 use lib.Dec.{T}
 use lib.ListN.{getD}
-use Rattle.shares.specs.Below.{everyBelow}
+use Rattle.shares.specs.Below.{firstBelow}
 use Rattle.shares.specs.Blocks.{blockOf}
 use Rattle.shares.specs.Constant.{bit}
 use Rattle.shares.specs.Parts.{emptyPart, fullPart}
+use Rattle.shares.specs.Tree.{isWay}
+use Rattle.shares.specs.declared.Way.{Way}
+use Rattle.shares.specs.declared.Way.the-variants.{Holds}
 use Rattle.format.specs.declared.LeafJoin.{LeafJoin}
-use Rattle.words.specs.Clause.{testValue}
+use Rattle.words.specs.Clause.{testWay}
+use Rattle.unfolded.specs.declared.PartWords.{PartWords}
 use Rattle.rows.specs.Rows.{rowLevels, rowCount, rowLeaf, rowPart}
 
 -- so many words of 64 leaves make up a row, where the constants of a question have so many levels: 16 at 5
@@ -28,17 +32,26 @@ pub record Unfolded (levels : ℕ) (rows constants : List ℕ) (named : ℕ) (ta
   pub full : (i : ℕ) → i < 2 ^ rowLevels levels → leafOf (rowWords levels) table fullPart i ≡ true
   pub constant : (c i : ℕ) → T (bit named c) → i < 2 ^ rowLevels levels → leafOf (rowWords levels) table (32 + c) i ≡ bit (getD constants c 0) (blockOf levels (rowLevels levels) i)
 
--- the test of a join at leaf i
-abbrev pub joinAt : ℕ → List ℕ → LeafJoin → ℕ → Bool
-joinAt words table j i = testValue (j .form) (leafOf words table (j .first) i) (leafOf words table (j .second) i) (leafOf words table (j .sum) i)
+-- how the test of a join comes out at leaf i
+abbrev pub joinWay : ℕ → List ℕ → LeafJoin → ℕ → Way
+joinWay words table j i = testWay (j .form) (leafOf words table (j .first) i) (leafOf words table (j .second) i) (leafOf words table (j .sum) i)
 
--- it passes at every leaf
-abbrev pub joinEverywhere : ℕ → List ℕ → LeafJoin → Bool
-joinEverywhere levels table j = everyBelow (2 ^ rowLevels levels) (joinAt (rowWords levels) table j)
+-- it holds there
+abbrev pub joinAt : ℕ → List ℕ → LeafJoin → ℕ → Bool
+joinAt words table j i = isWay Holds (joinWay words table j i)
+
+-- the lowest leaf at which it does not, or the number of leaves
+abbrev pub joinFailing : ℕ → List ℕ → LeafJoin → ℕ
+joinFailing levels table j = firstBelow (2 ^ rowLevels levels) (λ i. not (joinAt (rowWords levels) table j i))
 
 -- the parts of a join have a place in a table of 64 parts
 abbrev pub PartsIn : LeafJoin → Type 0
 PartsIn j = (j .first < 64) × (j .second < 64) × (j .sum < 64)
+
+-- p has words w of the parts of a join
+abbrev pub WordsOf : ℕ → List ℕ → LeafJoin → ℕ → PartWords → Type 0
+WordsOf words table j w p =
+    (p .first ≡ getD table (words * j .first + w) 0) × (p .second ≡ getD table (words * j .second + w) 0) × (p .sum ≡ getD table (words * j .sum + w) 0)
 
 -- the bytes of the rows from byte `start` up to byte `end` are 0
 abbrev pub ZeroBytes : List ℕ → ℕ → ℕ → Type 0

@@ -8,23 +8,26 @@ use native.Mathlib.Nat.{add-zero, mul-add, mul-assoc, mul-comm, mul-suc, mul-le-
 use native.Mathlib.Decide.{decLt, ℕ-discrete}
 use native.Mathlib.Omega.{arith}
 use lib.Bits.{bitOr, or-add-and, or-zero-l, and-le-l, and-le-r}
-use lib.Dec.{T, not-T, eqb, lit<}
+use lib.Dec.{T, eqb, lit<}
 use lib.ListN.{length, getD, take, drop, length-take, List·getD-eq-default}
-use lib.Pow.{pow-add, ones-lt}
+use lib.Pow.{pow-add}
 use lib.Seq.{getD-take, getD-drop}
 use borrow.Author.Tests.{ne-eqb}
-use Rattle.shares.specs.Below.{everyBelow}
-use Rattle.shares.specs.BelowLaws.{every-at, every-intro}
+use Rattle.shares.specs.Below.{everyBelow, firstBelow}
+use Rattle.shares.specs.BelowLaws.{every-at, every-intro, first-below, first-least, first-is}
 use Rattle.shares.specs.Constant.{bit, bytesAt, number}
-use Rattle.shares.specs.BitLaws.{bit-zero, bits-same, bits-zero}
+use Rattle.shares.specs.BitLaws.{bit-zero, bits-zero}
 use Rattle.shares.specs.BitParts.{bit-low, bit-high, bit-ones, bit-bytes}
 use Rattle.shares.specs.Parts.{emptyPart, fullPart}
 use Rattle.shares.specs.Test.{is-true, is-false, of-true}
 use Rattle.format.specs.declared.LeafJoin.{LeafJoin}
-use Rattle.words.specs.Clause.{testValue}
+use Rattle.words.specs.Clause.{testWay}
+use Rattle.words.specs.ClauseLaws.{not-bits}
+use Rattle.words.specs.LowestLaws.{lowest-lt}
 use Rattle.rows.specs.Rows.{rowLevels, rowCount, rowLeaf, rowPart, answerBytes}
 use Rattle.rows.specs.RowLaws.{eight, part-some}
-use Rattle.unfolded.specs.Unfolded.{rowWords, leafOf, Unfolded, joinAt, ZeroBytes}
+use Rattle.unfolded.specs.Unfolded.{rowWords, leafOf, Unfolded, joinWay, WordsOf, ZeroBytes}
+use Rattle.unfolded.specs.declared.PartWords.{PartWords}
 use Rattle.unfolded.specs.Filling.{WordOf, Filled, constantLeaf, ConstantParts}
 
 -- ---- a row of an answer
@@ -198,12 +201,11 @@ pub leaf-word : (words : ℕ) (table : List ℕ) (t w i : ℕ) → i < 64 → le
 unfolding leafOf
 leaf-word words table t w i l = ap₂ (λ q r. bit (getD table (words * t + q) 0) r) (omega arith) (omega arith)
 
--- the tests of the words of its parts are those of their leaves
-pub join-leaves : (words : ℕ) (table : List ℕ) (j : LeafJoin) (w x a b c : ℕ)
-    → a ≡ getD table (words * j .first + w) 0 → b ≡ getD table (words * j .second + w) 0 → c ≡ getD table (words * j .sum + w) 0
-    → ((i : ℕ) → i < 64 → bit x i ≡ testValue (j .form) (bit a i) (bit b i) (bit c i)) → WordOf (joinAt words table j) w x
-join-leaves words table j w x a b c p q r bits i l =
-    rw (leaf-word words table (j .first) w i l, leaf-word words table (j .second) w i l, leaf-word words table (j .sum) w i l, ← p, ← q, ← r) (bits i l)
+module _ (words : ℕ) (table : List ℕ) (j : LeafJoin) (w : ℕ) (p : PartWords) (P : WordsOf words table j w p) where
+  -- at the leaves of a word the test comes out as it does at the bits of the words of its parts
+  pub join-bits : (i : ℕ) → i < 64 → testWay (j .form) (bit (p .first) i) (bit (p .second) i) (bit (p .sum) i) ≡ joinWay words table j (64 * w + i)
+  join-bits i l =
+      rw (P .0, P .1, P .2, leaf-word words table (j .first) w i l, leaf-word words table (j .second) w i l, leaf-word words table (j .sum) w i l) refl
 
 module _ (f : ℕ → Bool) (w x : ℕ) (bits : WordOf f w x) where
   -- where the leaves of the first w words pass and word w is full, those of one word more pass
@@ -216,11 +218,30 @@ module _ (f : ℕ → Bool) (w x : ℕ) (bits : WordOf f w x) where
           let here : 64 * w + (i - 64 * w) ≡ i = omega arith in
           of-true (ap f (sym here) ∙ sym (bits (i - 64 * w) (omega arith)) ∙ ap (λ y. bit y (i - 64 * w)) e ∙ bit-ones 64 (i - 64 * w) (omega arith))
 
-  -- where it is not full, not all leaves pass
-  pub every-fails : x < 2 ^ 64 → (n : ℕ) → w < n → (x ≡ 2 ^ 64 - 1 → ⊥) → everyBelow (64 * n) f ≡ false
-  every-fails fits n l other = is-false (everyBelow (64 * n) f) (not-T (everyBelow (64 * n) f) (λ t. other (full t)))
-    where
-      full : T (everyBelow (64 * n) f) → x ≡ 2 ^ 64 - 1
-      full t =
-          bits-same 64 x (2 ^ 64 - 1) fits (ones-lt 64)
-          (λ i m. bits i m ∙ is-true (f (64 * w + i)) (every-at (64 * n) f t (64 * w + i) (omega arith)) ∙ sym (bit-ones 64 i m))
+  -- where it is not full, the lowest leaf that fails is at the lowest bit of the word that is not set
+  module _ (before : everyBelow (64 * w) f ≡ true) (fits : x < 2 ^ 64) (other : x ≡ 2 ^ 64 - 1 → ⊥) (n : ℕ) (l : w < n) where
+    abbrev y : ℕ
+    y = (2 ^ 64 - 1) - x
+
+    abbrev r : ℕ
+    r = firstBelow 64 (bit y)
+
+    r-lt : r < 64
+    r-lt = lowest-lt y (omega arith) (λ e. other (omega arith))
+
+    fails : (i : ℕ) → i < 64 → bit y i ≡ not (f (64 * w + i))
+    fails i m = not-bits x i (f (64 * w + i)) fits m (bits i m)
+
+    pub first-word : firstBelow (64 * n) (λ i. not (f i)) ≡ 64 * w + r
+    first-word =
+        first-is (64 * n) (λ i. not (f i)) (64 * w + r) (omega (arith, r-lt)) (λ i m. below i m (decLt i (64 * w)))
+        (sym (fails r r-lt) ∙ is-true (bit y r) (first-below 64 (bit y) r-lt))
+      where
+        below : (i : ℕ) → i < 64 * w + r → Dec (i < 64 * w) → not (f i) ≡ false
+        below i m (yes u) = ap not (is-true (f i) (every-at (64 * w) f (of-true before) i u))
+        below i m (no u) =
+            let here : 64 * w + (i - 64 * w) ≡ i = omega arith in
+            ap (λ j. not (f j)) (sym here) ∙ sym (fails (i - 64 * w) (omega (arith, r-lt))) ∙ is-false (bit y (i - 64 * w)) (first-least 64 (bit y) (i - 64 * w) (omega arith))
+
+    pub first-not-last : eqb (firstBelow (64 * n) (λ i. not (f i))) (64 * n) ≡ false
+    first-not-last = ne-eqb _ (64 * n) (λ e. omega (arith, first-word, r-lt))

@@ -2,22 +2,26 @@
 // entry 16 * t + w of a table.
 use basics::FULL_PART;
 use format::LeafJoin;
+use shares::Way;
 ghost use mathlib.Core.Path.{_≡_};
 ghost use mathlib.Core.Bool.{true};
 ghost use mathlib.Core.Logic.{_↔_};
 ghost use Prim.Native.Nat.{ℕ, _+_, _*_, _^_, _≤_, _<_};
-ghost use lib.Dec.{T};
+ghost use lib.Dec.{T, eqb};
 ghost use lib.ListN.{length, getD};
 ghost use Rattle.shares.specs.Constant.{constantLevels, bit};
 ghost use Rattle.shares.specs.Parts.{fullPart};
-ghost use Rattle.rows.specs.Rows.{rowCount, rowLeaf, answerBytes};
-ghost use Rattle.unfolded.specs.Unfolded.{rowWords, Unfolded, joinAt, PartsIn, joinEverywhere, ZeroBytes};
+ghost use Rattle.rows.specs.Rows.{rowLevels, rowCount, rowLeaf, answerBytes};
+ghost use Rattle.unfolded.specs.Unfolded.{rowWords, Unfolded, joinWay, joinAt, joinFailing, PartsIn, WordsOf, ZeroBytes};
 ghost use Rattle.unfolded.specs.Filling.{WordOf, Filled, constantLeaf, ConstantParts};
 
 // A row has this many words.
 pub const ROW_WORDS: usize = 16;
 
-// The rows of all variables have this many.
+// And this many leaves.
+const ROW_LEAVES: usize = 1024;
+
+// The rows of all variables have this many words.
 const ROWS_WORDS: usize = 192;
 
 // A table of 64 parts has this many.
@@ -144,21 +148,38 @@ fn part_word(table: &[u64; TABLE_WORDS], part: u8, w: usize) -> u64
     word_of(table, basics::index(part), w)
 }
 
-// Bit i of the result is the test of a join at leaf 64 * w + i.
+// A word of each part of a join.
+struct PartWords {
+    first: u64,
+    second: u64,
+    sum: u64,
+}
+
+// Words w of the parts of a join.
+fn part_words(table: &[u64; TABLE_WORDS], join: LeafJoin, w: usize) -> PartWords
+    requires { ⌜ PartsIn join × (w < rowWords constantLevels) ⌝ }
+    ensures { λ r. ⌜ WordsOf (rowWords constantLevels) (now (table .entry)) join w r ⌝ }
+{
+    PartWords {
+        first: part_word(table, join.first, w),
+        second: part_word(table, join.second, w),
+        sum: part_word(table, join.sum, w),
+    }
+}
+
+// Bit i of the result is whether the test of a join holds at leaf 64 * w + i.
 fn join_word(table: &[u64; TABLE_WORDS], join: LeafJoin, w: usize) -> u64
     requires { ⌜ PartsIn join × (w < rowWords constantLevels) ⌝ }
     ensures { λ r. ⌜ WordOf (joinAt (rowWords constantLevels) (now (table .entry)) join) w r ⌝ }
 {
-    let a = part_word(table, join.first, w);
-    let b = part_word(table, join.second, w);
-    let c = part_word(table, join.sum, w);
-    words::test_word(join.form, a, b, c)
+    let parts = part_words(table, join, w);
+    words::test_word(join.form, parts.first, parts.second, parts.sum)
 }
 
-// Whether the test of a join passes at every leaf.
+// Whether the test of a join holds at every leaf.
 pub fn everywhere(table: &[u64; TABLE_WORDS], join: LeafJoin) -> bool
     requires { ⌜ PartsIn join ⌝ }
-    ensures { λ r. ⌜ r ≡ joinEverywhere constantLevels (now (table .entry)) join ⌝ }
+    ensures { λ r. ⌜ r ≡ eqb (joinFailing constantLevels (now (table .entry)) join) (2 ^ rowLevels constantLevels) ⌝ }
 {
     let mut w: usize = 0;
     while w < ROW_WORDS {
@@ -168,4 +189,30 @@ pub fn everywhere(table: &[u64; TABLE_WORDS], join: LeafJoin) -> bool
         w += 1;
     }
     true
+}
+
+// The lowest leaf at which the test of a join does not hold, or the number of leaves. Where it holds at all, `everywhere` is quicker.
+pub fn first_failing(table: &[u64; TABLE_WORDS], join: LeafJoin) -> usize
+    requires { ⌜ PartsIn join ⌝ }
+    ensures { λ r. ⌜ r ≡ joinFailing constantLevels (now (table .entry)) join ⌝ }
+{
+    let mut word: usize = 0;
+    while word < ROW_WORDS {
+        let holds = join_word(table, join, word);
+        if holds != 0xFFFF_FFFF_FFFF_FFFF {
+            return 64 * word + words::lowest(!holds);
+        }
+        word += 1;
+    }
+    ROW_LEAVES
+}
+
+// How the test of a join comes out at a leaf.
+pub fn way_at(table: &[u64; TABLE_WORDS], join: LeafJoin, leaf: usize) -> Way
+    requires { ⌜ PartsIn join × (leaf < 2 ^ rowLevels constantLevels) ⌝ }
+    ensures { λ r. ⌜ r ≡ joinWay (rowWords constantLevels) (now (table .entry)) join leaf ⌝ }
+{
+    let parts = part_words(table, join, leaf / 64);
+    let ways = words::ways_word(join.form, parts.first, parts.second, parts.sum);
+    words::way_at(ways, leaf % 64)
 }

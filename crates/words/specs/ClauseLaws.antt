@@ -1,45 +1,134 @@
 -- Laws of clauses: the tests by Boolean operations, and the parts that a section reads. Assumes nothing.
-use mathlib.Core.Path.{_≡_, refl, sym, ap, ap₂, _∙_}
-use mathlib.Core.Bool.{Bool, true, false, not, xor, _&&_, _||_}
+use mathlib.Core.Path.{_≡_, refl, sym, ap, ap₂, _∙_, subst}
+use mathlib.Core.Bool.{Bool, true, false, not, xor, cond, _&&_, _||_}
 use mathlib.Core.List.{List}
+use mathlib.Core.Option.{none, some}
 use Prim.Native.Nat.{ℕ, _+_, _-_, _*_, _^_, _≤_, _<_}
 use native.Mathlib.Nat.{add-assoc}
 use native.Mathlib.Numerals.{add-one}
 use native.Mathlib.Omega.{arith}
 use lib.Bits.{bitAnd, bitOr, bitXor, or-lt, and-lt, xor-lt}
+use lib.Dec.{T}
 use lib.ListN.{getD}
+use borrow.Author.Tests.{eq-eqb, ne-eqb}
 use Rattle.shares.specs.BelowLaws.{every-ext, every-more, every-stays}
 use Rattle.shares.specs.Constant.{bit}
-use Rattle.shares.specs.BitLaws.{bit-and, bit-or, bit-xor}
+use Rattle.shares.specs.BitLaws.{bit-zero, bit-and, bit-or, bit-xor}
 use Rattle.shares.specs.BitParts.{bit-not}
-use Rattle.shares.specs.Tree.{joins, joinLeaf}
-use Rattle.words.specs.Clause.{clauseTest, allClauses, Clauses}
+use Rattle.shares.specs.Test.{of-true, holds}
+use Rattle.shares.specs.Tree.{joinLeaf, isWay, leafTest}
+use Rattle.shares.specs.WayLaws.{is-way-iff, apart-test}
+use Rattle.shares.specs.declared.Way.{Way}
+use Rattle.shares.specs.declared.Way.the-variants.{Holds, Overlap, Surplus, Shortfall}
+use Rattle.words.specs.declared.Ways.{Ways}
+use Rattle.words.specs.Clause.{testWay, WaysOf, clauseTest, allClauses, Clauses}
 
--- the test of a join by operations on bits
-joins-bits : (a b c : Bool) → not ((a && b) || xor (a || b) c) ≡ joins a b c
-unfolding joins joinLeaf xor
-joins-bits false false false = refl
-joins-bits false false true = refl
-joins-bits false true false = refl
-joins-bits false true true = refl
-joins-bits true false false = refl
-joins-bits true false true = refl
-joins-bits true true c = refl
+-- ---- the ways of a test by operations on bits
 
--- and of words, bit by bit
-pub join-bits : (a b c i : ℕ) → a < 2 ^ 64 → b < 2 ^ 64 → c < 2 ^ 64 → i < 64
-    → bit ((2 ^ 64 - 1) - bitOr (bitAnd a b) (bitXor (bitOr a b) c)) i ≡ joins (bit a i) (bit b i) (bit c i)
-join-bits a b c i x y z h =
-    bit-not 64 (bitOr (bitAnd a b) (bitXor (bitOr a b) c)) i (or-lt 64 _ _ (and-lt 64 _ _ x y) (xor-lt 64 _ _ (or-lt 64 _ _ x y) z)) h
-    ∙ ap not (bit-or (bitAnd a b) (bitXor (bitOr a b) c) i ∙ ap₂ _||_ (bit-and a b i) (bit-xor (bitOr a b) c i ∙ ap (λ x. xor x (bit c i)) (bit-or a b i)))
-    ∙ joins-bits (bit a i) (bit b i) (bit c i)
+-- with a sum
+sum-held : (a b c : Bool) → not ((a && b) || xor (a || b) c) ≡ isWay Holds (leafTest a b (some c))
+unfolding leafTest joinLeaf xor
+sum-held false false false = refl
+sum-held false false true = refl
+sum-held false true false = refl
+sum-held false true true = refl
+sum-held true false false = refl
+sum-held true false true = refl
+sum-held true true c = refl
+
+sum-ways : (a b c : Bool) → let w = leafTest a b (some c) in
+    ((a && b) ≡ isWay Overlap w) × ((xor a b && not c) ≡ isWay Surplus w) × ((c && not (a || b)) ≡ isWay Shortfall w)
+unfolding leafTest joinLeaf xor
+sum-ways false false false = (refl, refl, refl)
+sum-ways false false true = (refl, refl, refl)
+sum-ways false true false = (refl, refl, refl)
+sum-ways false true true = (refl, refl, refl)
+sum-ways true false false = (refl, refl, refl)
+sum-ways true false true = (refl, refl, refl)
+sum-ways true true false = (refl, refl, refl)
+sum-ways true true true = (refl, refl, refl)
+
+-- without one
+apart-ways : (a b : Bool) → let w = leafTest a b none in
+    (not (a && b) ≡ isWay Holds w) × ((a && b) ≡ isWay Overlap w) × (false ≡ isWay Surplus w) × (false ≡ isWay Shortfall w)
+apart-ways a b = rw (apart-test a b) (by-case (a && b))
+  where
+    by-case : (d : Bool) → let w = cond d Overlap Holds in (not d ≡ isWay Holds w) × (d ≡ isWay Overlap w) × (false ≡ isWay Surplus w) × (false ≡ isWay Shortfall w)
+    by-case true = (refl, refl, refl, refl)
+    by-case false = (refl, refl, refl, refl)
+
+-- a test fails in one of three ways
+fails-some : (w : Way) → (isWay Overlap w || (isWay Surplus w || isWay Shortfall w)) ≡ not (isWay Holds w)
+fails-some Holds = refl
+fails-some Overlap = refl
+fails-some Surplus = refl
+fails-some Shortfall = refl
+
+-- ---- and of words, bit by bit
 
 pub not-bits : (x i : ℕ) (p : Bool) → x < 2 ^ 64 → i < 64 → bit x i ≡ p → bit ((2 ^ 64 - 1) - x) i ≡ not p
 not-bits x i p l h e = bit-not 64 x i l h ∙ ap not e
 
--- two words do not overlap, bit by bit
-pub apart-bits : (a b i : ℕ) → a < 2 ^ 64 → b < 2 ^ 64 → i < 64 → bit ((2 ^ 64 - 1) - bitAnd a b) i ≡ not (bit a i && bit b i)
-apart-bits a b i x y h = not-bits (bitAnd a b) i _ (and-lt 64 _ _ x y) h (bit-and a b i)
+module _ (a b c : ℕ) (x : a < 2 ^ 64) (y : b < 2 ^ 64) (z : c < 2 ^ 64) where
+  pub sum-word : (i : ℕ) → i < 64 → bit ((2 ^ 64 - 1) - bitOr (bitAnd a b) (bitXor (bitOr a b) c)) i ≡ isWay Holds (leafTest (bit a i) (bit b i) (some (bit c i)))
+  sum-word i h =
+      not-bits (bitOr (bitAnd a b) (bitXor (bitOr a b) c)) i _ (or-lt 64 _ _ (and-lt 64 _ _ x y) (xor-lt 64 _ _ (or-lt 64 _ _ x y) z)) h
+      (bit-or (bitAnd a b) (bitXor (bitOr a b) c) i ∙ ap₂ _||_ (bit-and a b i) (bit-xor (bitOr a b) c i ∙ ap (λ x. xor x (bit c i)) (bit-or a b i)))
+      ∙ sum-held (bit a i) (bit b i) (bit c i)
+
+  pub apart-word : (i : ℕ) → i < 64 → bit ((2 ^ 64 - 1) - bitAnd a b) i ≡ isWay Holds (leafTest (bit a i) (bit b i) none)
+  apart-word i h = not-bits (bitAnd a b) i _ (and-lt 64 _ _ x y) h (bit-and a b i) ∙ apart-ways (bit a i) (bit b i) .0
+
+  -- three words that are right of each way are right of the test
+  ways-of : (form : ℕ) (w : Ways) → ((i : ℕ) → i < 64 → let t = testWay form (bit a i) (bit b i) (bit c i) in
+      (bit (w .overlap) i ≡ isWay Overlap t) × (bit (w .surplus) i ≡ isWay Surplus t) × (bit (w .shortfall) i ≡ isWay Shortfall t)) → WaysOf form a b c w
+  ways-of form w f = record {
+    overlap = λ i h. f i h .0;
+    surplus = λ i h. f i h .1;
+    shortfall = λ i h. f i h .2;
+    fails = λ i h. ap₂ _||_ (f i h .0) (ap₂ _||_ (f i h .1) (f i h .2)) ∙ fails-some (testWay form (bit a i) (bit b i) (bit c i));
+  }
+
+  pub sum-words : (form : ℕ) → form ≡ 0
+      → WaysOf form a b c (record { overlap = bitAnd a b; surplus = bitAnd (bitXor a b) ((2 ^ 64 - 1) - c); shortfall = bitAnd c ((2 ^ 64 - 1) - bitOr a b) })
+  unfolding testWay
+  sum-words form e =
+      ways-of form _ (λ i h.
+      let S = sum-ways (bit a i) (bit b i) (bit c i) in
+      rw (eq-eqb form 0 e) (
+        bit-and a b i ∙ S .0,
+        bit-and (bitXor a b) ((2 ^ 64 - 1) - c) i ∙ ap₂ _&&_ (bit-xor a b i) (not-bits c i _ z h refl) ∙ S .1,
+        bit-and c ((2 ^ 64 - 1) - bitOr a b) i ∙ ap (λ d. bit c i && d) (not-bits (bitOr a b) i _ (or-lt 64 _ _ x y) h (bit-or a b i)) ∙ S .2,
+      ))
+
+  pub apart-words : (form : ℕ) → (form ≡ 0 → ⊥) → WaysOf form a b c (record { overlap = bitAnd a b; surplus = 0; shortfall = 0 })
+  unfolding testWay
+  apart-words form n =
+      ways-of form _ (λ i h.
+      let A = apart-ways (bit a i) (bit b i) in
+      rw (ne-eqb form 0 n) (bit-and a b i ∙ A .1, bit-zero i ∙ A .2, bit-zero i ∙ A .3))
+
+-- ---- the way at one leaf from the three words
+
+module _ (form a b c : ℕ) (w : Ways) (W : WaysOf form a b c w) (i : ℕ) (h : i < 64) where
+  abbrev test : Way
+  test = testWay form (bit a i) (bit b i) (bit c i)
+
+  pub way-overlap : bit (w .overlap) i ≡ true → Overlap ≡ test
+  way-overlap e = sym (is-way-iff Overlap test .0 (of-true (sym (W .overlap i h) ∙ e)))
+
+  pub way-surplus : bit (w .surplus) i ≡ true → Surplus ≡ test
+  way-surplus e = sym (is-way-iff Surplus test .0 (of-true (sym (W .surplus i h) ∙ e)))
+
+  pub way-shortfall : bit (w .shortfall) i ≡ true → Shortfall ≡ test
+  way-shortfall e = sym (is-way-iff Shortfall test .0 (of-true (sym (W .shortfall i h) ∙ e)))
+
+  pub way-holds : bit (w .overlap) i ≡ false → bit (w .surplus) i ≡ false → bit (w .shortfall) i ≡ false → Holds ≡ test
+  way-holds o s f =
+      let none-fails : not (isWay Holds test) ≡ false = sym (W .fails i h) ∙ rw (o, s, f) refl in
+      sym (is-way-iff Holds test .0 (holds (isWay Holds test) (λ t. subst T none-fails t)))
+
+-- ---- sections
 
 -- one clause of a section
 pub clauses-at : {clauses : List ℕ} {start count : ℕ} → Clauses clauses start count → (k : ℕ) → k < count → Clauses clauses (start + 4 * k) 1

@@ -1,6 +1,7 @@
 // Clauses at one leaf for 64 choices of Boolean values at a time: bit i of word w is choice 64 * w + i.
 use basics::CLAUSE_BYTES;
 use basics::FULL_PART;
+use shares::Way;
 ghost use mathlib.Core.Path.{_≡_};
 ghost use mathlib.Core.Bool.{_&&_, not};
 ghost use Prim.Native.Nat.{ℕ, _+_, _-_, _*_, _^_, _<_, _≤_};
@@ -8,7 +9,7 @@ ghost use lib.Dec.{eqb};
 ghost use lib.ListN.{length, getD};
 ghost use Rattle.shares.specs.Below.{firstBelow};
 ghost use Rattle.shares.specs.Constant.{constantLevels, bit};
-ghost use Rattle.words.specs.Clause.{testValue, clauseTest, allClauses, position, Clauses};
+ghost use Rattle.words.specs.Clause.{testWay, testValue, WaysOf, clauseTest, allClauses, position, Clauses};
 ghost use Rattle.words.specs.Choices.{wordCount, valuesAt};
 ghost use Rattle.words.specs.Table.{Terms, Changed, Within};
 
@@ -31,6 +32,49 @@ pub fn test_word(form: u8, a: u64, b: u64, c: u64) -> u64
         return !off;
     }
     !overlap
+}
+
+// How a test comes out at 64 leaves: those where the parts overlap, those with a surplus, and those with a shortfall. It holds at the others.
+pub struct Ways {
+    pub overlap: u64,
+    pub surplus: u64,
+    pub shortfall: u64,
+}
+
+// Bit i of each of the three words is set where the test with this form comes out so at the bits i of a, b and c; their union, where it fails.
+pub fn ways_word(form: u8, a: u64, b: u64, c: u64) -> Ways
+    ensures { λ r. ⌜ WaysOf form a b c r ⌝ }
+{
+    let overlap = a & b;
+    if form == 0 {
+        return Ways {
+            overlap,
+            surplus: (a ^ b) & !c,
+            shortfall: c & !(a | b),
+        };
+    }
+    Ways {
+        overlap,
+        surplus: 0,
+        shortfall: 0,
+    }
+}
+
+// How the test comes out at leaf i.
+pub fn way_at(ways: Ways, i: usize) -> Way
+    requires { ⌜ i < 64 ⌝ }
+    ensures { λ r. ⌜ ((form a b c : ℕ) → WaysOf form a b c ways → r ≡ testWay form (bit a i) (bit b i) (bit c i)) ⌝ }
+{
+    if basics::digit(ways.overlap, i) {
+        return Way::Overlap;
+    }
+    if basics::digit(ways.surplus, i) {
+        return Way::Surplus;
+    }
+    if basics::digit(ways.shortfall, i) {
+        return Way::Shortfall;
+    }
+    Way::Holds
 }
 
 // Bit i of the result is the test of the clause at byte `at`, where part t has bit i of terms[t] for its value.

@@ -1,9 +1,9 @@
 -- What the numbers of the calls other than asking stand for. Assumes nothing.
 use mathlib.Core.Bool.{cond}
 use mathlib.Core.Option.{Option, none, some}
-use Prim.Native.Nat.{ℕ, _+_, _*_, _^_}
+use Prim.Native.Nat.{ℕ, _+_, _*_, _^_, _<_}
 use lib.Dec.{eqb}
-use Rattle.shares.specs.Tree.{Tree}
+use Rattle.shares.specs.Tree.{Tree, wayNumber}
 use Rattle.shares.specs.Constant.{numberTree}
 use Rattle.rows.specs.declared.Range.{Range}
 use Rattle.text.specs.Texts.{textLength, textRefusal}
@@ -37,9 +37,17 @@ numberJoin levels n = cond (eqb n (undefinedJoin levels)) none (some (numberTree
 abbrev pub versionNumber : ℕ → ℕ → ℕ → ℕ
 versionNumber major minor patch = 2 ^ 16 * major + 2 ^ 8 * minor + patch
 
--- a judgement: 0 refused, with the number of the refusal in byte 1 and its place in bytes 2 and 3, low first; 1 accepted; 2 a clause is broken, with its number in byte 4; 3 the rows extend
+-- a judgement: 0 refused, with the number of the refusal in byte 1 and its place in bytes 2 and 3, low first; 1 accepted; 2 a clause is broken, with its number in byte 4,
+-- the number of the way in byte 5 and the leaf in bytes 6 and 7, low first; 3 the rows extend
 abbrev pub judgementNumber : Judgement → ℕ
 judgementNumber (judgement.Refused n place) = 2 ^ 8 * n + 2 ^ 16 * place
 judgementNumber judgement.Accepted = 1
-judgementNumber (judgement.Broken k) = 2 + 2 ^ 32 * k
+judgementNumber (judgement.Broken k w i) = 2 + 2 ^ 32 * k + 2 ^ 40 * wayNumber w + 2 ^ 48 * i
 judgementNumber judgement.Extending = 3
+
+-- each of its numbers fits its bytes
+abbrev pub Small : Judgement → Type 0
+Small (judgement.Refused n place) = (n < 2 ^ 8) × (place < 2 ^ 16)
+Small judgement.Accepted = Unit {0}
+Small (judgement.Broken k w i) = (k < 2 ^ 8) × (i < 2 ^ 16)
+Small judgement.Extending = Unit {0}

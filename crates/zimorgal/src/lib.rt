@@ -3,6 +3,7 @@ use asking::Outcome;
 use constants::FromText;
 use judging::Judgement;
 use shares::Joined;
+use shares::Way;
 use text::Written;
 ghost use mathlib.Core.Path.{_≡_};
 ghost use mathlib.Core.Bool.{cond};
@@ -19,12 +20,11 @@ ghost use Rattle.asking.specs.Exact.{Exact};
 ghost use Rattle.asking.specs.Demand3.{rowShares, Demand3};
 ghost use Rattle.judging.specs.Judging.{judged, judgedWith, judgementOf};
 ghost use Rattle.judging.specs.Exactly.{Exactly, AskingShows};
-ghost use Rattle.judging.specs.declared.Judgement.the-variants.{Accepted};
+ghost use Rattle.judging.specs.declared.Judgement.the-variants.{Accepted, Broken};
 ghost use Rattle.zimorgal.specs.Packing.{packed, unpacked};
 ghost use Rattle.zimorgal.specs.PackingLaws.{InBytes};
-ghost use Rattle.zimorgal.specs.Calls.{rangeNumber, textNumber, constantNumber, undefinedJoin, numberJoin, versionNumber, judgementNumber};
+ghost use Rattle.zimorgal.specs.Calls.{rangeNumber, textNumber, constantNumber, undefinedJoin, numberJoin, versionNumber, judgementNumber, Small};
 ghost use Rattle.zimorgal.specs.Joins.{joinNumber};
-ghost use Rattle.zimorgal.specs.JudgementLaws.{Small};
 
 // The result as one number: each field is multiplied to its bytes.
 fn pack(outcome: Outcome) -> u64
@@ -55,13 +55,23 @@ pub extern "C" fn zimorgal_ask(question: &[u8], answer: &mut [u8], work: &mut [u
 #[no_mangle]
 pub extern "C" fn zimorgal_judge(question: &[u8], rows: &[u8]) -> u64
     ensures result { λ r. ⌜ r ≡ judgementNumber (judgementOf (judgedWith (now (question .entry)) (now (rows .entry))) (now (rows .entry))) ⌝ }
-    ensures model { λ r. ⌜ ((q : model.Question) → judgedWith (now (question .entry)) (now (rows .entry)) ≡ judged q → Exactly q (rowShares (q .constants .levels) (now (rows .entry))) (λ j. r ≡ judgementNumber j)) ⌝ }
+    ensures model { λ r. ⌜ ((q : model.Question) → judgedWith (now (question .entry)) (now (rows .entry)) ≡ judged q → Exactly q (rowShares (q .constants .levels) (now (rows .entry))) (λ j. Small j × (r ≡ judgementNumber j))) ⌝ }
     ensures shown { λ r. ⌜ (AskingShows (now (question .entry)) (now (rows .entry)) → r ≡ judgementNumber Accepted) ⌝ }
 {
     judgement_number(judging::judge(question, rows))
 }
 
-// The number of a judgement: what it is, the refusal's number, its place in two bytes, and the number of the broken clause.
+// The number of a broken clause: what it is, the number of the clause, that of the way, and the leaf in two bytes.
+fn broken_number(clause: usize, way: Way, leaf: usize) -> u64
+    requires { ⌜ Small (Broken clause way leaf) ⌝ }
+    ensures { λ r. ⌜ r ≡ judgementNumber (Broken clause way leaf) ⌝ }
+{
+    let low = 2 + 4294967296 * (clause as u64);
+    let middle = 1099511627776 * basics::wide(shares::way_number(way));
+    low + middle + 281474976710656 * (leaf as u64)
+}
+
+// The number of a judgement: what it is, and of a refusal its number, and its place in two bytes.
 fn judgement_number(judgement: Judgement) -> u64
     requires { ⌜ Small judgement ⌝ }
     ensures { λ r. ⌜ r ≡ judgementNumber judgement ⌝ }
@@ -71,7 +81,7 @@ fn judgement_number(judgement: Judgement) -> u64
             256 * basics::wide(number) + 65536 * (place as u64)
         }
         Judgement::Accepted => 1,
-        Judgement::Broken(k) => 2 + 4294967296 * (k as u64),
+        Judgement::Broken { clause, way, leaf } => broken_number(clause, way, leaf),
         Judgement::Extending => 3,
     }
 }

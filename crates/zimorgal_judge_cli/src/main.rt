@@ -3,6 +3,7 @@ use judging::Judgement;
 use libc::STDERR_FILENO;
 use libc::STDIN_FILENO;
 use libc::STDOUT_FILENO;
+use shares::Way;
 ghost use Rattle.io.specs.Counts.{Counts};
 
 // Each of these writes to standard output, stops at the first write that fails, and says whether all was written.
@@ -12,6 +13,21 @@ fn say_bytes(bytes: &[u8]) -> bool {
 
 fn say_number(number: usize) -> bool {
     io::print_decimal(STDOUT_FILENO, number as u64)
+}
+
+// What is printed of a way in which a clause fails, and of the leaf.
+fn say_failing(way: &[u8], leaf: usize) -> bool {
+    say_bytes(way) && say_bytes(b" at ") && say_number(leaf)
+}
+
+// Of a disequation there is neither.
+fn say_way(way: Way, leaf: usize) -> bool {
+    match way {
+        Way::Holds => true,
+        Way::Overlap => say_failing(b" overlap", leaf),
+        Way::Surplus => say_failing(b" surplus", leaf),
+        Way::Shortfall => say_failing(b" shortfall", leaf),
+    }
 }
 
 // What is printed for rows.
@@ -25,7 +41,9 @@ fn say(judgement: Judgement) -> bool {
                 && say_bytes(b"\n")
         }
         Judgement::Accepted => say_bytes(b"accepted\n"),
-        Judgement::Broken(k) => say_bytes(b"broken ") && say_number(k) && say_bytes(b"\n"),
+        Judgement::Broken { clause, way, leaf } => {
+            say_bytes(b"broken ") && say_number(clause) && say_way(way, leaf) && say_bytes(b"\n")
+        }
         Judgement::Extending => say_bytes(b"extends\n"),
     }
 }

@@ -155,7 +155,9 @@ impl Asker<'_> {
             let rows = &self.answer.part()[..ANSWER_BYTES];
             let rows = changed(&mut self.random, question, rows);
             self.answer.lend_holding(&mut self.random, &rows);
-            self.judging(bytes, judged(bytes, &rows));
+            let due = judged(bytes, &rows);
+            judger::compare_bytes(self.report, bytes, &rows, due);
+            self.judging(bytes, due);
         }
     }
 

@@ -3,32 +3,55 @@
 
 use crate::due::packed_refusal;
 use crate::judge::{ANSWER_BYTES, ROW_BYTES};
-use crate::question::{read, split, Clause, Question, Refusal};
+use crate::question::{read, split, Clause, Question, Refusal, Relation, Term};
 use crate::single::{beside, holds_at_leaf};
-use crate::tree::{number_of_tree, CONSTANT_HEIGHT, ROW_HEIGHT};
+use crate::tree::{join_leaves, number_of_tree, CONSTANT_HEIGHT, ROW_HEIGHT};
 use std::collections::HashSet;
 
 pub const WRONG_LENGTH: u8 = 18;
 pub const FOREIGN_BIT: u8 = 19;
 
+/// Which way a clause fails at a leaf.
+#[derive(Clone, Copy, Debug, PartialEq, Eq)]
+pub enum Way {
+    /// Both parts are full.
+    Overlap = 1,
+    /// Just one part is full, and the sum is empty.
+    Surplus = 2,
+    /// Both parts are empty, and the sum is full.
+    Shortfall = 3,
+}
+
+/// Where a positive clause fails.
+#[derive(Clone, Copy, Debug, PartialEq, Eq)]
+pub struct Failing {
+    pub way: Way,
+    /// The leaf of the rows.
+    pub leaf: usize,
+}
+
 /// What is said of rows that are not refused.
 #[derive(Clone, Copy, Debug, PartialEq, Eq)]
 pub enum Judgement {
     Accepted,
-    /// They break this clause of the first system and none before it.
-    Broken(usize),
+    /// They break this clause of the first system and none before it; where it fails, if it is positive.
+    Broken(usize, Option<Failing>),
     Extends,
 }
 
 pub type Judged = Result<Judgement, Refusal>;
 
-/// The number's bytes: 0 refused, 1 accepted, 2 broken, 3 the rows extend; refusal number, place in two bytes, clause number, and three
-/// bytes 0.
+/// The number's bytes: 0 refused, 1 accepted, 2 broken, 3 the rows extend; refusal number, place in two bytes, clause number, the way in which a positive clause fails, and
+/// the leaf in two bytes.
 pub fn packed(judged: Judged) -> u64 {
     match judged {
         Err(refusal) => packed_refusal(refusal),
         Ok(Judgement::Accepted) => 1,
-        Ok(Judgement::Broken(clause)) => u64::from_le_bytes([2, 0, 0, 0, clause as u8, 0, 0, 0]),
+        Ok(Judgement::Broken(clause, failing)) => {
+            let (way, leaf) = failing.map_or((0, 0), |at| (at.way as u8, at.leaf as u16));
+            let [low, high] = leaf.to_le_bytes();
+            u64::from_le_bytes([2, 0, 0, 0, clause as u8, way, low, high])
+        }
         Ok(Judgement::Extends) => 3,
     }
 }
@@ -44,6 +67,8 @@ pub struct Leaf {
 pub struct Asked<'a> {
     pub bytes: &'a [u8],
     pub question: Question,
+    /// The constants, leaf i at bit i.
+    constants: Vec<u32>,
 }
 
 /// How judging reads its law, word by word.
@@ -75,19 +100,33 @@ impl Words {
     pub fn judge(&self, bytes: &[u8], rows: &[u8]) -> Judged {
         let question = (self.question)(bytes, rows)?;
         let leaves = (self.leaves)(&question, rows);
-        let clauses = question.first.iter().enumerate();
-        let broken: Vec<usize> = clauses
-            .filter(|(_, clause)| !(self.holds)(clause, &leaves))
-            .map(|(number, _)| number)
-            .collect();
-        let asked = Asked { bytes, question };
+        let broken = self.broken(&question, &leaves);
         if !broken.is_empty() {
-            return Ok(Judgement::Broken((self.named)(&asked, &broken)));
+            let asked = Asked::new(bytes, question);
+            let named = (self.named)(&asked, &broken);
+            let failing = asked.failing(rows, broken[0]);
+            return Ok(Judgement::Broken(named, failing));
         }
-        let question = &asked.question;
-        let extends = question.entailment && (self.extends)(question, &leaves, rows);
+        let extends = question.entailment && (self.extends)(&question, &leaves, rows);
         Ok((self.said)(question.entailment, extends))
     }
+
+    /// All clauses of the first system that do not hold.
+    fn broken(&self, question: &Question, leaves: &[Leaf]) -> Vec<usize> {
+        let clauses = question.first.iter().enumerate();
+        clauses
+            .filter(|(_, clause)| !(self.holds)(clause, leaves))
+            .map(|(number, _)| number)
+            .collect()
+    }
+}
+
+/// All clauses of the first system that rows break; none of what is refused.
+pub fn broken(bytes: &[u8], rows: &[u8]) -> Vec<usize> {
+    let question = question(bytes, rows);
+    let broken =
+        |question: Question| AS_WRITTEN.broken(&question, &(AS_WRITTEN.leaves)(&question, rows));
+    question.map_or(Vec::new(), broken)
 }
 
 /// What judging gives, leaf by leaf.
@@ -168,6 +207,71 @@ fn holds(clause: &Clause, leaves: &[Leaf]) -> bool {
     match clause.negated {
         true => held.any(|held| held),
         false => held.all(|held| held),
+    }
+}
+
+impl Asked<'_> {
+    pub fn new(bytes: &[u8], question: Question) -> Asked<'_> {
+        let constants = question.constants.iter().map(number_of_tree).collect();
+        Asked {
+            bytes,
+            question,
+            constants,
+        }
+    }
+
+    /// The leftmost leaf of the rows at which a positive clause fails, and which way; of a disequation neither.
+    pub fn failing(&self, rows: &[u8], number: usize) -> Option<Failing> {
+        let Clause { relation, negated } = self.question.first[number];
+        match negated {
+            true => None,
+            false => self
+                .all_failing(rows, |full| way(parts(relation, full)))
+                .next(),
+        }
+    }
+
+    /// All leaves of the rows at which something fails, from the left, where this says which way it does, by whether terms are full there.
+    pub fn all_failing<'a>(
+        &'a self,
+        rows: &'a [u8],
+        way: impl Fn(&dyn Fn(Term) -> bool) -> Option<Way> + 'a,
+    ) -> impl Iterator<Item = Failing> + 'a {
+        (0..1 << ROW_HEIGHT).filter_map(move |leaf| {
+            let over = leaf >> (ROW_HEIGHT - CONSTANT_HEIGHT);
+            let full = |term| match term {
+                Term::Variable(v) => full_at(rows, v, leaf),
+                Term::Constant(c) => self.constants[c] >> over & 1 == 1,
+            };
+            way(&full).map(|way| Failing { way, leaf })
+        })
+    }
+}
+
+/// Whether a leaf of a variable's row is full; what rows that are too short lack is empty.
+fn full_at(rows: &[u8], variable: usize, leaf: usize) -> bool {
+    let byte = rows.get(variable * ROW_BYTES + leaf / 8);
+    byte.is_some_and(|byte| byte >> (leaf % 8) & 1 == 1)
+}
+
+/// The two parts of the join that a relation reads as, and its sum.
+pub fn parts(relation: Relation, full: impl Fn(Term) -> bool) -> [bool; 3] {
+    match relation {
+        Relation::Join(a, b, c) => [full(a), full(b), full(c)],
+        Relation::Equal(a, b) => [full(a), false, full(b)],
+        Relation::Full(a) => [full(a), false, true],
+        Relation::Empty(a) => [full(a), false, false],
+        Relation::Together(a, b) => [full(a), full(b), full(a) || full(b)],
+    }
+}
+
+/// Which way a join fails at a leaf, if it does: it is undefined there, or it gives full or empty and the sum is the other.
+pub fn way([a, b, sum]: [bool; 3]) -> Option<Way> {
+    match join_leaves(a, b) {
+        None => Some(Way::Overlap),
+        Some(given) if given == sum => None,
+        Some(true) => Some(Way::Surplus),
+        Some(false) => Some(Way::Shortfall),
     }
 }
 

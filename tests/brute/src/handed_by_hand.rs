@@ -12,9 +12,22 @@ pub type Handed = (&'static str, &'static str, &'static [&'static str], u64);
 const ACCEPTED: u64 = 1;
 const EXTENDS: u64 = 3;
 
-/// The number for rows that break this clause and none before it.
+/// The number for rows that break this disequation and no clause before it.
 const fn broken(clause: u64) -> u64 {
     2 + (clause << 32)
+}
+
+/// The numbers for rows that break this positive clause and none before it, by the way in which it fails and the leftmost leaf where it does.
+const fn overlap(clause: u64, leaf: u64) -> u64 {
+    broken(clause) + (1 << 40) + (leaf << 48)
+}
+
+const fn surplus(clause: u64, leaf: u64) -> u64 {
+    broken(clause) + (2 << 40) + (leaf << 48)
+}
+
+const fn shortfall(clause: u64, leaf: u64) -> u64 {
+    broken(clause) + (3 << 40) + (leaf << 48)
 }
 
 /// All 12 rows, of which the first have these tree texts.
@@ -67,13 +80,13 @@ const OF_SPEC: &[Handed] = &[
         "v0 join v0 is full: empty",
         "01 00 01 00 | F | 10 00 00 20 | 00",
         &["o"],
-        broken(0),
+        shortfall(0, 0),
     ),
     (
         "v0 join v0 is full: undefined",
         "01 00 01 00 | F | 10 00 00 20 | 00",
         &["*"],
-        broken(0),
+        overlap(0, 0),
     ),
     (
         "v0 join v0 is v1, not empty",
@@ -85,7 +98,7 @@ const OF_SPEC: &[Handed] = &[
         "v0 join v0 is v1, another",
         "01 00 02 00 | E | 10 00 00 01 | 13 01 20 | 00",
         &["o", "*"],
-        broken(0),
+        shortfall(0, 0),
     ),
     (
         "three not empty, at height 1",
@@ -109,7 +122,7 @@ const OF_SPEC: &[Handed] = &[
         "three not empty, v0 and v1 overlap",
         THREE_NOT_EMPTY,
         &["*", "*", "*"],
-        broken(0),
+        overlap(0, 0),
     ),
     (
         "five not empty",
@@ -130,7 +143,7 @@ const OF_SPEC: &[Handed] = &[
         "v0 not L: the join is not full",
         NOT_LEFT,
         &["(*o)", "o"],
-        broken(0),
+        shortfall(0, 512),
     ),
     (
         "not (full join full is full)",
@@ -142,7 +155,7 @@ const OF_SPEC: &[Handed] = &[
         "the first has no solution",
         "01 01 01 00 | F E | 10 00 00 20 | 22 00 21 | 00",
         &["o"],
-        broken(0),
+        shortfall(0, 0),
     ),
     (
         "L join own v2 is v0: R",
@@ -190,7 +203,7 @@ const OF_SPEC: &[Handed] = &[
         "L join own v2 is v0: v1 is not R",
         LEFT_JOIN,
         &["*", "(*o)"],
-        broken(1),
+        surplus(1, 0),
     ),
     (
         "v0 split: own shares of height 1 beside height 0",
@@ -233,7 +246,7 @@ const OF_SPEC: &[Handed] = &[
         "v0 join v1 is full entails v0 not empty: neither",
         ENTAILS_NOT_EMPTY,
         &["o", "o"],
-        broken(0),
+        shortfall(0, 0),
     ),
     (
         "v0 is L entails v0 not empty: L",
@@ -245,7 +258,7 @@ const OF_SPEC: &[Handed] = &[
         "v0 is L entails v0 not empty: full",
         "01 01 01 00 | L E | 12 00 20 | 23 00 21 | 00",
         &["*"],
-        broken(0),
+        surplus(0, 512),
     ),
     (
         "v0 is L entails v0 is full",
@@ -263,13 +276,13 @@ const OF_SPEC: &[Handed] = &[
         "the printing program's example: L",
         "01 00 01 00 | L F | 10 00 20 21 | 00",
         &["(*o)"],
-        broken(0),
+        overlap(0, 0),
     ),
     (
         "a writer and a reader held together",
         WRITER_AND_READER,
         &["*", "*"],
-        broken(2),
+        overlap(2, 0),
     ),
     (
         "a writer and an empty share",
@@ -281,10 +294,10 @@ const OF_SPEC: &[Handed] = &[
         "half a writer",
         WRITER_AND_READER,
         &["(*o)", "(o*)"],
-        broken(0),
+        shortfall(0, 512),
     ),
     ("two readers", TWO_READERS, &["(o*)", "(*o)"], ACCEPTED),
-    ("two writers", TWO_READERS, &["*", "*"], broken(2)),
+    ("two writers", TWO_READERS, &["*", "*"], overlap(2, 0)),
     (
         "v0 may read entails v0 may write: half",
         "01 01 01 00 | 31 00 | 38 00 | 00",
@@ -347,7 +360,7 @@ const OF_WORDS: &[Handed] = &[
         "a positive clause fails at one leaf of 1,024",
         "01 00 01 00 | F | 12 00 20 | 00",
         &[ALL_BUT_LAST],
-        broken(0),
+        shortfall(0, 1023),
     ),
     (
         "no leaf meets both disequations",
@@ -451,7 +464,7 @@ const OF_WORDS: &[Handed] = &[
         "in question order: the positive clause between",
         IN_ORDER,
         &["(*o)"],
-        broken(1),
+        shortfall(1, 512),
     ),
     (
         "in question order: the disequation behind",
@@ -459,9 +472,19 @@ const OF_WORDS: &[Handed] = &[
         &["*"],
         broken(2),
     ),
-    ("two systems mixed: number 0", MIXED, &["o", "*"], broken(0)),
+    (
+        "two systems mixed: number 0",
+        MIXED,
+        &["o", "*"],
+        shortfall(0, 0),
+    ),
     ("two systems mixed: number 1", MIXED, &["*", "o"], broken(1)),
-    ("two systems mixed: number 2", MIXED, &["*", "*"], broken(2)),
+    (
+        "two systems mixed: number 2",
+        MIXED,
+        &["*", "*"],
+        overlap(2, 0),
+    ),
     (
         "the last of 32 leaves",
         LAST_OF_32,
@@ -472,13 +495,13 @@ const OF_WORDS: &[Handed] = &[
         "the first of 32 leaves for the last",
         LAST_OF_32,
         &["(((((*o)o)o)o)o)"],
-        broken(0),
+        surplus(0, 0),
     ),
     (
         "half of the last of 32 leaves",
         LAST_OF_32,
         &["(o(o(o(o(o(*o))))))"],
-        broken(0),
+        shortfall(0, 1008),
     ),
     (
         "30 of 32 constants are not named: what the left half lacks",
@@ -490,7 +513,7 @@ const OF_WORDS: &[Handed] = &[
         "30 of 32 constants are not named: more than it lacks",
         TWO_NAMED,
         &["*"],
-        broken(0),
+        overlap(0, 0),
     ),
     (
         "T is not named, R is: R extends",
@@ -506,8 +529,241 @@ const OF_WORDS: &[Handed] = &[
     ),
 ];
 
+/// v0 join v1 is v2.
+const JOIN: &str = "01 00 03 00 | 10 00 01 02 | 00";
+/// v0 is L, and L is v0.
+const IS_LEFT: &str = "01 00 01 00 | L | 12 00 20 | 00";
+const LEFT_IS: &str = "01 00 01 00 | L | 12 20 00 | 00";
+const TOGETHER: &str = "01 00 02 00 | 32 00 01 | 00";
+const TWO_WRITERS: &str = "01 00 02 00 | 30 00 | 30 01 | 00";
+/// The first system: v0 is not full; v0 is L. Those of the second stand around them.
+const MIXED_LEFT: &str = "01 01 01 01 | F L | 38 00 | 13 00 20 | 3A 00 01 | 12 00 21 | 39 01 | 00";
+const LAST_LEAF: &str = "(o(o(o(o(o(o(o(o(o(o*))))))))))";
+
+/// Each way, each clause that can fail so, and which leaf counts.
+const OF_WAYS: &[Handed] = &[
+    (
+        "both parts are full, and the sum is",
+        JOIN,
+        &["(o*)", "(o*)", "(o*)"],
+        overlap(0, 512),
+    ),
+    (
+        "both parts are full, and the sum is empty",
+        JOIN,
+        &["((o*)o)", "((o*)o)", "o"],
+        overlap(0, 256),
+    ),
+    (
+        "the first part alone is full, and the sum is empty",
+        JOIN,
+        &["(o(*o))", "o", "o"],
+        surplus(0, 512),
+    ),
+    (
+        "the second part alone is full, and the sum is empty",
+        JOIN,
+        &["(*o)", "(o(o*))", "(*o)"],
+        surplus(0, 768),
+    ),
+    (
+        "both parts are empty, and the sum is full",
+        JOIN,
+        &["((*o)o)", "o", "(*o)"],
+        shortfall(0, 256),
+    ),
+    (
+        "a surplus, then an overlap, then a shortfall",
+        JOIN,
+        &["((o*)(*o))", "(o(*o))", "(o(o*))"],
+        surplus(0, 256),
+    ),
+    (
+        "a shortfall, then a surplus, then an overlap",
+        JOIN,
+        &["(o*)", "(o(o*))", "(*o)"],
+        shortfall(0, 0),
+    ),
+    (
+        "an overlap at the second leaf, and surplus behind it",
+        JOIN,
+        &[SECOND_LEAF, "((((((((((o*)*)o)o)o)o)o)o)o)o)", SECOND_LEAF],
+        overlap(0, 1),
+    ),
+    (
+        "a surplus, and an overlap beside it in the same word",
+        JOIN,
+        &[FIRST_TWO, SECOND_LEAF, "o"],
+        surplus(0, 0),
+    ),
+    (
+        "an overlap, and a surplus beside it in the same word",
+        JOIN,
+        &[FIRST_TWO, FIRST_LEAF, "o"],
+        overlap(0, 0),
+    ),
+    (
+        "a shortfall, and an overlap beside it in the same word",
+        JOIN,
+        &[SECOND_LEAF, SECOND_LEAF, FIRST_LEAF],
+        shortfall(0, 0),
+    ),
+    (
+        "v0 join v1 is v0: both are full",
+        "01 00 02 00 | 10 00 01 00 | 00",
+        &["(*o)", "((o*)o)"],
+        overlap(0, 256),
+    ),
+    (
+        "v0 join v1 is v0: v1 alone is full",
+        "01 00 02 00 | 10 00 01 00 | 00",
+        &["(*o)", "(o(o*))"],
+        surplus(0, 768),
+    ),
+    (
+        "v0 join v1 is v1: v0 alone is full",
+        "01 00 02 00 | 10 00 01 01 | 00",
+        &["(o(o*))", "(*o)"],
+        surplus(0, 768),
+    ),
+    (
+        "v0 join v0 is v1: both are full, and v1 is empty",
+        "01 00 02 00 | 10 00 00 01 | 00",
+        &["(o*)", "o"],
+        overlap(0, 512),
+    ),
+    (
+        "v0 join v0 is v1: v1 alone is full, further left",
+        "01 00 02 00 | 10 00 00 01 | 00",
+        &["(o*)", "((o*)o)"],
+        shortfall(0, 256),
+    ),
+    (
+        "a surplus at the last leaf",
+        JOIN,
+        &["o", LAST_LEAF, "o"],
+        surplus(0, 1023),
+    ),
+    (
+        "a part that is a constant",
+        "01 00 02 00 | R | 10 00 20 01 | 00",
+        &["o", "(o(*o))"],
+        surplus(0, 768),
+    ),
+    (
+        "two constants as parts, the sum a third",
+        "01 00 00 00 | L R F | 10 20 21 22 | 10 20 21 20 | 00",
+        &[],
+        surplus(1, 512),
+    ),
+    (
+        "two constants as parts overlap",
+        "01 00 00 00 | Q L F | 10 20 21 22 | 00",
+        &[],
+        overlap(0, 0),
+    ),
+    ("more than L is a surplus", IS_LEFT, &["*"], surplus(0, 512)),
+    (
+        "less than L is a shortfall",
+        IS_LEFT,
+        &["((*o)o)"],
+        shortfall(0, 256),
+    ),
+    ("L is more: a shortfall", LEFT_IS, &["*"], shortfall(0, 512)),
+    (
+        "L is less: a surplus",
+        LEFT_IS,
+        &["((*o)o)"],
+        surplus(0, 256),
+    ),
+    (
+        "two constants that are equal at the left",
+        "01 00 00 00 | Q L | 12 21 20 | 00",
+        &[],
+        surplus(0, 256),
+    ),
+    (
+        "what is full but for its second leaf",
+        "01 00 01 00 | 30 00 | 00",
+        &["((((((((((*o)*)*)*)*)*)*)*)*)*)"],
+        shortfall(0, 1),
+    ),
+    (
+        "a constant is not full",
+        "01 00 00 00 | L | 30 20 | 00",
+        &[],
+        shortfall(0, 512),
+    ),
+    (
+        "held together but for the last leaf",
+        TOGETHER,
+        &["*", LAST_LEAF],
+        overlap(0, 1023),
+    ),
+    (
+        "held together but for a quarter, with nothing beside it",
+        TOGETHER,
+        &["((o*)o)", "((o*)o)"],
+        overlap(0, 256),
+    ),
+    (
+        "the same share held together with itself",
+        "01 00 01 00 | 32 00 00 | 00",
+        &["(o(o*))"],
+        overlap(0, 768),
+    ),
+    (
+        "two broken clauses: the higher fails further left",
+        TWO_WRITERS,
+        &["(*o)", "o"],
+        shortfall(0, 512),
+    ),
+    (
+        "two broken clauses: the lower holds",
+        TWO_WRITERS,
+        &["*", "(*(*o))"],
+        shortfall(1, 768),
+    ),
+    (
+        "a broken disequation before a positive clause",
+        "01 00 01 00 | 31 00 | 30 00 | 00",
+        &["o"],
+        broken(0),
+    ),
+    (
+        "a positive clause before a broken disequation",
+        "01 00 01 00 | 30 00 | 31 00 | 00",
+        &["o"],
+        shortfall(0, 0),
+    ),
+    (
+        "of an entailment: the disequation",
+        MIXED_LEFT,
+        &["*"],
+        broken(0),
+    ),
+    (
+        "of an entailment: a surplus",
+        MIXED_LEFT,
+        &["(*(*o))"],
+        surplus(1, 512),
+    ),
+    (
+        "of an entailment: a shortfall",
+        MIXED_LEFT,
+        &["((o*)o)"],
+        shortfall(1, 0),
+    ),
+    (
+        "of an entailment: an overlap",
+        "01 01 01 00 | L | 22 00 20 | 32 00 20 | 00",
+        &["((o*)*)"],
+        overlap(0, 256),
+    ),
+];
+
 pub fn all() -> impl Iterator<Item = &'static Handed> {
-    OF_SPEC.iter().chain(OF_WORDS)
+    OF_SPEC.iter().chain(OF_WORDS).chain(OF_WAYS)
 }
 
 /// Name, question, how many bytes of rows, all zero but for one bit, the number of that, if any, and the number that judging is to give.

@@ -1,8 +1,9 @@
 //! Families of judging in which one clause, one leaf, one bit or one length decides, so that how rows were made tells what is due.
 
 use crate::damage::damaged;
+use crate::failing::says;
 use crate::handed::Judgement::{self, Accepted, Broken, Extends};
-use crate::handed::{Judged, FOREIGN_BIT, WRONG_LENGTH};
+use crate::handed::{Failing, Judged, Way, FOREIGN_BIT, WRONG_LENGTH};
 use crate::handed_rows::{any, faulty, some};
 use crate::judge::{ANSWER_BYTES, ROW_BYTES};
 use crate::judger::Judger;
@@ -70,6 +71,16 @@ fn holds(clause: &Clause, leaves: impl Fn(Term) -> u32) -> bool {
     plain != clause.negated
 }
 
+/// Where a clause fails of which the leaves are given so, if it is positive: at the first of the 32 below one of these.
+fn failing(clause: &Clause, leaves: impl Fn(Term) -> u32) -> Option<Failing> {
+    let at = |place: usize| says(clause.relation, |term| leaves(term) >> place & 1 == 1);
+    let first = (0..32).find_map(|place| {
+        let (way, leaf) = (at(place)?, 32 * place);
+        Some(Failing { way, leaf })
+    });
+    first.filter(|_| !clause.negated)
+}
+
 /// Puts these values at random places, and tells the places.
 fn put(random: &mut Random, all: &mut [u32], values: &[u32]) -> Vec<usize> {
     let mut places: Vec<usize> = (0..all.len()).collect();
@@ -87,6 +98,8 @@ struct Pools {
     rows: Vec<u8>,
     held: [Vec<Clause>; 2],
     broken: [Vec<Clause>; 2],
+    shares: [u32; MOST_VARIABLES],
+    constants: [u32; MOST_CONSTANTS],
 }
 
 impl Pools {
@@ -116,6 +129,8 @@ impl Pools {
             held: [false, true].map(|negated| pool(true, negated)),
             broken: [false, true].map(|negated| pool(false, negated)),
             rows: rows_of_numbers(&shares),
+            shares,
+            constants,
             question: Question {
                 entailment,
                 free: shares.len(),
@@ -123,6 +138,14 @@ impl Pools {
                 ..Question::default()
             },
         }
+    }
+
+    /// Where a positive clause fails.
+    fn failing(&self, clause: &Clause) -> Option<Failing> {
+        failing(clause, |term| match term {
+            Term::Variable(v) => self.shares[v],
+            Term::Constant(c) => self.constants[c],
+        })
     }
 
     /// Whether a clause holds of the rows.
@@ -173,7 +196,7 @@ fn each_clause(report: &mut Report) {
             }
             let extends = second.is_some() && question.second.iter().all(|c| pools.has(c));
             let due = match (lowest < CLAUSES, extends) {
-                (true, _) => Broken(lowest),
+                (true, _) => Broken(lowest, pools.failing(&question.first[lowest])),
                 (false, true) => Extends,
                 (false, false) => Accepted,
             };
@@ -182,42 +205,110 @@ fn each_clause(report: &mut Report) {
         }
     }
     judger.seen_all(4);
+    judger.seen_ways(40);
 }
 
 /// A question of variable vv, which is one of 11; what fills its row; and what is due once one leaf of that is turned, and without that.
-type OneLeaf = (&'static str, u8, Judgement, Judgement);
+type OneLeaf = (&'static str, u8, Said, Said);
+
+/// What is said, by the leaf.
+type Said = fn(usize) -> Judgement;
+
+const ACCEPTED: Said = |_| Accepted;
+const EXTENDS: Said = |_| Extends;
+/// A disequation is broken.
+const BROKEN: Said = |_| Broken(0, None);
+/// A positive clause is, and fails at the leaf, one way or the other.
+const OVERLAP: Said = |leaf| fails(Way::Overlap, leaf);
+const SURPLUS: Said = |leaf| fails(Way::Surplus, leaf);
+const SHORTFALL: Said = |leaf| fails(Way::Shortfall, leaf);
+
+fn fails(way: Way, leaf: usize) -> Judgement {
+    Broken(0, Some(Failing { way, leaf }))
+}
 
 const ONE_LEAF: &[OneLeaf] = &[
-    ("01 00 0C 00 | E | 12 vv 20 | 00", 0x00, Broken(0), Accepted),
-    ("01 00 0C 00 | E | 13 vv 20 | 00", 0x00, Accepted, Broken(0)),
-    ("01 00 0C 00 | F | 12 20 vv | 00", 0xFF, Broken(0), Accepted),
-    ("01 00 0C 00 | F | 13 20 vv | 00", 0xFF, Accepted, Broken(0)),
-    ("01 00 0C 00 | 31 vv | 00", 0x00, Accepted, Broken(0)),
-    ("01 00 0C 00 | 30 vv | 00", 0xFF, Broken(0), Accepted),
-    ("01 00 0C 00 | 32 vv vv | 00", 0x00, Broken(0), Accepted),
-    ("01 00 0C 00 | 10 vv vv vv | 00", 0x00, Broken(0), Accepted),
-    ("01 00 0C 00 | 11 vv vv vv | 00", 0x00, Accepted, Broken(0)),
-    ("01 01 0C 00 | E | 22 vv 20 | 00", 0x00, Accepted, Extends),
-    ("01 01 0C 00 | E | 23 vv 20 | 00", 0x00, Extends, Accepted),
-    ("01 01 0C 00 | F | 22 vv 20 | 00", 0xFF, Accepted, Extends),
-    ("01 01 0C 00 | F | 23 vv 20 | 00", 0xFF, Extends, Accepted),
+    ("01 00 0C 00 | E | 12 vv 20 | 00", 0x00, SURPLUS, ACCEPTED),
+    ("01 00 0C 00 | E | 12 20 vv | 00", 0x00, SHORTFALL, ACCEPTED),
+    ("01 00 0C 00 | E | 13 vv 20 | 00", 0x00, ACCEPTED, BROKEN),
+    ("01 00 0C 00 | F | 12 20 vv | 00", 0xFF, SURPLUS, ACCEPTED),
+    ("01 00 0C 00 | F | 12 vv 20 | 00", 0xFF, SHORTFALL, ACCEPTED),
+    ("01 00 0C 00 | F | 13 20 vv | 00", 0xFF, ACCEPTED, BROKEN),
+    ("01 00 0C 00 | 31 vv | 00", 0x00, ACCEPTED, BROKEN),
+    ("01 00 0C 00 | 30 vv | 00", 0xFF, SHORTFALL, ACCEPTED),
+    ("01 00 0C 00 | 32 vv vv | 00", 0x00, OVERLAP, ACCEPTED),
+    ("01 00 0C 00 | F | 32 20 vv | 00", 0x00, OVERLAP, ACCEPTED),
+    ("01 00 0C 00 | 10 vv vv vv | 00", 0x00, OVERLAP, ACCEPTED),
+    (
+        "01 00 0C 00 | F E | 10 20 vv 20 | 00",
+        0x00,
+        OVERLAP,
+        ACCEPTED,
+    ),
+    (
+        "01 00 0C 00 | F E | 10 vv 20 20 | 00",
+        0x00,
+        OVERLAP,
+        ACCEPTED,
+    ),
+    (
+        "01 00 0C 00 | F E | 10 vv vv 21 | 00",
+        0x00,
+        OVERLAP,
+        ACCEPTED,
+    ),
+    (
+        "01 00 0C 00 | F E | 10 vv 21 21 | 00",
+        0x00,
+        SURPLUS,
+        ACCEPTED,
+    ),
+    (
+        "01 00 0C 00 | F E | 10 21 vv 21 | 00",
+        0x00,
+        SURPLUS,
+        ACCEPTED,
+    ),
+    (
+        "01 00 0C 00 | F E | 10 20 21 vv | 00",
+        0xFF,
+        SURPLUS,
+        ACCEPTED,
+    ),
+    (
+        "01 00 0C 00 | F E | 10 21 vv 20 | 00",
+        0xFF,
+        SHORTFALL,
+        ACCEPTED,
+    ),
+    (
+        "01 00 0C 00 | F E | 10 21 21 vv | 00",
+        0x00,
+        SHORTFALL,
+        ACCEPTED,
+    ),
+    ("01 00 0C 00 | 11 vv vv vv | 00", 0x00, ACCEPTED, BROKEN),
+    ("01 01 0C 00 | E | 22 vv 20 | 00", 0x00, ACCEPTED, EXTENDS),
+    ("01 01 0C 00 | E | 23 vv 20 | 00", 0x00, EXTENDS, ACCEPTED),
+    ("01 01 0C 00 | F | 22 vv 20 | 00", 0xFF, ACCEPTED, EXTENDS),
+    ("01 01 0C 00 | F | 23 vv 20 | 00", 0xFF, EXTENDS, ACCEPTED),
     (
         "01 01 0B 01 | 3A vv 0B | 39 0B | 00",
         0xFF,
-        Extends,
-        Accepted,
+        EXTENDS,
+        ACCEPTED,
     ),
     (
         "01 01 0B 01 | 3A vv 0B | 38 0B | 00",
         0x00,
-        Accepted,
-        Extends,
+        ACCEPTED,
+        EXTENDS,
     ),
     (
         "01 01 0B 01 | F | 20 vv 0B 20 | 39 0B | 23 0B 20 | 00",
         0xFF,
-        Extends,
-        Accepted,
+        EXTENDS,
+        ACCEPTED,
     ),
 ];
 
@@ -246,15 +337,16 @@ fn one_leaf(judger: &mut Judger, one: &OneLeaf, variable: usize, leaf: usize) {
     let mut rows = any(&mut judger.random, &question, 0);
     let row = variable * ROW_BYTES..(variable + 1) * ROW_BYTES;
     rows[row].fill(*filling);
-    judger.known_by_leaf(&bytes, &rows, Ok(*unturned));
+    judger.known_by_leaf(&bytes, &rows, Ok(unturned(leaf)));
     rows[variable * ROW_BYTES + leaf / 8] ^= 1 << (leaf % 8);
     match leaf % 8 {
-        0 => judger.known(&bytes, &rows, Ok(*turned)),
-        _ => judger.known_by_leaf(&bytes, &rows, Ok(*turned)),
+        0 => judger.known(&bytes, &rows, Ok(turned(leaf))),
+        _ => judger.known_by_leaf(&bytes, &rows, Ok(turned(leaf))),
     }
 }
 
-/// Each leaf of a constant, full or empty alone, beside a row that is the constant, or differs from it at an end of the leaf's 32.
+/// Each leaf of a constant, full or empty alone, beside a row that is the constant, or differs from it at an end of the leaf's 32: it is full there where the constant is empty,
+/// or empty where that is full.
 fn each_constant_leaf(report: &mut Report) {
     let mut judger = Judger::new(report);
     for leaf in 0..32_usize {
@@ -266,19 +358,20 @@ fn each_constant_leaf(report: &mut Report) {
                     c.join(" ")
                 ))
             };
-            let same = [
-                (with("00", "12 00 20"), Accepted, Broken(0)),
-                (with("00", "13 00 20"), Broken(0), Accepted),
-                (with("01", "22 00 20"), Extends, Accepted),
-                (with("01", "23 00 20"), Accepted, Extends),
+            let same: [(Vec<u8>, Said, [Said; 2]); 4] = [
+                (with("00", "12 00 20"), ACCEPTED, [SURPLUS, SHORTFALL]),
+                (with("00", "13 00 20"), BROKEN, [ACCEPTED; 2]),
+                (with("01", "22 00 20"), EXTENDS, [ACCEPTED; 2]),
+                (with("01", "23 00 20"), ACCEPTED, [EXTENDS; 2]),
             ];
             let rows = rows_of_numbers(&[share]);
             for (bytes, due, due_turned) in same {
-                judger.known(&bytes, &rows, Ok(due));
+                judger.known(&bytes, &rows, Ok(due(leaf)));
                 for turned in [32 * leaf, 32 * leaf + 31, (32 * leaf + 1023) % 1024] {
                     let mut rows = rows.clone();
                     rows[turned / 8] ^= 1 << (turned % 8);
-                    judger.known(&bytes, &rows, Ok(due_turned));
+                    let due = due_turned[(share >> (turned / 32) & 1) as usize];
+                    judger.known(&bytes, &rows, Ok(due(turned)));
                 }
             }
         }

@@ -1,7 +1,7 @@
 //! Families of judging: rows that someone hands over, of questions of every sort. What is due comes from the leaves; where own trees can be tried, whole
 //! trees must say the same.
 
-use crate::handed::{judged, packed, Judgement};
+use crate::handed::{judged, packed, Failing, Judgement, Way};
 use crate::handed_by_hand::{self, rows};
 use crate::handed_rows::{any, changed, faulty, mixture, own_parts, some};
 use crate::judge::{ANSWER_BYTES, ROW_BYTES};
@@ -29,7 +29,13 @@ pub const FAMILIES: &[Family] = &[
 fn judgement(number: u64) -> Judgement {
     match number.to_le_bytes() {
         [1, 0, 0, 0, 0, 0, 0, 0] => Judgement::Accepted,
-        [2, 0, 0, 0, clause, 0, 0, 0] => Judgement::Broken(usize::from(clause)),
+        [2, 0, 0, 0, clause, way, low, high] => {
+            let leaf = usize::from(u16::from_le_bytes([low, high]));
+            let ways = [Way::Overlap, Way::Surplus, Way::Shortfall];
+            let way = ways.into_iter().find(|one| *one as u8 == way);
+            let failing = way.map(|way| Failing { way, leaf });
+            Judgement::Broken(usize::from(clause), failing)
+        }
         [3, 0, 0, 0, 0, 0, 0, 0] => Judgement::Extends,
         _ => panic!("{number:X} tells no judgement"),
     }
@@ -40,7 +46,9 @@ fn worked_rows(report: &mut Report) {
     for (name, question, texts, number) in handed_by_hand::all() {
         let question = worked::bytes(question);
         let rows = rows(texts);
-        judger.known(&question, &rows, Ok(judgement(*number)));
+        let due = Ok(judgement(*number));
+        judger.report.same_apart(name, packed(due), *number);
+        judger.known(&question, &rows, due);
         let free = read(&question).map(|question| question.free);
         judger.report.same_apart(name, free, Ok(texts.len()));
     }
@@ -96,6 +104,7 @@ fn low_rows(report: &mut Report) {
         }
     }
     judger.seen_all(200);
+    judger.seen_ways(200);
     judger.seen_by_trees(500);
 }
 
@@ -155,6 +164,7 @@ fn changed_rows(report: &mut Report) {
         }
     }
     judger.seen_all(300);
+    judger.seen_ways(300);
     judger.seen_by_trees(10);
     judger.seen_refusals(&[18, 19], 50);
 }

@@ -9,6 +9,7 @@ use crate::question::{hex, read, write, Question};
 use crate::random::Random;
 use crate::report::Report;
 use crate::seen::enough;
+use crate::ways;
 use crate::whole::Trees;
 
 /// What was given in the family so far.
@@ -18,6 +19,8 @@ pub struct Given {
     pub accepted: [usize; 2],
     pub broken: [usize; 2],
     pub extends: usize,
+    /// How often a disequation was broken, and a positive clause each way.
+    pub ways: [usize; 4],
     /// How often each refusal number was given.
     pub refusals: [usize; 20],
     /// How often it was compared with whole trees: accepted, broken, extends.
@@ -81,9 +84,10 @@ impl Judger<'_> {
         self.told(bytes, rows, due);
     }
 
-    /// One case of judging that is to give this.
+    /// One case of judging that is to give this. That the bytes of the question say so of its clauses is checked apart.
     pub fn told(&mut self, bytes: &[u8], rows: &[u8], due: Judged) {
         self.note(bytes, due);
+        compare_bytes(self.report, bytes, rows, due);
         self.gives(bytes, rows, packed(due));
     }
 
@@ -106,7 +110,10 @@ impl Judger<'_> {
         match due {
             Err(refusal) => self.given.refusals[usize::from(refusal.number)] += 1,
             Ok(Judgement::Accepted) => self.given.accepted[kind] += 1,
-            Ok(Judgement::Broken(_)) => self.given.broken[kind] += 1,
+            Ok(Judgement::Broken(_, failing)) => {
+                self.given.broken[kind] += 1;
+                self.given.ways[failing.map_or(0, |at| at.way as usize)] += 1;
+            }
             Ok(Judgement::Extends) => self.given.extends += 1,
         }
     }
@@ -120,7 +127,7 @@ impl Judger<'_> {
         };
         let sort = match by_trees {
             Judgement::Accepted => 0,
-            Judgement::Broken(_) => 1,
+            Judgement::Broken(..) => 1,
             Judgement::Extends => 2,
         };
         self.given.by_trees[sort] += 1;
@@ -166,6 +173,18 @@ impl Judger<'_> {
         enough(self.report, "judgements by whole trees", &counts, least);
     }
 
+    /// A disequation was broken so often, and a positive clause each way.
+    pub fn seen_ways(&mut self, least: usize) {
+        let counts = self.given.ways;
+        enough(self.report, "ways", &counts, least);
+    }
+
+    /// The same of positive clauses alone.
+    pub fn seen_ways_of_positive(&mut self, least: usize) {
+        let counts = self.given.ways;
+        enough(self.report, "ways", &counts[1..], least);
+    }
+
     pub fn seen_refusals(&mut self, numbers: &[usize], least: usize) {
         let counts: Vec<usize> = numbers.iter().map(|n| self.given.refusals[*n]).collect();
         enough(self.report, "refusals", &counts, least);
@@ -185,6 +204,16 @@ pub fn fault(question: &Lent, rows: &Lent, length: usize, due: u64) -> Option<St
         return Some("a lent byte, or one beside them, was changed".to_string());
     }
     None
+}
+
+/// Checks apart that the bytes of a question that is not refused say of its clauses what is due.
+pub fn compare_bytes(report: &mut Report, bytes: &[u8], rows: &[u8], due: Judged) {
+    if due.is_ok() {
+        report.apart(match ways::against(bytes, rows, due) {
+            None => Ok(()),
+            Some(fault) => Err(told(bytes, rows, &fault)),
+        });
+    }
 }
 
 /// A fault, with the question and the rows but for the bytes 0 at their end.

@@ -29,6 +29,7 @@ pub mod documents;
 pub mod draft;
 pub mod due;
 pub mod every_byte;
+pub mod failing;
 pub mod fixed;
 pub mod halves;
 pub mod handed;
@@ -69,12 +70,14 @@ pub mod terms;
 pub mod tree;
 pub mod tree_text;
 pub mod typed;
+pub mod ways;
 pub mod whole;
 pub mod worked;
 pub mod wrong_heights;
 pub mod wrong_joins;
 pub mod wrong_judges;
 pub mod wrong_readers;
+pub mod wrong_ways;
 
 use report::Family;
 
@@ -101,7 +104,9 @@ pub const WITH_THE_LIBRARY: &[&[Family]] = &[
     loose::FAMILIES,
     handing::FAMILIES,
     handed_places::FAMILIES,
+    failing::FAMILIES,
     wrong_judges::FAMILIES,
+    wrong_ways::FAMILIES,
 ];
 
 /// The families that have no part of the library in them.

@@ -75,7 +75,7 @@ impl Relation {
     }
 
     /// How the format says this, or its negation, if it does.
-    fn sort(self, negated: bool) -> Option<&'static ClauseSort> {
+    pub fn sort(self, negated: bool) -> Option<&'static ClauseSort> {
         let sort = discriminant(&self);
         SORTS
             .iter()

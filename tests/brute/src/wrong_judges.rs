@@ -35,7 +35,7 @@ const SLIPS: [(&str, Words); 38] = [
         "rejects everything: clause 0",
         Words {
             holds: |_, _| false,
-            said: |_, _| Broken(0),
+            said: |_, _| Broken(0, None),
             ..AS_WRITTEN
         },
     ),

@@ -4,17 +4,20 @@ use crate::calls;
 use crate::memory::Memory;
 use brute::handed::{judged, packed};
 use brute::question::hex;
+use brute::ways;
 
 /// The lent bytes of memory that is looked at whole.
 fn lent(memory: &dyn Memory) -> Vec<u8> {
     memory.all()[memory.start()..memory.start() + memory.length()].to_vec()
 }
 
-/// One call of judging with memory that is looked at whole.
+/// One call of judging with memory that is looked at whole. What is due comes from the leaves; the bytes of the question must say the same of its clauses.
 pub fn judge(question: &mut dyn Memory, rows: &mut dyn Memory) -> Result<(), String> {
     let (bytes, handed) = (lent(question), lent(rows));
-    let due = packed(judged(&bytes, &handed));
-    judge_gives(question, rows, due)
+    let due = judged(&bytes, &handed);
+    ways::against(&bytes, &handed, due)
+        .map_or(Ok(()), Err)
+        .and_then(|()| judge_gives(question, rows, packed(due)))
         .map_err(|fault| format!("{fault}; question {}, rows {}", hex(&bytes), hex(&handed)))
 }
 

@@ -29,8 +29,8 @@ pub const FAMILIES: &[Family] = &[
     ("judging mutated questions and rows", mutation),
 ];
 
-/// What judging says, the refusal number and the clause number.
-type Sort = (u8, u8, u8);
+/// What judging says, the refusal number, the clause number and the way.
+type Sort = (u8, u8, u8, u8);
 
 /// How far past 1,536 the lengths go.
 const PAST: usize = 70;
@@ -192,8 +192,8 @@ fn mutation(report: &mut Report) {
             &mut Heap::holding(random, 0, &handed),
         );
         report.case(given);
-        let [said, refusal, _, _, clause, ..] = packed(judged(&bytes, &handed)).to_le_bytes();
-        let count = seen.entry((said, refusal, clause)).or_default();
+        let [said, refusal, _, _, clause, way, ..] = packed(judged(&bytes, &handed)).to_le_bytes();
+        let count = seen.entry((said, refusal, clause, way)).or_default();
         *count += 1;
         if *count == 1 {
             corpus.push(bytes);
@@ -203,7 +203,7 @@ fn mutation(report: &mut Report) {
     sorts_seen(report, &seen);
 }
 
-/// Each refusal was there, and each judgement often.
+/// Each refusal was there, and each judgement and each way often.
 fn sorts_seen(report: &mut Report, seen: &HashMap<Sort, usize>) {
     let count = |said: u8, number: u8| -> usize {
         let sorts = seen.iter().filter(|(s, _)| (s.0, s.1) == (said, number));
@@ -214,6 +214,12 @@ fn sorts_seen(report: &mut Report, seen: &HashMap<Sort, usize>) {
     let judgements = [1, 2, 3].map(|said| count(said, 0));
     println!("accepted, broken and extending: {judgements:?}");
     enough(report, "judgements", &judgements, 1_000);
+    let ways = [0, 1, 2, 3].map(|way| -> usize {
+        let sorts = seen.iter().filter(|(s, _)| (s.0, s.3) == (2, way));
+        sorts.map(|(_, count)| count).sum()
+    });
+    println!("broken disequations, overlaps, surpluses and shortfalls: {ways:?}");
+    enough(report, "ways", &ways, 1_000);
 }
 
 /// Some bits are turned; mostly the rows become 1,536 bytes, and those of no free variable zero.

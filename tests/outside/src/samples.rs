@@ -105,7 +105,7 @@ pub fn handed(random: &mut Random, count: usize) -> Vec<Handed> {
     handed
 }
 
-/// One for each thing that judging says: accepted of each kind, broken of each kind, extended, a fault of the question, and a bit where none may be.
+/// One for each thing that judging says: accepted of each kind, broken of each kind, as a disequation and each way, extended, a fault of the question, and a bit where none may be.
 pub fn few_handed() -> Vec<Handed> {
     let all = handed(&mut Random::new(0), 0);
     let foreign = all.iter().map(|(bytes, rows)| {
@@ -115,16 +115,16 @@ pub fn few_handed() -> Vec<Handed> {
     let mut sorts = Vec::new();
     let mut found = Vec::new();
     for (bytes, rows) in all.iter().cloned().chain(foreign) {
-        let [said, refusal, ..] = packed(judged(&bytes, &rows)).to_le_bytes();
+        let [said, refusal, _, _, _, way, ..] = packed(judged(&bytes, &rows)).to_le_bytes();
         let sort = match said {
             0 => (0, 0, refusal.max(10)),
-            _ => (said, bytes[1], 0),
+            _ => (said, bytes[1], way),
         };
         if !sorts.contains(&sort) {
             sorts.push(sort);
             found.push((bytes, rows));
         }
     }
-    assert_eq!(found.len(), 7, "one of each was worked by hand");
+    assert_eq!(found.len(), 13, "one of each was worked by hand");
     found
 }

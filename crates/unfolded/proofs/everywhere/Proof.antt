@@ -1,13 +1,14 @@
--- `unfolded::everywhere` meets its contract. The loop's invariant: the test passes at the leaves of the first w words. Assumes nothing.
-use mathlib.Core.Path.{_≡_, refl, sym}
+-- `unfolded::everywhere` meets its contract. The loop's invariant: the test holds at the leaves of the first w words. Assumes nothing.
+use mathlib.Core.Path.{_≡_, refl, sym, _∙_}
 use mathlib.Core.Bool.{true}
 use Prim.Native.Nat.{_-_, _*_, _≤_}
 use native.Mathlib.Omega.{arith}
 use borrow.Author.Needs.{needs}
 use Rattle.shares.specs.Below.{everyBelow}
+use Rattle.shares.specs.BelowLaws.{every-first}
 use Rattle.shares.specs.Constant.{constantLevels}
 use Rattle.unfolded.specs.Unfolded.{rowWords, joinAt}
-use Rattle.unfolded.specs.UnfoldedLaws.{every-word, every-fails}
+use Rattle.unfolded.specs.UnfoldedLaws.{every-word, first-not-last}
 use Rattle.unfolded.proofs.everywhere.Statement.{statement}
 use Rattle.unfolded.proofs.everywhere.Tie as tie
 
@@ -27,7 +28,8 @@ join-word-requires c κs = search needs
 returns : tie.Need-returns Inv-loop μ-loop
 returns c =
     let x = c .before .join-word in
-    sym (every-fails _ (c .before .before .before .loop .w) (x .result) (x .ensures) (x .ok) 16 (omega arith) (c .if1 .taken))
+    let l = c .before .before .before .loop in
+    sym (first-not-last _ (l .w) (x .result) (x .ensures) (l .inv .1) (x .ok) (c .if1 .taken) 16 (omega arith))
 
 add-w : tie.Need-add-w Inv-loop μ-loop
 add-w c = omega arith
@@ -42,7 +44,7 @@ loop-again c =
     (omega arith, every-word _ (l .w) (x .result) (x .ensures) (l .inv .1) (c .if1 .left))
 
 returns-2 : tie.Need-returns-2 Inv-loop μ-loop
-returns-2 c = let e : c .before .loop .w ≡ 16 = omega arith in sym (rw e at (c .before .loop .inv .1))
+returns-2 c = let e : c .before .loop .w ≡ 16 = omega arith in sym (sym (every-first 1024 _) ∙ rw e at (c .before .loop .inv .1))
 
 pub everywhere-spec : {M : Type 1} → statement M
 everywhere-spec =

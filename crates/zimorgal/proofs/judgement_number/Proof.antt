@@ -28,11 +28,8 @@ enum-told c = search needs
 enum-known-judgement-2 : tie.Need-enum-known-judgement-2
 enum-known-judgement-2 c = search needs
 
-mul-result-3 : tie.Need-mul-result-3
-mul-result-3 c = let S = rw (c .before .judgement2 .given .1) at (c .before .before .before .pre) in omega (arith, S)
-
-add-result-2 : tie.Need-add-result-2
-add-result-2 c = let S = rw (c .before .judgement2 .given .1) at (c .before .before .before .pre) in omega (arith, S)
+broken-number-requires : tie.Need-broken-number-requires
+broken-number-requires c κs = rw (c .before .judgement2 .given .1) at (c .before .before .before .pre)
 
 enum-told-2 : tie.Need-enum-told-2
 enum-told-2 c = search needs
@@ -44,7 +41,7 @@ returns-2 : tie.Need-returns-2
 returns-2 c = rw (c .enum-told .given .1) refl
 
 returns-3 : tie.Need-returns-3
-returns-3 c = rw (c .before .judgement2 .given .1) (omega arith)
+returns-3 c = rw (c .before .before .judgement2 .given .1) (c .broken-number .ensures)
 
 returns-4 : tie.Need-returns-4
 returns-4 c = rw (c .enum-told2 .given .1) refl
@@ -60,8 +57,7 @@ judgement-number-spec =
     add-result
     enum-told
     enum-known-judgement-2
-    mul-result-3
-    add-result-2
+    broken-number-requires
     enum-told-2
     returns
     returns-2

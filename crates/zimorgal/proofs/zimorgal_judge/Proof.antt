@@ -1,7 +1,8 @@
 -- `zimorgal::zimorgal_judge` gives what judging gives as one number, and every part of it fits its bytes. Assumes nothing.
 use mathlib.Core.Path.{sym, subst}
 use borrow.Author.Needs.{needs}
-use Rattle.zimorgal.specs.JudgementLaws.{Small, judgement-small, judges-numbered}
+use Rattle.zimorgal.specs.Calls.{Small}
+use Rattle.zimorgal.specs.JudgementLaws.{judgement-small, judges-numbered}
 use Rattle.zimorgal.proofs.zimorgal_judge.Statement.{statement}
 use Rattle.zimorgal.proofs.zimorgal_judge.Tie as tie
 

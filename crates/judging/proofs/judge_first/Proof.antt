@@ -1,4 +1,4 @@
--- `judging::lowest_broken` meets its contract. The loop's invariant: the clauses of the first system that were met so far hold. Assumes nothing.
+-- `judging::judge_first` meets its contract. The loop's invariant: the clauses of the first system that were met so far hold. Assumes nothing.
 use mathlib.Core.Path.{_≡_, sym, _∙_}
 use Prim.Native.Nat.{_+_, _-_}
 use native.Mathlib.Omega.{arith}
@@ -7,9 +7,9 @@ use lib.ListN.{length}
 use Rattle.format.specs.Format.{commandOf, readAt}
 use Rattle.format.specs.declared.Step.the-variants.{Take}
 use Rattle.judging.specs.Walk.{Gone}
-use Rattle.judging.specs.WalkLaws.{read-past, read-unknown, read-short, read-take, moves, gone-start, gone-led, lowest-refused, lowest-end, gone-other, gone-fits, lowest-broken, gone-first, first-few}
-use Rattle.judging.proofs.lowest_broken.Statement.{statement}
-use Rattle.judging.proofs.lowest_broken.Tie as tie
+use Rattle.judging.specs.WalkLaws.{read-past, read-unknown, read-short, read-take, moves, gone-start, gone-led, first-refused, first-end, gone-other, gone-fits, first-broken, gone-first, first-few}
+use Rattle.judging.proofs.judge_first.Statement.{statement}
+use Rattle.judging.proofs.judge_first.Tie as tie
 
 abbrev Inv-loop : tie.InvT-loop
 Inv-loop bytes from leaves count₀ at₀ count at = Gone bytes leaves at count
@@ -46,7 +46,7 @@ enum-told c = search needs
 returns : tie.Need-returns Inv-loop μ-loop
 returns c =
     let test = c .before .before .before .before in
-    lowest-refused _ _ (test .before .loop .inv) 3 (read-unknown _ _ (test .loop-test .taken) (sym (c .before .before .entry-of .ensures) ∙ c .enum-told .given .1))
+    first-refused _ _ (test .before .loop .inv) 3 (read-unknown _ _ (test .loop-test .taken) (sym (c .before .before .entry-of .ensures) ∙ c .enum-told .given .1))
 
 operand-count-requires : tie.Need-operand-count-requires Inv-loop μ-loop
 operand-count-requires c κs = search needs
@@ -61,7 +61,7 @@ returns-2 : tie.Need-returns-2 Inv-loop μ-loop
 returns-2 c =
     let announced = c .before .before .before .before .before in
     let test = announced .before .before in
-    lowest-refused _ _ (test .before .loop .inv) 2
+    first-refused _ _ (test .before .loop .inv) 2
     (read-short _ _ (test .loop-test .taken) _ (sym (announced .entry-of .ensures) ∙ c .before .before .before .entry .given .1) (rw (c .before .operand-count .ensures) at (c .if1 .taken)))
 
 is-end-requires : tie.Need-is-end-requires Inv-loop μ-loop
@@ -70,7 +70,7 @@ is-end-requires c κs = search needs
 returns-3 : tie.Need-returns-3 Inv-loop μ-loop
 returns-3 c =
     let whole = c .before .before in
-    lowest-end _ _ (whole .before .before .before .before .before .before .before .before .loop .inv) (took whole) (sym (c .before .is-end .ensures _ _) ∙ c .if2 .taken)
+    first-end _ _ (whole .before .before .before .before .before .before .before .before .loop .inv) (took whole) (sym (c .before .is-end .ensures _ _) ∙ c .if2 .taken)
 
 add-next : tie.Need-add-next Inv-loop μ-loop
 add-next c =
@@ -90,12 +90,24 @@ is-broken-requires c κs =
     (sym (c .before .before .before .is-end .ensures _ _) ∙ c .before .before .if2 .left) (sym (c .before .is-first .ensures _ _) ∙ c .if3 .taken) (start .pre .0 .0) (start .pre .0 .1) in
     (omega (arith, moves _ _ (took whole) .1, whole .before .operand-count .ensures), F .0)
 
-returns-4 : tie.Need-returns-4 Inv-loop μ-loop
-returns-4 c =
+broken-at-requires : tie.Need-broken-at-requires Inv-loop μ-loop
+broken-at-requires c κs =
     let first = c .before .before in
     let whole = first .before .before .before .before in
-    lowest-broken _ _ (whole .before .before .before .before .before .before .before .before .loop .inv) (took whole)
-    (sym (first .before .before .before .is-end .ensures _ _) ∙ first .before .before .if2 .left) (sym (first .before .is-first .ensures _ _) ∙ first .if3 .taken) (sym (c .before .is-broken .ensures) ∙ c .if4 .taken)
+    let start = whole .before .before .before .before .before .before .before .before .before .before in
+    let F =
+    gone-fits _ _ (whole .before .before .before .before .before .before .before .before .loop .inv) (took whole)
+    (sym (first .before .before .before .is-end .ensures _ _) ∙ first .before .before .if2 .left) (sym (first .before .is-first .ensures _ _) ∙ first .if3 .taken) (start .pre .0 .0) (start .pre .0 .1) in
+    ((omega (arith, moves _ _ (took whole) .1, whole .before .operand-count .ensures), F .0), sym (c .before .is-broken .ensures) ∙ c .if4 .taken)
+
+returns-4 : tie.Need-returns-4 Inv-loop μ-loop
+returns-4 k q rows constants named e laid =
+    let c = k .before in
+    let first = c .before .before in
+    let whole = first .before .before .before .before in
+    k .broken-at .ensures
+    ∙ first-broken _ _ (whole .before .before .before .before .before .before .before .before .loop .inv) (took whole)
+    (sym (first .before .before .before .is-end .ensures _ _) ∙ first .before .before .if2 .left) (sym (first .before .is-first .ensures _ _) ∙ first .if3 .taken) (sym (c .before .is-broken .ensures) ∙ c .if4 .taken) q rows constants named e laid
 
 add-count : tie.Need-add-count Inv-loop μ-loop
 add-count c =
@@ -127,10 +139,10 @@ loop-again-2 c =
     (sym (c .before .before .before .is-end .ensures _ _) ∙ c .before .before .if2 .left) (sym (c .before .is-first .ensures _ _) ∙ c .if3 .left)
 
 returns-5 : tie.Need-returns-5 Inv-loop μ-loop
-returns-5 c = lowest-refused _ _ (c .before .loop .inv) 2 (read-past _ _ (c .loop-test .left))
+returns-5 c = first-refused _ _ (c .before .loop .inv) 2 (read-past _ _ (c .loop-test .left))
 
-pub lowest-broken-spec : {M : Type 1} → statement M
-lowest-broken-spec =
+pub judge-first-spec : {M : Type 1} → statement M
+judge-first-spec =
     tie.close
     (tie.spec
     Inv-loop
@@ -150,6 +162,7 @@ lowest-broken-spec =
     add-next
     is-first-requires
     is-broken-requires
+    broken-at-requires
     returns-4
     add-count
     loop-less
