@@ -22,7 +22,7 @@ use Rattle.asking.specs.AskingLaws.{asked-answered}
 use Rattle.asking.specs.Given.{Given}
 use Rattle.asking.specs.AskedRight.{given}
 
-module _ (q : Question) (x : Stored) (f : Finding) (firsts : List ℕ) (D : Decided x q f firsts) where
+module _ (q : Question) (x : Stored) (f : Finding) (firsts leaves : List ℕ) (D : Decided x q f firsts leaves) where
   -- the answer that was found is the question's, and so is the height given with it
   pub outcome-same : answerOutcome (answerOf f) (heightGiven (questionHeight q) q (answerOf f)) ≡ outcomeOf (answered q)
   outcome-same = ap (λ a. answerOutcome a (heightGiven (questionHeight q) q a)) (D .answer)
@@ -42,15 +42,15 @@ module _ (q : Question) (x : Stored) (f : Finding) (firsts : List ℕ) (D : Deci
 
 -- asking, once a question was read that both buffers are long enough for, and decided
 pub given-answer : (s answer work : List ℕ) (x : Reading) (clauses : List ℕ) (T : Taken s x clauses) → answerBytes (T .question .constants .levels) ≤ length answer → workBytes ≤ length work
-    → (sizes : Sizes) (f : Finding) (firsts : List ℕ) → DecidedFor sizes f firsts (T .question)
+    → (sizes : Sizes) (f : Finding) (firsts leaves : List ℕ) → DecidedFor sizes f firsts leaves (T .question)
     → (r : Outcome)
     → ((q : Question) → SizedFor sizes q → r ≡ answerOutcome (answerOf f) (heightGiven (questionHeight q) q (answerOf f)))
-    → (answer′ : List ℕ) → ((q : Question) → DecidedFor sizes f firsts q → answer′ ≡ answerAfter (answered q) answer)
+    → (answer′ : List ℕ) → ((q : Question) → DecidedFor sizes f firsts leaves q → answer′ ≡ answerAfter (answered q) answer)
     → (work′ : List ℕ) → work′ ≡ zeros workBytes ++ drop workBytes work → Given s answer work r answer′ work′
 unfolding workAfter
-given-answer s answer work x clauses T la lw sizes f firsts D r er answer′ ea work′ ew =
+given-answer s answer work x clauses T la lw sizes f firsts leaves D r er answer′ ea work′ ew =
     let q = T .question in
     given s answer work (answered q) (asked-answered s (length answer) (length work) q (T .read) la lw) r answer′ work′
-    (er q (D .sizing) ∙ outcome-same q _ f firsts (D .decided))
+    (er q (D .sizing) ∙ outcome-same q _ f firsts leaves (D .decided))
     (ea q D)
     ew

@@ -81,13 +81,19 @@ fn found(sizes: Sizes, finding: Finding) -> Outcome
 }
 
 // Shows the solution of what was found, where there is one to show.
-fn show_solution(answer: &mut [u8], sizes: Sizes, finding: Finding, firsts: &[u64; 128])
+fn show_solution(
+    answer: &mut [u8],
+    sizes: Sizes,
+    finding: Finding,
+    firsts: &[u64; 128],
+    leaves: &[u64; 128],
+)
     requires { ⌜ answerBytes constantLevels ≤ length (now answer) ⌝ }
-    requires { ⌜ ((q : model.Question) × DecidedFor sizes finding (now firsts) q) ⌝ }
-    ensures { λ _. ⌜ ((q : model.Question) → DecidedFor sizes finding (now (firsts .entry)) q → now (answer .exit) ≡ answerAfter (answered q) (now (answer .entry))) ⌝ }
+    requires { ⌜ ((q : model.Question) × DecidedFor sizes finding (now firsts) (now leaves) q) ⌝ }
+    ensures { λ _. ⌜ ((q : model.Question) → DecidedFor sizes finding (now (firsts .entry)) (now (leaves .entry)) q → now (answer .exit) ≡ answerAfter (answered q) (now (answer .entry))) ⌝ }
 {
     if decide::is_shown(finding) {
-        let plan = decide::plan(sizes, finding, firsts);
+        let plan = decide::plan(sizes, finding, firsts, leaves);
         show::write_rows(answer, sizes.free, plan);
     }
 }
@@ -120,14 +126,16 @@ pub fn ask(question: &[u8], answer: &mut [u8], work: &mut [u8]) -> Outcome
     }
     let sizes = decide::sizes_of(reading.question, &reading.question.constants);
     let mut firsts = [0u64; 128];
+    let mut leaves = [0u64; 128];
     let finding = decide::decide(
         reading.question,
         sizes,
         &clauses,
         &reading.question.constants,
         &mut firsts,
+        &mut leaves,
     );
-    show_solution(answer, sizes, finding, &firsts);
+    show_solution(answer, sizes, finding, &firsts, &leaves);
     clear_work(work);
     found(sizes, finding)
 }

@@ -73,35 +73,35 @@ module _ {k : ℕ} (x : Stored) (q : Question) (St : Stands k x q) where
 
   -- ---- a finding with which a solution is shown, and one with which none is
 
-  with-pairs : (f : Finding) (firsts : List ℕ) → decide q ≡ answerOf f → SolvedAs x H (searchOf f) true firsts → Decided x q f firsts
-  with-pairs f firsts d D = record { answer = sym d; solved = λ _. D }
+  with-pairs : (f : Finding) (firsts leaves : List ℕ) → decide q ≡ answerOf f → SolvedAs x H (searchOf f) true firsts leaves → Decided x q f firsts leaves
+  with-pairs f firsts leaves d D = record { answer = sym d; solved = λ _. D }
 
-  without-pairs : (f : Finding) (firsts : List ℕ) → shows (answerOf f) ≡ false → decide q ≡ answerOf f → Decided x q f firsts
-  without-pairs f firsts s d = record { answer = sym d; solved = λ t. absurd (rw (d, s) at t) }
+  without-pairs : (f : Finding) (firsts leaves : List ℕ) → shows (answerOf f) ≡ false → decide q ≡ answerOf f → Decided x q f firsts leaves
+  without-pairs f firsts leaves s d = record { answer = sym d; solved = λ t. absurd (rw (d, s) at t) }
 
   -- ---- of satisfiability
 
-  module _ (found : Bool) (firsts : List ℕ) (D : SolvedAs x H First found firsts) (kind : q .kind ≡ satisfiability) where
-    pub decided-satisfied : found ≡ true → Decided x q Satisfied firsts
+  module _ (found : Bool) (firsts leaves : List ℕ) (D : SolvedAs x H First found firsts leaves) (kind : q .kind ≡ satisfiability) where
+    pub decided-satisfied : found ≡ true → Decided x q Satisfied firsts leaves
     unfolding decideKind
     decided-satisfied e =
         let d : decide q ≡ satisfied = rw (kind, sym (D .found-is ∙ first-is) ∙ e) in
-        with-pairs Satisfied firsts d (rw e at D)
+        with-pairs Satisfied firsts leaves d (rw e at D)
 
-    pub decided-unsatisfied : found ≡ false → Decided x q Unsatisfied firsts
+    pub decided-unsatisfied : found ≡ false → Decided x q Unsatisfied firsts leaves
     unfolding decideKind
     decided-unsatisfied e =
         let d : decide q ≡ unsatisfied = rw (kind, sym (D .found-is ∙ first-is) ∙ e) in
-        without-pairs Unsatisfied firsts refl d
+        without-pairs Unsatisfied firsts leaves refl d
 
   -- ---- of an entailment
 
-  module _ (r : Survey) (firsts : List ℕ) (E : SurveyedAs x H r firsts) (kind : q .kind ≡ entailment) where
-    pub decided-vacuous : r .solvable ≡ false → Decided x q Vacuous firsts
+  module _ (r : Survey) (firsts leaves : List ℕ) (E : SurveyedAs x H r firsts leaves) (kind : q .kind ≡ entailment) where
+    pub decided-vacuous : r .solvable ≡ false → Decided x q Vacuous firsts leaves
     unfolding decideKind
     decided-vacuous e =
         let d : decide q ≡ vacuous = rw (kind, sym (E .solvable-is ∙ first-is) ∙ e) in
-        without-pairs Vacuous firsts refl d
+        without-pairs Vacuous firsts leaves refl d
 
     module _ (e : r .solvable ≡ true) where
       can : canSolve H q ≡ true
@@ -110,12 +110,12 @@ module _ {k : ℕ} (x : Stored) (q : Question) (St : Stands k x q) where
       unmet-found : r .unmet ≡ solvable (least (q .free)) H (withUnmet (least (q .own)) (secondAt H q) (firstAt H q))
       unmet-found = E .unmet-is (of-true e) ∙ unmet-is
 
-      pub decided-unmet : r .unmet ≡ true → Decided x q Unmet firsts
+      pub decided-unmet : r .unmet ≡ true → Decided x q Unmet firsts leaves
       unfolding decideKind
       decided-unmet f =
           let breaks : someUnmet H q ≡ true = is-true _ (unmet-somewhere H q (of-true (sym unmet-found ∙ f))) in
           let d : decide q ≡ unmet = rw (kind, can, breaks) in
-          with-pairs Unmet firsts d
+          with-pairs Unmet firsts leaves d
           (record { found-is = sym f ∙ E .unmet-is (of-true e); pairs-are = λ _. E .pairs-are (of-true e) (of-true f) })
 
       module _ (f : r .unmet ≡ false) where
@@ -131,18 +131,18 @@ module _ {k : ℕ} (x : Stored) (q : Question) (St : Stands k x q) where
         lowest : r .missed ≡ lowestMissed H q
         lowest = missed-is ∙ lowest-is
 
-        pub decided-entailed : getD (x .counts) 3 0 ≤ r .missed → Decided x q Entailed firsts
+        pub decided-entailed : getD (x .counts) 3 0 ≤ r .missed → Decided x q Entailed firsts leaves
         unfolding decideKind
         decided-entailed l =
             let d : decide q ≡ entailed = rw (kind, can, holds-on, ← lowest, ← count, le-ltb (r .missed) (getD (x .counts) 3 0) l) in
-            without-pairs Entailed firsts refl d
+            without-pairs Entailed firsts leaves refl d
 
-        pub decided-missed : r .missed < getD (x .counts) 3 0 → (found : Bool) (third : List ℕ) → SolvedAs x H (Missed (r .missed)) found third
-            → Decided x q (Missed (r .missed)) third
+        pub decided-missed : r .missed < getD (x .counts) 3 0 → (found : Bool) (third fourth : List ℕ) → SolvedAs x H (Missed (r .missed)) found third fourth
+            → Decided x q (Missed (r .missed)) third fourth
         unfolding decideKind
-        decided-missed l found third G =
+        decided-missed l found third fourth G =
             let d : decide q ≡ missed (r .missed) = rw (kind, can, holds-on, ← lowest, ← count, lt-ltb (r .missed) (getD (x .counts) 3 0) l) in
-            with-pairs (Missed (r .missed)) third d (rw (G .found-is ∙ is-true _ there) at G)
+            with-pairs (Missed (r .missed)) third fourth d (rw (G .found-is ∙ is-true _ there) at G)
           where
             there : T (solvableIn x H (Missed (r .missed)))
             there = rw (← missed-is) at (first-below (getD (x .counts) 3 0) (λ i. solvableIn x H (Missed i)) (rw (← missed-is) l))

@@ -73,15 +73,15 @@ searchOf (Missed j) = Missed j
 -- ---- the decision of a question
 
 -- what is stored as x stands for q: the answer is q's, and where a solution is shown its search is solved, by these first words
-pub record Decided (x : Stored) (q : Asked) (r : Finding) (firsts : List ℕ) : Type 0 where
+pub record Decided (x : Stored) (q : Asked) (r : Finding) (firsts leaves : List ℕ) : Type 0 where
   pub answer : answerOf r ≡ decide q
-  pub solved : T (shows (decide q)) → SolvedAs x (questionHeight q) (searchOf r) true firsts
+  pub solved : T (shows (decide q)) → SolvedAs x (questionHeight q) (searchOf r) true firsts leaves
 
 -- the same of every question of a kind that numbers, clauses' bytes and constants stand for
-abbrev pub DecidedAs : Kind → Sizes → List ℕ → List ℕ → Finding → List ℕ → Type 0
-DecidedAs kind sizes clauses constants r firsts =
+abbrev pub DecidedAs : Kind → Sizes → List ℕ → List ℕ → Finding → List ℕ → List ℕ → Type 0
+DecidedAs kind sizes clauses constants r firsts leaves =
     (k : ℕ) (q : Asked) → Stands k (storedBy sizes clauses constants) q → q .kind ≡ kind → sizes .height ≡ questionHeight q
-    → Decided (storedBy sizes clauses constants) q r firsts
+    → Decided (storedBy sizes clauses constants) q r firsts leaves
 
 -- a question that was read stands for q, with some clauses
 pub record StandsFor (x : Question) (q : Asked) : Type 0 where
@@ -95,9 +95,9 @@ pub record SizedFor (sizes : Sizes) (q : Asked) : Type 0 where
   pub sized : sizes ≡ sizesOf question
 
 -- and this was found, with these first words
-pub record DecidedFor (sizes : Sizes) (r : Finding) (firsts : List ℕ) (q : Asked) : Type 0 where
+pub record DecidedFor (sizes : Sizes) (r : Finding) (firsts leaves : List ℕ) (q : Asked) : Type 0 where
   pub sizing : SizedFor sizes q
-  pub decided : Decided (storedOf (sizing .question) (sizing .standing .clauses)) q r firsts
+  pub decided : Decided (storedOf (sizing .question) (sizing .standing .clauses)) q r firsts leaves
 
 -- ---- its plan
 

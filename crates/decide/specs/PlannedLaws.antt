@@ -38,7 +38,7 @@ use Rattle.plans.specs.declared.Plan.{Plan}
 use Rattle.plans.specs.Shown as shown
 use Rattle.plans.specs.ShownLaws.{plan-shows}
 use Rattle.plans.specs.PairLaws.{width-enough}
-use Rattle.plans.specs.Pairs.{leafWidth, Fitting, PairsOf, Made}
+use Rattle.plans.specs.Pairs.{leafWidth, Fitting, LeavesFit, PairsOf, Made}
 use Rattle.rows.specs.Rows.{rowLevels}
 use Rattle.steps.specs.Tests.{extraOf, roomOf, testsOf}
 use Rattle.steps.specs.declared.Search.{Search}
@@ -85,7 +85,7 @@ module _ {kind : ℕ} (x : Stored) (q : Question) (St : Stands kind x q) where
   abbrev Q : Stored
   Q = withVariables x (q .free) (q .own)
 
-  solved-at : {search : Search} {found : Bool} {firsts : List ℕ} → SolvedAs x H search found firsts → SolvedAs Q H search found firsts
+  solved-at : {search : Search} {found : Bool} {firsts leaves : List ℕ} → SolvedAs x H search found firsts leaves → SolvedAs Q H search found firsts leaves
   solved-at D = rw (← (St .free), ← (St .own)) D
 
   module _ (search : Search) where
@@ -103,17 +103,19 @@ module _ {kind : ℕ} (x : Stored) (q : Question) (St : Stands kind x q) where
 
     module _ (can : T (solvableIn Q H search)) where
       -- pairs of it can be planned
-      fitting : {firsts : List ℕ} → PairsOf (q .free) H R (extraOf search) firsts → Fitting (outlineOf q search) firsts
-      fitting P = record {
-        variables = omega (arith, St .variables, St .free);
-        low = question-low x q St;
-        splits = splits-few x q St search;
-        extra = extra-most search;
-        few = count-few x q St;
-        plains = λ b l. rw (P .plains b l) (least-lt b l);
-        entries = λ e l. let m : e < R .count = rw tests-count l in rw (P .entries e m) (digits-lt (leaf-passes (least (q .free)) H (numbered (q .free) R) can e m .0) (wide e m));
-        choices = λ e l. let m : e < R .count = rw tests-count l in rw (P .entries e m, digits-mod (leafFor (q .free) H R e) (wide e m)) (P .within e m);
-      }
+      fitting : {firsts leaves : List ℕ} → PairsOf (q .free) H R (extraOf search) firsts leaves → Fitting (outlineOf q search) firsts × LeavesFit (outlineOf q search) leaves
+      fitting P = (
+        record {
+          variables = omega (arith, St .variables, St .free);
+          low = omega (arith, question-low x q St);
+          splits = splits-few x q St search;
+          extra = extra-most search;
+          few = count-few x q St;
+          entries = λ e l. let m : e < R .count = rw tests-count l in rw (P .entries e m) (digits-lt (leaf-passes (least (q .free)) H (numbered (q .free) R) can e m .0) (wide e m));
+          choices = λ e l. let m : e < R .count = rw tests-count l in rw (P .entries e m, digits-mod (leafFor (q .free) H R e) (wide e m)) (P .within e m);
+        },
+        λ b l. rw (P .plains b l) (least-lt b l),
+      )
         where
           wide : (e : ℕ) → e < R .count → specialChoice (q .free) H R e (leafFor (q .free) H R e) < leafWidth (q .free)
           wide e m = le-trans (P .within e m) (width-enough (q .free))
@@ -171,18 +173,18 @@ module _ {kind : ℕ} (x : Stored) (q : Question) (St : Stands kind x q) where
 
   -- ---- of a decision
 
-  module _ (f : Finding) (firsts : List ℕ) (D : Decided x q f firsts) (t : T (shows (answerOf f))) where
-    solved : SolvedAs Q H (searchOf f) true firsts
+  module _ (f : Finding) (firsts leaves : List ℕ) (D : Decided x q f firsts leaves) (t : T (shows (answerOf f))) where
+    solved : SolvedAs Q H (searchOf f) true firsts leaves
     solved = solved-at (D .solved (rw (D .answer) at t))
 
     can : T (solvableIn Q H (searchOf f))
     can = of-true (sym (solved .found-is))
 
-    pub decided-fits : Fitting (outlineOf q (searchOf f)) firsts
+    pub decided-fits : Fitting (outlineOf q (searchOf f)) firsts × LeavesFit (outlineOf q (searchOf f)) leaves
     decided-fits = fitting (searchOf f) can (solved .pairs-are tt)
 
     pub decided-planned : (plan : Plan)
-        → ((R : Problem ℕ) → R .count ≡ extraOf (searchOf f) + firstCount q → PairsOf (q .free) H R (extraOf (searchOf f)) firsts
+        → ((R : Problem ℕ) → R .count ≡ extraOf (searchOf f) + firstCount q → PairsOf (q .free) H R (extraOf (searchOf f)) firsts leaves
         → Made (q .free) H R (c (roomOf (searchOf f) (firstCount q))) plan)
         → Planned q plan
     decided-planned plan made =

@@ -78,11 +78,12 @@ fn decide_satisfiability(
     sizes: Sizes,
     constants: &[u64; 32],
     firsts: &mut [u64; 128],
+    leaves: &mut [u64; 128],
 ) -> Finding
     requires { ⌜ Readable (now clauses) (sizes .counts) (sizes .free) (sizes .own) × (sizes .named < 2 ^ 32) × (sizes .height ≤ 5) ⌝ }
-    ensures { λ r. ⌜ DecidedAs satisfiability sizes (now (clauses .entry)) (now (constants .entry)) r (now (firsts .exit)) ⌝ }
+    ensures { λ r. ⌜ DecidedAs satisfiability sizes (now (clauses .entry)) (now (constants .entry)) r (now (firsts .exit)) (now (leaves .exit)) ⌝ }
 {
-    if search::solve(clauses, sizes, constants, Search::First, firsts) {
+    if search::solve(clauses, sizes, constants, Search::First, firsts, leaves) {
         return Finding::Satisfied;
     }
     Finding::Unsatisfied
@@ -94,11 +95,12 @@ fn decide_entailment(
     sizes: Sizes,
     constants: &[u64; 32],
     firsts: &mut [u64; 128],
+    leaves: &mut [u64; 128],
 ) -> Finding
     requires { ⌜ Readable (now clauses) (sizes .counts) (sizes .free) (sizes .own) × (sizes .named < 2 ^ 32) × (sizes .height ≤ 5) ⌝ }
-    ensures { λ r. ⌜ DecidedAs entailment sizes (now (clauses .entry)) (now (constants .entry)) r (now (firsts .exit)) ⌝ }
+    ensures { λ r. ⌜ DecidedAs entailment sizes (now (clauses .entry)) (now (constants .entry)) r (now (firsts .exit)) (now (leaves .exit)) ⌝ }
 {
-    let survey = search::survey_leaves(clauses, sizes, constants, firsts);
+    let survey = search::survey_leaves(clauses, sizes, constants, firsts, leaves);
     if !survey.solvable {
         return Finding::Vacuous;
     }
@@ -107,7 +109,7 @@ fn decide_entailment(
     }
     let j = survey.missed;
     if j < sizes.counts[3] {
-        search::solve(clauses, sizes, constants, Search::Missed(j), firsts);
+        search::solve(clauses, sizes, constants, Search::Missed(j), firsts, leaves);
         return Finding::Missed(j);
     }
     Finding::Entailed
@@ -120,14 +122,15 @@ pub fn decide(
     clauses: &[u8; CLAUSE_BYTES],
     constants: &[u64; 32],
     firsts: &mut [u64; 128],
+    leaves: &mut [u64; 128],
 ) -> Finding
     requires { ⌜ Standing question (now clauses) × (sizes ≡ sizesOf question) × (now constants ≡ question .constants) ⌝ }
-    ensures { λ r. ⌜ ((q : Asked) → Stands (question .kind) (storedOf question (now (clauses .entry))) q → WellFormed q → Decided (storedOf question (now (clauses .entry))) q r (now (firsts .exit))) ⌝ }
+    ensures { λ r. ⌜ ((q : Asked) → Stands (question .kind) (storedOf question (now (clauses .entry))) q → WellFormed q → Decided (storedOf question (now (clauses .entry))) q r (now (firsts .exit)) (now (leaves .exit))) ⌝ }
 {
     if question.kind == 0 {
-        return decide_satisfiability(clauses, sizes, constants, firsts);
+        return decide_satisfiability(clauses, sizes, constants, firsts, leaves);
     }
-    decide_entailment(clauses, sizes, constants, firsts)
+    decide_entailment(clauses, sizes, constants, firsts, leaves)
 }
 
 // ---- the solution that is shown
@@ -210,10 +213,10 @@ pub fn height_given(sizes: Sizes, finding: Finding) -> usize
 }
 
 // The plan of the solution that is shown with a finding.
-pub fn plan(sizes: Sizes, finding: Finding, firsts: &[u64; 128]) -> Plan
-    requires { ⌜ ((q : Asked) × DecidedFor sizes finding (now firsts) q) ⌝ }
+pub fn plan(sizes: Sizes, finding: Finding, firsts: &[u64; 128], leaves: &[u64; 128]) -> Plan
+    requires { ⌜ ((q : Asked) × DecidedFor sizes finding (now firsts) (now leaves) q) ⌝ }
     requires { ⌜ T (shows (answerOf finding)) ⌝ }
-    ensures { λ r. ⌜ ((q : Asked) → DecidedFor sizes finding (now (firsts .entry)) q → Planned q r) ⌝ }
+    ensures { λ r. ⌜ ((q : Asked) → DecidedFor sizes finding (now (firsts .entry)) (now (leaves .entry)) q → Planned q r) ⌝ }
 {
-    plans::plan_of(firsts, outline(sizes, search_of(finding)))
+    plans::plan_of(firsts, leaves, outline(sizes, search_of(finding)))
 }

@@ -112,7 +112,7 @@ fn half(b: usize) -> u64
 fn mark_alike(
     table: &[u64; TABLE_WORDS],
     free: usize,
-    keys: &[u64; 32],
+    keys: &[u64; 64],
     b: usize,
     present: &mut [u64],
 )
@@ -208,7 +208,7 @@ fn look_leaf(
     table: &[u64; TABLE_WORDS],
     clauses: &[u8; CLAUSE_BYTES],
     sizes: Sizes,
-    keys: &[u64; 32],
+    keys: &[u64; 64],
     b: usize,
     terms: &mut [u64; 64],
     wanted: u64,
@@ -229,7 +229,7 @@ fn look_leaf(
 
 // The values of the constants that are named, at each leaf.
 fn put_keys(constants: &[u64; 32], named: u64, keys: &mut [u64])
-    requires { ⌜ (named < 2 ^ 32) × (length (now keys) ≡ 32) ⌝ }
+    requires { ⌜ (named < 2 ^ 32) × (length (now keys) ≡ 64) ⌝ }
     ensures { λ _. ⌜ ((a : ℕ) → a < 2 ^ constantLevels → getD (now (keys .exit)) a 0 ≡ valuesAt constantLevels (now (constants .entry)) named constantLevels a) ⌝ }
 {
     let mut b: usize = 0;
@@ -251,7 +251,7 @@ pub fn extends(
 {
     let mut terms = [0u64; 64];
     words::start_terms(sizes.free, sizes.own, &mut terms);
-    let mut keys = [0u64; 32];
+    let mut keys = [0u64; 64];
     put_keys(constants, sizes.named, &mut keys);
     let mut wanted: u64 = (1 << sizes.counts[3]) - 1;
     let mut b: usize = 0;

@@ -1,6 +1,6 @@
 -- One leaf more: its words are done, or it looks like an earlier leaf. Assumes nothing.
 use mathlib.Core.Path.{_≡_, refl, sym, ap, ap₂, _∙_, subst}
-use mathlib.Core.Bool.{Bool, true, false, not, _&&_, or-true, or-false}
+use mathlib.Core.Bool.{Bool, true, false, not, _&&_, and-true, and-false, or-true, or-false}
 use mathlib.Core.List.{List}
 use Prim.Native.Nat.{ℕ, _+_, _-_, _*_, _^_, _≤_, _<_}
 use native.Mathlib.Nat.{add-zero}
@@ -17,6 +17,7 @@ use Rattle.shares.specs.Below.{someBelow, firstBelow}
 use Rattle.shares.specs.BelowLaws.{every-more, every-at, some-found, some-intro, first-longer}
 use Rattle.shares.specs.Constant.{bit}
 use Rattle.shares.specs.BitLaws.{bit-zero, bit-and}
+use Rattle.shares.specs.BitParts.{bit-ones, bit-beyond}
 use Rattle.format.specs.Stored.{Stored}
 use Rattle.words.specs.Choices.{wordCount}
 use Rattle.words.specs.Kept.{numberAt}
@@ -26,8 +27,8 @@ use Rattle.entries.specs.Entry.{Entry}
 use Rattle.entries.specs.EntryLaws.{entry-same, some-stays}
 use Rattle.plans.specs.Pairs.{leafWidth}
 use Rattle.steps.specs.Tests.{leafValues, allowedIn}
-use Rattle.steps.specs.Steps.{onPairs, meetsHere, unmetHere, Amid, OthersKept}
-use Rattle.pass.specs.Pass.{missedBelow, After, Copied, Visited}
+use Rattle.steps.specs.Steps.{onPairs, meetsHere, unmetHere, Amid}
+use Rattle.pass.specs.Pass.{missedBelow, After, Put, Copied, Visited}
 use Rattle.steps.specs.declared.Search.{Search}
 use Rattle.steps.specs.declared.Search.the-variants.{Unmet, Missed}
 use Rattle.steps.specs.declared.Seen.{Seen}
@@ -42,22 +43,36 @@ module _ (S : Stored) (h : ℕ) (search : Search) (b : ℕ) where
 
   -- ---- before the first word
 
-  pub amid-start : (seen : Seen) (firsts rows : List ℕ) → b < 32 → After S h search b seen firsts rows
-      → Amid S h search b 0 (record { met = seen .met; possible = seen .possible; here = 0 }) firsts rows
+  -- the bits of the searches that go on from leaf to leaf
+  abbrev searches : ℕ → ℕ
+  searches met = bitAnd met 0xFFFFFFFF
+
+  searches-kept : (met k : ℕ) → k < 32 → bit (searches met) k ≡ bit met k
+  searches-kept met k l = bit-and met 0xFFFFFFFF k ∙ ap (λ c. bit met k && c) (bit-ones 32 k l) ∙ and-true (bit met k)
+
+  searches-fresh : (met : ℕ) → bit (searches met) 32 ≡ false
+  searches-fresh met = bit-and met 0xFFFFFFFF 32 ∙ ap (λ c. bit met 32 && c) (bit-beyond 32 0xFFFFFFFF 32 (omega arith) (omega arith)) ∙ and-false (bit met 32)
+
+  pub amid-start : (seen : Seen) (firsts plains rows : List ℕ) → getD (S .counts) 1 0 ≤ 31 → After S h search b seen firsts plains rows
+      → Amid S h search b 0 (record { met = searches (seen .met); possible = seen .possible; here = 0 }) firsts rows
   unfolding someBelow
-  amid-start seen firsts rows small A = record {
-    plain = record { found = A .fresh b (omega arith) small; stored = λ t. absurd (T-not (bit (seen .met) (32 + b)) (of-false (A .fresh b (omega arith) small)) t) };
-    entries = λ i l. subst (λ t. Entry (onPairs S h (meetsHere S search i)) t (seen .met) firsts i) (sym (add-zero (b * wordCount n))) (A .entries i l);
-    unmet = λ e. subst (λ t. Entry (onPairs S h (unmetHere S)) t (seen .met) firsts 31) (sym (add-zero (b * wordCount n))) (A .unmet e);
+  amid-start seen firsts plains rows few A = record {
+    plain = record { found = searches-fresh (seen .met); stored = λ t. absurd (T-not (bit (searches (seen .met)) 32) (of-false (searches-fresh (seen .met))) t) };
+    entries = λ i l. subst (λ t. Entry (onPairs S h (meetsHere S search i)) t (searches (seen .met)) firsts i) (sym (add-zero (b * wordCount n)))
+        (entry-same _ _ _ _ _ _ i (searches-kept (seen .met) i (omega arith)) refl (A .entries i l));
+    unmet = λ e. subst (λ t. Entry (onPairs S h (unmetHere S)) t (searches (seen .met)) firsts 31) (sym (add-zero (b * wordCount n)))
+        (entry-same _ _ _ _ _ _ 31 (searches-kept (seen .met) 31 (omega arith)) refl (A .unmet e));
     here = λ e t j l u. bit-zero j;
     marks = λ e t j l u i m.
-        A .marks e t j l u i m ∙ ap (λ t. someBelow (64 * t) (onPairs S h (meetsHere S (Missed j) i))) (sym (add-zero (b * wordCount n)));
+        A .marks e (subst (λ c. T (not c)) (searches-kept (seen .met) 31 (omega arith)) t) j l u i m
+        ∙ ap (λ t. someBelow (64 * t) (onPairs S h (meetsHere S (Missed j) i))) (sym (add-zero (b * wordCount n)));
   }
 
   -- ---- after the last word
 
-  module _ (seen : Seen) (firsts rows : List ℕ) (A : After S h search b seen firsts rows) (seen₁ : Seen) (firsts₁ rows₁ : List ℕ)
-      (M : Amid S h search b (wordCount n) seen₁ firsts₁ rows₁) (O : OthersKept b seen firsts seen₁ firsts₁) where
+  module _ (seen : Seen) (firsts plains rows : List ℕ) (A : After S h search b seen firsts plains rows) (seen₁ : Seen) (firsts₁ rows₁ : List ℕ)
+      (M : Amid S h search b (wordCount n) seen₁ firsts₁ rows₁) (possible-kept : seen₁ .possible ≡ seen .possible)
+      (plains₁ : List ℕ) (P : Put b firsts₁ 32 plains plains₁) where
     -- an unmet choice stays found
     before : search ≡ Unmet → T (not (bit (seen₁ .met) 31)) → T (not (bit (seen .met) 31))
     before e t =
@@ -68,7 +83,7 @@ module _ (S : Stored) (h : ℕ) (search : Search) (b : ℕ) where
     possible-after : search ≡ Unmet → T (not (bit (seen₁ .met) 31)) → (j : ℕ) → j < getD (S .counts) 3 0
         → bit (bitAnd (seen₁ .possible) (seen₁ .here)) j ≡ missedBelow S h (b + 1) j
     possible-after e t j l =
-        bit-and (seen₁ .possible) (seen₁ .here) j ∙ ap (λ x. bit x j && bit (seen₁ .here) j) (O .possible-kept)
+        bit-and (seen₁ .possible) (seen₁ .here) j ∙ ap (λ x. bit x j && bit (seen₁ .here) j) (possible-kept)
         ∙ go (bit (seen .possible) j) refl ∙ sym (ap (λ k. missedBelow S h k j) (add-one b) ∙ every-more b _)
       where
         some : Bool
@@ -77,15 +92,14 @@ module _ (S : Stored) (h : ℕ) (search : Search) (b : ℕ) where
         go : (c : Bool) → bit (seen .possible) j ≡ c → (bit (seen .possible) j && bit (seen₁ .here) j) ≡ (missedBelow S h b j && some)
         go true q =
             ap₂ _&&_ (A .possible e (before e t) j l)
-            (M .here e t j l (of-true (ap (λ x. bit x j) (O .possible-kept) ∙ q)))
+            (M .here e t j l (of-true (ap (λ x. bit x j) (possible-kept) ∙ q)))
         go false q = ap (λ c. c && bit (seen₁ .here) j) q ∙ sym (ap (λ c. c && some) (sym (A .possible e (before e t) j l) ∙ q))
 
-    pub leaf-done : Visited S h search b (record { met = seen₁ .met; possible = bitAnd (seen₁ .possible) (seen₁ .here); here = 0 }) firsts₁ rows₁
+    pub leaf-done : Visited S h search b (record { met = seen₁ .met; possible = bitAnd (seen₁ .possible) (seen₁ .here); here = 0 }) firsts₁ plains₁ rows₁
     leaf-done = record {
       done = λ t. record {
-        plains = λ a l. plains t a l (ℕ-discrete a b);
-        found = λ a l. found t a l (ℕ-discrete a b);
-        fresh = λ a l m. O .met-kept (32 + a) (omega arith) (λ q. omega arith) ∙ A .fresh a (omega arith) m;
+        least = λ a l. plains-of t a l (ℕ-discrete a b);
+        found = λ _. t;
         entries = λ i l. subst (λ t. Entry (onPairs S h (meetsHere S search i)) t (seen₁ .met) firsts₁ i) (leaf-more b (wordCount n)) (M .entries i l);
         unmet = λ e. subst (λ t. Entry (onPairs S h (unmetHere S)) t (seen₁ .met) firsts₁ 31) (leaf-more b (wordCount n)) (M .unmet e);
         possible = possible-after;
@@ -96,17 +110,11 @@ module _ (S : Stored) (h : ℕ) (search : Search) (b : ℕ) where
       none = λ t. subst (λ c. T (not c)) (M .plain .found) t;
     }
       where
-        plains : T (bit (seen₁ .met) (32 + b)) → (a : ℕ) → a < b + 1 → Dec (a ≡ b)
+        plains-of : T (bit (seen₁ .met) 32) → (a : ℕ) → a < b + 1 → Dec (a ≡ b)
             → T (someBelow (leafWidth n) (allowedIn S search (leafValues S h a)))
-            × (numberAt firsts₁ (32 + a) ≡ firstBelow (leafWidth n) (allowedIn S search (leafValues S h a)))
-        plains t a l (yes q) = rw q (subst T (M .plain .found) t, M .plain .stored t)
-        plains t a l (no m) =
-            let (s, e) = A .plains a (omega arith) in
-            (s, O .firsts-kept (32 + a) (omega arith) (λ q. omega arith) ∙ e)
-
-        found : T (bit (seen₁ .met) (32 + b)) → (a : ℕ) → a < b + 1 → Dec (a ≡ b) → T (bit (seen₁ .met) (32 + a))
-        found t a l (yes q) = rw q t
-        found t a l (no m) = rw (O .met-kept (32 + a) (omega arith) (λ q. omega arith)) (A .found a (omega arith))
+            × (numberAt plains₁ a ≡ firstBelow (leafWidth n) (allowedIn S search (leafValues S h a)))
+        plains-of t a l (yes q) = rw q (subst T (M .plain .found) t, P .stored ∙ M .plain .stored t)
+        plains-of t a l (no m) = let (s, e) = A .least a (omega arith) in (s, P .kept a m ∙ e)
 
   -- ---- a leaf that looks like an earlier one
 
@@ -143,39 +151,30 @@ module _ (S : Stored) (h : ℕ) (search : Search) (b : ℕ) where
           ∙ sym (first-longer (64 * (b * wordCount n)) (64 * ((b + 1) * wordCount n)) (onPairs S h f) (omega (arith, sym (leaf-more b (wordCount n)))) (subst T (E .found) u));
     }
 
-    pub leaf-copied : (seen : Seen) (firsts rows : List ℕ) (seen₁ : Seen) (firsts₁ : List ℕ) → b < 32 → getD (S .counts) 1 0 ≤ 31 → Copied b like seen firsts seen₁ firsts₁
-        → After S h search b seen firsts rows → Visited S h search b seen₁ firsts₁ rows
-    leaf-copied seen firsts rows seen₁ firsts₁ small few C A = record {
+    pub leaf-copied : (seen : Seen) (firsts plains rows : List ℕ) (seen₁ : Seen) (plains₁ : List ℕ) → getD (S .counts) 1 0 ≤ 31 → Copied b like seen plains seen₁ plains₁
+        → After S h search b seen firsts plains rows → Visited S h search b seen₁ firsts plains₁ rows
+    leaf-copied seen firsts plains rows seen₁ plains₁ few C A = record {
       done = λ _. record {
-        plains = λ a l. plains a l (ℕ-discrete a b);
-        found = λ a l. found a l (ℕ-discrete a b);
-        fresh = λ a l m. C .met-kept (32 + a) (λ q. omega arith) ∙ A .fresh a (omega arith) m;
-        entries = λ i l. entry-same _ _ _ _ _ _ i (C .met-kept i (λ q. omega arith)) (C .firsts-kept i (λ q. omega arith)) (skip (meetsHere S search i) (seen .met) firsts i (A .entries i l));
-        unmet = λ e. entry-same _ _ _ _ _ _ 31 apart (C .firsts-kept 31 (λ q. omega arith)) (skip (unmetHere S) (seen .met) firsts 31 (A .unmet e));
+        least = λ a l. plains-of a l (ℕ-discrete a b);
+        found = λ _. of-true (C .found);
+        entries = λ i l. entry-same _ _ _ _ _ _ i (C .met-kept i (λ q. omega arith)) refl (skip (meetsHere S search i) (seen .met) firsts i (A .entries i l));
+        unmet = λ e. entry-same _ _ _ _ _ _ 31 apart refl (skip (unmetHere S) (seen .met) firsts 31 (A .unmet e));
         possible = λ e t j l.
             ap (λ x. bit x j) (C .possible-kept) ∙ A .possible e (subst (λ c. T (not c)) apart t) j l ∙ sym (missed-again j);
         marks = λ e t j l u i m.
             A .marks e (subst (λ c. T (not c)) apart t) j l (rw (C .possible-kept) at u) i m ∙ sym (repeated (meetsHere S (Missed j) i));
       };
-      none = λ t. absurd (T-not (bit (seen₁ .met) (32 + b)) t (of-true (C .found)));
+      none = λ t. absurd (T-not (bit (seen₁ .met) 32) t (of-true (C .found)));
     }
       where
         apart : bit (seen₁ .met) 31 ≡ bit (seen .met) 31
         apart = C .met-kept 31 (λ q. omega arith)
 
-        plains : (a : ℕ) → a < b + 1 → Dec (a ≡ b)
+        plains-of : (a : ℕ) → a < b + 1 → Dec (a ≡ b)
             → T (someBelow (leafWidth n) (allowedIn S search (leafValues S h a)))
-            × (numberAt firsts₁ (32 + a) ≡ firstBelow (leafWidth n) (allowedIn S search (leafValues S h a)))
-        plains a l (yes q) =
-            let (s, e) = A .plains like earlier in
-            rw (q, ← same) (s, C .stored ∙ e)
-        plains a l (no m) =
-            let (s, e) = A .plains a (omega arith) in
-            (s, C .firsts-kept (32 + a) (λ q. omega arith) ∙ e)
-
-        found : (a : ℕ) → a < b + 1 → Dec (a ≡ b) → T (bit (seen₁ .met) (32 + a))
-        found a l (yes q) = rw q (of-true (C .found))
-        found a l (no m) = rw (C .met-kept (32 + a) (λ q. omega arith)) (A .found a (omega arith))
+            × (numberAt plains₁ a ≡ firstBelow (leafWidth n) (allowedIn S search (leafValues S h a)))
+        plains-of a l (yes q) = let (s, e) = A .least like earlier in rw (q, ← same) (s, C .put .stored ∙ e)
+        plains-of a l (no m) = let (s, e) = A .least a (omega arith) in (s, C .put .kept a m ∙ e)
 
         missed-again : (j : ℕ) → missedBelow S h (b + 1) j ≡ missedBelow S h b j
         missed-again j =
@@ -187,27 +186,21 @@ module _ (S : Stored) (h : ℕ) (search : Search) (b : ℕ) where
             test : ℕ → Bool
             test a = someBelow (leafWidth n) (allowedIn S (Missed j) (leafValues S h a))
 
--- ---- what is kept of the other leaves
+-- ---- the table of the leaves
 
-pub others-none : (b : ℕ) (seen : Seen) (firsts : List ℕ) → OthersKept b seen firsts seen firsts
-others-none b seen firsts = record { possible-kept = refl; met-kept = λ k m n. refl; firsts-kept = λ k m n. refl }
-
-pub others-more : (b : ℕ) (seen : Seen) (firsts : List ℕ) (seen₁ : Seen) (firsts₁ : List ℕ) (seen₂ : Seen) (firsts₂ : List ℕ) → OthersKept b seen firsts seen₁ firsts₁
-    → OthersKept b seen₁ firsts₁ seen₂ firsts₂ → OthersKept b seen firsts seen₂ firsts₂
-others-more b seen firsts seen₁ firsts₁ seen₂ firsts₂ O P = record {
-  possible-kept = P .possible-kept ∙ O .possible-kept;
-  met-kept = λ k m n. P .met-kept k m n ∙ O .met-kept k m n;
-  firsts-kept = λ k m n. P .firsts-kept k m n ∙ O .firsts-kept k m n;
+-- the words of an entry, stored as those of entry b
+pub put-entry : (b : ℕ) (from : List ℕ) (a : ℕ) (old : List ℕ) → 2 * b + 1 < length old → Put b from a old (keptIn old b (getD from (2 * a) 0) (getD from (2 * a + 1) 0))
+unfolding numberAt
+put-entry b from a old room = record {
+  stored = kept-there old b (getD from (2 * a) 0) (getD from (2 * a + 1) 0) room;
+  kept = λ k n. kept-others old b (getD from (2 * a) 0) (getD from (2 * a + 1) 0) k n;
 }
 
--- the first word of leaf a is stored as that of leaf b
-pub copied : (b a : ℕ) (seen : Seen) (firsts : List ℕ) → 2 * (32 + b) + 1 < length firsts
-    → Copied b a seen firsts (record { met = bitOr (seen .met) (2 ^ (32 + b)); possible = seen .possible; here = 0 }) (keptIn firsts (32 + b) (getD firsts (2 * (32 + a)) 0) (getD firsts (2 * (32 + a) + 1) 0))
-unfolding numberAt
-copied b a seen firsts room = record {
+pub copied : (b a : ℕ) (seen : Seen) (plains plains′ : List ℕ) → Put b plains a plains plains′
+    → Copied b a seen plains (record { met = bitOr (seen .met) (2 ^ 32); possible = seen .possible; here = 0 }) plains′
+copied b a seen plains plains′ P = record {
   possible-kept = refl;
-  found = bit-added (seen .met) (32 + b) true refl (32 + b) ∙ rw (eq-eqb (32 + b) (32 + b) refl) (or-true (bit (seen .met) (32 + b)));
-  met-kept = λ k n. bit-added (seen .met) (32 + b) true refl k ∙ rw (ne-eqb k (32 + b) n) (or-false (bit (seen .met) k));
-  stored = kept-there firsts (32 + b) (getD firsts (2 * (32 + a)) 0) (getD firsts (2 * (32 + a) + 1) 0) room;
-  firsts-kept = λ k n. kept-others firsts (32 + b) (getD firsts (2 * (32 + a)) 0) (getD firsts (2 * (32 + a) + 1) 0) k n;
+  found = bit-added (seen .met) 32 true refl 32 ∙ rw (eq-eqb 32 32 refl) (or-true (bit (seen .met) 32));
+  met-kept = λ k n. bit-added (seen .met) 32 true refl k ∙ rw (ne-eqb k 32 n) (or-false (bit (seen .met) k));
+  put = P;
 }

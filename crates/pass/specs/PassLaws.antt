@@ -8,6 +8,7 @@ use native.Mathlib.Decide.{decLt}
 use native.Mathlib.Omega.{arith}
 use lib.Dec.{T, T-not}
 use lib.ListN.{length, getD, set}
+use lib.Pow.{pow-pos}
 use lib.Seq.{getD-set-same, getD-set-other}
 use borrow.Author.Tests.{le-ltb}
 use Rattle.shares.specs.Test.{is-true, is-false, of-false}
@@ -55,13 +56,12 @@ module _ (S : Stored) (h : ℕ) (search : Search) where
   entry-start : (f : ℕ → ℕ → Bool) (firsts : List ℕ) (e : ℕ) → Entry (onPairs S h f) (0 * wordCount (S .free)) 0 firsts e
   entry-start f firsts e = record { found = bit-zero e ∙ sym (none f); stored = λ t. absurd (T-not (bit 0 e) (of-false (bit-zero e)) t) }
 
-  pub after-none : (firsts rows : List ℕ) → ((k : ℕ) → getD rows k 0 ≡ 0)
-      → After S h search 0 (record { met = 0; possible = 2 ^ getD (S .counts) 3 0 - 1; here = 0 }) firsts rows
+  pub after-none : (firsts plains rows : List ℕ) → ((k : ℕ) → getD rows k 0 ≡ 0)
+      → After S h search 0 (record { met = 0; possible = 2 ^ getD (S .counts) 3 0 - 1; here = 0 }) firsts plains rows
   unfolding everyBelow
-  after-none firsts rows zero = record {
-    plains = λ a l. absurd (omega arith);
-    found = λ a l. absurd (omega arith);
-    fresh = λ a l m. bit-zero (32 + a);
+  after-none firsts plains rows zero = record {
+    least = λ a l. absurd (omega arith);
+    found = λ l. absurd (omega arith);
     entries = λ i l. entry-start (meetsHere S search i) firsts i;
     unmet = λ e. entry-start (unmetHere S) firsts 31;
     possible = λ e t j l. bit-ones (getD (S .counts) 3 0) j l;
@@ -69,19 +69,18 @@ module _ (S : Stored) (h : ℕ) (search : Search) where
   }
 
   -- after the last
-  pub passed-all : (seen : Seen) (firsts rows : List ℕ) → After S h search (2 ^ h) seen firsts rows → Passed S h search seen firsts rows
-  passed-all seen firsts rows A = record {
-    all = is-true _ (every-intro (2 ^ h) _ (A .found)) ∙ sym (is-true _ (every-intro (2 ^ h) _ (λ b l. A .plains b l .0)));
+  pub passed-all : (seen : Seen) (firsts plains rows : List ℕ) → After S h search (2 ^ h) seen firsts plains rows → Passed S h search seen firsts plains rows
+  passed-all seen firsts plains rows A = record {
+    all = is-true _ (A .found (pow-pos h)) ∙ sym (is-true _ (every-intro (2 ^ h) _ (λ b l. A .least b l .0)));
     after = λ _. A;
   }
 
   -- a leaf has no choice
-  pub passed-none : (b : ℕ) (seen : Seen) (firsts rows : List ℕ) → b < 2 ^ h → bit (seen .met) (32 + b) ≡ false → Visited S h search b seen firsts rows
-      → Passed S h search seen firsts rows
-  passed-none b seen firsts rows l e W = record {
-    all = every-fails (λ b. bit (seen .met) (32 + b)) (of-false e)
-        ∙ sym (every-fails (λ b. someBelow (leafWidth (S .free)) (allowedIn S search (leafValues S h b))) (W .none (of-false e)));
-    after = λ t. absurd (T-not (bit (seen .met) (32 + b)) (of-false e) (every-at (2 ^ h) (λ b. bit (seen .met) (32 + b)) t b l));
+  pub passed-none : (b : ℕ) (seen : Seen) (firsts plains rows : List ℕ) → b < 2 ^ h → bit (seen .met) 32 ≡ false → Visited S h search b seen firsts plains rows
+      → Passed S h search seen firsts plains rows
+  passed-none b seen firsts plains rows l e W = record {
+    all = e ∙ sym (every-fails (λ b. someBelow (leafWidth (S .free)) (allowedIn S search (leafValues S h b))) (W .none (of-false e)));
+    after = λ t. absurd (T-not (bit (seen .met) 32) (of-false e) t);
   }
     where
       every-fails : (p : ℕ → Bool) → T (not (p b)) → everyBelow (2 ^ h) p ≡ false

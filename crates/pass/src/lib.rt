@@ -6,8 +6,8 @@ use steps::Seen;
 use steps::Spot;
 ghost use mathlib.Core.Path.{_≡_};
 ghost use mathlib.Core.List.{List};
-ghost use Prim.Native.Nat.{ℕ, _^_, _<_, _≤_};
-ghost use lib.ListN.{length, getD};
+ghost use Prim.Native.Nat.{ℕ, _+_, _*_, _^_, _<_, _≤_};
+ghost use lib.ListN.{length, getD, set};
 ghost use Rattle.words.specs.Table.{Terms, Within};
 ghost use Rattle.beside.specs.Beside.{Readable};
 ghost use Rattle.steps.specs.Tests.{leafValues, Named};
@@ -22,7 +22,16 @@ pub struct Leaf {
     pub values: u64,
 }
 
-// All words of a leaf.
+// Puts a word and its choices into a table as entry `number`.
+fn put_entry(plains: &mut [u64], number: usize, word: u64, choices: u64)
+    requires { ⌜ (number < 64) × (length (now plains) ≡ 128) ⌝ }
+    ensures { λ _. ⌜ now (plains .exit) ≡ set (set (now (plains .entry)) (2 * number) word) (2 * number + 1) choices ⌝ }
+{
+    plains[2 * number] = word;
+    plains[2 * number + 1] = choices;
+}
+
+// All words of a leaf. The least of its choices stands in entry 32 while they are gone over, and then in the leaf's own entry of the table of leaves.
 fn pass_leaf(
     terms: &mut [u64; 64],
     clauses: &[u8; CLAUSE_BYTES],
@@ -30,18 +39,19 @@ fn pass_leaf(
     leaf: Leaf,
     seen: Seen,
     firsts: &mut [u64; 128],
+    plains: &mut [u64; 128],
     rows: &mut [u64; 96],
 ) -> Seen
     requires { ⌜ Readable (now clauses) (sizes .counts) (sizes .free) (sizes .own) ⌝ }
-    requires { ⌜ Named (sizes .counts) (leaf .search) × (leaf .number < 32) × Placed (sizes .free) (sizes .own) (now terms) ⌝ }
+    requires { ⌜ Named (sizes .counts) (leaf .search) × (leaf .number < 64) × Placed (sizes .free) (sizes .own) (now terms) ⌝ }
     ensures { λ r. ⌜ ((values v : ℕ) → Terms (sizes .free) (sizes .own) values v (now (terms .entry)) → (u : ℕ) × Terms (sizes .free) (sizes .own) values u (now (terms .exit))) ⌝ }
-    ensures { λ r. ⌜ ((h : ℕ) (constants : List ℕ) (v : ℕ) → Terms (sizes .free) (sizes .own) (leafValues (storedBy sizes (now (clauses .entry)) constants) h (leaf .number)) v (now (terms .entry)) → After (storedBy sizes (now (clauses .entry)) constants) h (leaf .search) (leaf .number) seen (now (firsts .entry)) (now (rows .entry)) → Visited (storedBy sizes (now (clauses .entry)) constants) h (leaf .search) (leaf .number) r (now (firsts .exit)) (now (rows .exit))) ⌝ }
+    ensures { λ r. ⌜ ((h : ℕ) (constants : List ℕ) (v : ℕ) → Terms (sizes .free) (sizes .own) (leafValues (storedBy sizes (now (clauses .entry)) constants) h (leaf .number)) v (now (terms .entry)) → After (storedBy sizes (now (clauses .entry)) constants) h (leaf .search) (leaf .number) seen (now (firsts .entry)) (now (plains .entry)) (now (rows .entry)) → Visited (storedBy sizes (now (clauses .entry)) constants) h (leaf .search) (leaf .number) r (now (firsts .exit)) (now (plains .exit)) (now (rows .exit))) ⌝ }
 {
     let search = leaf.search;
     let number = leaf.number;
     let words = words::word_count(sizes.free);
     let mut r = Seen {
-        met: seen.met,
+        met: seen.met & 0xFFFF_FFFF,
         possible: seen.possible,
         here: 0,
     };
@@ -56,6 +66,7 @@ fn pass_leaf(
         r = steps::pass_word(terms, clauses, sizes, spot, r, firsts, rows);
         w += 1;
     }
+    put_entry(plains, number, firsts[64], firsts[65]);
     Seen {
         met: r.met,
         possible: r.possible & r.here,
@@ -64,18 +75,15 @@ fn pass_leaf(
 }
 
 // A leaf that looks like an earlier one has its least choice, and no other search finds anything there.
-fn copy_leaf(number: usize, like: usize, seen: Seen, firsts: &mut [u64]) -> Seen
-    requires { ⌜ (like < number) × (number < 32) × (length (now firsts) ≡ 128) ⌝ }
-    ensures { λ r. ⌜ Copied number like seen (now (firsts .entry)) r (now (firsts .exit)) ⌝ }
+fn copy_leaf(number: usize, like: usize, seen: Seen, plains: &mut [u64]) -> Seen
+    requires { ⌜ (like < number) × (number < 64) × (length (now plains) ≡ 128) ⌝ }
+    ensures { λ r. ⌜ Copied number like seen (now (plains .entry)) r (now (plains .exit)) ⌝ }
 {
-    let from = 2 * (32 + like);
-    let to = 2 * (32 + number);
-    let word = firsts[from];
-    let choices = firsts[from + 1];
-    firsts[to] = word;
-    firsts[to + 1] = choices;
+    let word = plains[2 * like];
+    let choices = plains[2 * like + 1];
+    put_entry(plains, number, word, choices);
     Seen {
-        met: seen.met | (1 << (32 + number)),
+        met: seen.met | (1 << 32),
         possible: seen.possible,
         here: 0,
     }
@@ -89,25 +97,26 @@ fn visit(
     leaf: Leaf,
     seen: Seen,
     firsts: &mut [u64; 128],
+    plains: &mut [u64; 128],
     rows: &mut [u64; 96],
 ) -> Seen
     requires { ⌜ Readable (now clauses) (sizes .counts) (sizes .free) (sizes .own) ⌝ }
-    requires { ⌜ Named (sizes .counts) (leaf .search) × (leaf .number < 32) × (sizes .named < 2 ^ 32) × Within (sizes .named) (leaf .values) × PlacedWithin (sizes .free) (sizes .own) (sizes .named) (now terms) ⌝ }
+    requires { ⌜ Named (sizes .counts) (leaf .search) × (leaf .number < 64) × (sizes .named < 2 ^ 32) × Within (sizes .named) (leaf .values) × PlacedWithin (sizes .free) (sizes .own) (sizes .named) (now terms) ⌝ }
     ensures { λ r. ⌜ PlacedWithin (sizes .free) (sizes .own) (sizes .named) (now (terms .exit)) ⌝ }
-    ensures { λ r. ⌜ ((h : ℕ) (constants : List ℕ) → leaf .values ≡ leafValues (storedBy sizes (now (clauses .entry)) constants) h (leaf .number) → (leaf .like < leaf .number → leafValues (storedBy sizes (now (clauses .entry)) constants) h (leaf .like) ≡ leaf .values) → After (storedBy sizes (now (clauses .entry)) constants) h (leaf .search) (leaf .number) seen (now (firsts .entry)) (now (rows .entry)) → Visited (storedBy sizes (now (clauses .entry)) constants) h (leaf .search) (leaf .number) r (now (firsts .exit)) (now (rows .exit))) ⌝ }
+    ensures { λ r. ⌜ ((h : ℕ) (constants : List ℕ) → leaf .values ≡ leafValues (storedBy sizes (now (clauses .entry)) constants) h (leaf .number) → (leaf .like < leaf .number → leafValues (storedBy sizes (now (clauses .entry)) constants) h (leaf .like) ≡ leaf .values) → After (storedBy sizes (now (clauses .entry)) constants) h (leaf .search) (leaf .number) seen (now (firsts .entry)) (now (plains .entry)) (now (rows .entry)) → Visited (storedBy sizes (now (clauses .entry)) constants) h (leaf .search) (leaf .number) r (now (firsts .exit)) (now (plains .exit)) (now (rows .exit))) ⌝ }
 {
     let number = leaf.number;
     let like = leaf.like;
     if like < number {
-        return copy_leaf(number, like, seen, firsts);
+        return copy_leaf(number, like, seen, plains);
     }
     words::set_constants(leaf.values, sizes.named, terms);
-    pass_leaf(terms, clauses, sizes, leaf, seen, firsts, rows)
+    pass_leaf(terms, clauses, sizes, leaf, seen, firsts, plains, rows)
 }
 
 // The first of the first b leaves whose values are these, or b.
-pub fn first_like(keys: &[u64; 32], values: u64, b: usize) -> usize
-    requires { ⌜ b ≤ 32 ⌝ }
+pub fn first_like(keys: &[u64; 64], values: u64, b: usize) -> usize
+    requires { ⌜ b ≤ 64 ⌝ }
     ensures { λ r. ⌜ (r ≤ b) × (r < b → getD (now (keys .entry)) r 0 ≡ values) ⌝ }
 {
     let mut i: usize = 0;
@@ -127,15 +136,16 @@ pub fn pass_leaves(
     constants: &[u64; 32],
     search: Search,
     firsts: &mut [u64; 128],
+    plains: &mut [u64; 128],
     rows: &mut [u64; 96],
 ) -> Seen
     requires { ⌜ Readable (now clauses) (sizes .counts) (sizes .free) (sizes .own) ⌝ }
     requires { ⌜ Named (sizes .counts) search × (sizes .named < 2 ^ 32) × (sizes .height ≤ 5) × ((k : ℕ) → getD (now rows) k 0 ≡ 0) ⌝ }
-    ensures { λ r. ⌜ Passed (storedBy sizes (now (clauses .entry)) (now (constants .entry))) (sizes .height) search r (now (firsts .exit)) (now (rows .exit)) ⌝ }
+    ensures { λ r. ⌜ Passed (storedBy sizes (now (clauses .entry)) (now (constants .entry))) (sizes .height) search r (now (firsts .exit)) (now (plains .exit)) (now (rows .exit)) ⌝ }
 {
     let mut terms = [0u64; 64];
     words::start_terms(sizes.free, sizes.own, &mut terms);
-    let mut keys = [0u64; 32];
+    let mut keys = [0u64; 64];
     let leaves = basics::power(sizes.height);
     let mut seen = Seen {
         met: 0,
@@ -153,8 +163,8 @@ pub fn pass_leaves(
             like,
             values,
         };
-        seen = visit(&mut terms, clauses, sizes, leaf, seen, firsts, rows);
-        if !basics::digit(seen.met, 32 + b) {
+        seen = visit(&mut terms, clauses, sizes, leaf, seen, firsts, plains, rows);
+        if !basics::digit(seen.met, 32) {
             return seen;
         }
         b += 1;

@@ -89,10 +89,10 @@ slot-lt extra e h = go (decLt e extra)
     go (no l) = rw (le-ltb e extra (omega arith)) (omega arith)
 
 module _ (o : Outline) (firsts : List ℕ) (fits : Fitting o firsts) where
-  pub leaves-le : 2 ^ o .height ≤ 32
-  leaves-le = pow-mono {j = 5} (fits .low)
+  pub leaves-le : 2 ^ o .height ≤ 64
+  leaves-le = pow-mono {j = 6} (fits .low)
 
-  pub pair-leaf-lt : (e : ℕ) → e < o .extra + o .count → pairLeaf o firsts e < 32
+  pub pair-leaf-lt : (e : ℕ) → e < o .extra + o .count → pairLeaf o firsts e < 64
   pair-leaf-lt e l = omega (arith, leaves-le, div-lt-iff-lt-mul (width-pos (o .free)) .1 (fits .entries e l))
 
 -- ---- one disequation after another gets its sub-leaf
@@ -104,16 +104,16 @@ module _ (o : Outline) (firsts : List ℕ) where
 
   -- the sub-leaves that the first e disequations take of each leaf
   abbrev pub Taken : ℕ → List ℕ → Type 0
-  Taken e taken = (b : ℕ) → b < 32 → getD taken b 0 ≡ leafCount e b
+  Taken e taken = (b : ℕ) → b < 64 → getD taken b 0 ≡ leafCount e b
 
   pub filled-none : (s c : List ℕ) → Filled o firsts 0 s c
   filled-none s c = record { sub-leaves = λ i l. absurd (omega arith); choices = λ i l. absurd (omega arith) }
 
-  pub taken-none : Taken 0 (replicate 32 0)
+  pub taken-none : Taken 0 (replicate 64 0)
   unfolding countBelow
-  taken-none b l = getD-replicate 32 b 0 0 l
+  taken-none b l = getD-replicate 64 b 0 0 l
 
-  module _ (e leaf rank : ℕ) (taken : List ℕ) (here : leaf ≡ pairLeaf o firsts e) (within : leaf < 32) (is : rank ≡ getD taken leaf 0) (t : Taken e taken) where
+  module _ (e leaf rank : ℕ) (taken : List ℕ) (here : leaf ≡ pairLeaf o firsts e) (within : leaf < 64) (is : rank ≡ getD taken leaf 0) (t : Taken e taken) where
     pub rank-le : rank ≤ e
     rank-le = omega (arith, t leaf within, count-le e (λ i. eqb (pairLeaf o firsts i) leaf))
 
@@ -121,7 +121,7 @@ module _ (o : Outline) (firsts : List ℕ) where
     unfolding countBelow
     taken-more after l q =
         rw (q, add-one e)
-        (store-law (λ b x. b < 32 → x ≡ leafCount (suc e) b) taken leaf (rank + 1) l
+        (store-law (λ b x. b < 64 → x ≡ leafCount (suc e) b) taken leaf (rank + 1) l
         (λ b n m. t b m ∙ sym (ap (λ x. leafCount e b + one x) (ne-eqb (pairLeaf o firsts e) b (λ p. n (sym p ∙ sym here))) ∙ add-zero (leafCount e b)))
         (λ m. ap (λ x. x + 1) (is ∙ t leaf m) ∙ sym (ap (λ x. leafCount e leaf + one x) (eq-eqb (pairLeaf o firsts e) leaf (sym here)))))
 
@@ -142,7 +142,7 @@ module _ (o : Outline) (firsts : List ℕ) where
 
 -- ---- a table of a problem's pairs gives the problem's plan
 
-module _ (o : Outline) (firsts : List ℕ) (R : Problem ℕ) (P : PairsOf (o .free) (o .height) R (o .extra) firsts) where
+module _ (o : Outline) (firsts leaves : List ℕ) (R : Problem ℕ) (P : PairsOf (o .free) (o .height) R (o .extra) firsts leaves) where
   leaf-is : (j : ℕ) → j < R .count → pairLeaf o firsts j ≡ leafFor (o .free) (o .height) R j
   leaf-is j l = ap (λ x. x / leafWidth (o .free)) (P .entries j l) ∙ digits-div (leafFor (o .free) (o .height) R j) (le-trans (P .within j l) (width-enough (o .free)))
 
@@ -156,7 +156,7 @@ module _ (o : Outline) (firsts : List ℕ) (R : Problem ℕ) (P : PairsOf (o .fr
       (λ i m. ap₂ eqb (leaf-is i (omega arith)) (leaf-is j l)) ∙ sym (rank-here (o .free) (o .height) R j (leafFor (o .free) (o .height) R j) refl)
 
   pub made : R .count ≡ o .extra + o .count → (plain subleaf choice : List ℕ)
-      → ((b : ℕ) → b < 2 ^ o .height → getD plain b 0 ≡ numberAt firsts (32 + b)) → Filled o firsts (o .extra + o .count) subleaf choice
+      → ((b : ℕ) → b < 2 ^ o .height → getD plain b 0 ≡ numberAt leaves b) → Filled o firsts (o .extra + o .count) subleaf choice
       → Made (o .free) (o .height) R (o .splits)
       (record { low = o .height; high = o .height + o .splits; plain = plain; count = o .extra + o .count; subleaf = subleaf; choice = choice })
   made e plain subleaf choice ps f =

@@ -24,17 +24,20 @@ slotOf extra e = cond (ltb e extra) 31 (e - extra)
 -- a table that can be planned: its numbers are of leaves and choices that there are
 pub record Fitting (o : Outline) (firsts : List ℕ) : Type 0 where
   pub variables : o .free ≤ 12
-  pub low : o .height ≤ 5
+  pub low : o .height ≤ 6
   pub splits : o .splits ≤ 5
   pub extra : o .extra ≤ 1
   pub few : o .count ≤ 31
-  pub plains : (b : ℕ) → b < 2 ^ o .height → numberAt firsts (32 + b) < 2 ^ o .free
   pub entries : (e : ℕ) → e < o .extra + o .count → numberAt firsts (slotOf (o .extra) e) < 2 ^ o .height * leafWidth (o .free)
   pub choices : (e : ℕ) → e < o .extra + o .count → numberAt firsts (slotOf (o .extra) e) % leafWidth (o .free) < 2 ^ o .free
 
--- a table stands for the pairs of a solvable problem: the least choice of each leaf, and the leaf and the choice of each disequation
-pub record PairsOf (n h : ℕ) (R : Problem ℕ) (extra : ℕ) (firsts : List ℕ) : Type 0 where
-  pub plains : (b : ℕ) → b < 2 ^ h → numberAt firsts (32 + b) ≡ plainChoice n h R b
+-- so are those of a table of leaves
+abbrev pub LeavesFit : Outline → List ℕ → Type 0
+LeavesFit o leaves = (b : ℕ) → b < 2 ^ o .height → numberAt leaves b < 2 ^ o .free
+
+-- two tables stand for the pairs of a solvable problem: the least choice of each leaf, and the leaf and the choice of each disequation
+pub record PairsOf (n h : ℕ) (R : Problem ℕ) (extra : ℕ) (firsts leaves : List ℕ) : Type 0 where
+  pub plains : (b : ℕ) → b < 2 ^ h → numberAt leaves b ≡ plainChoice n h R b
   pub entries : (e : ℕ) → e < R .count → numberAt firsts (slotOf extra e) ≡ leafFor n h R e * leafWidth n + specialChoice n h R e (leafFor n h R e)
   pub within : (e : ℕ) → e < R .count → specialChoice n h R e (leafFor n h R e) < 2 ^ n
 

@@ -10,7 +10,7 @@ ghost use Rattle.leaves.specs.Problem.{Problem};
 ghost use Rattle.guesses.specs.Guesses.{leastNumber};
 ghost use Rattle.words.specs.Choices.{wordCount};
 ghost use Rattle.words.specs.Kept.{numberAt};
-ghost use Rattle.plans.specs.Pairs.{leafWidth, slotOf, Fitting, PairsOf, Filled, Made};
+ghost use Rattle.plans.specs.Pairs.{leafWidth, slotOf, Fitting, LeavesFit, PairsOf, Filled, Made};
 
 // Which choice of values stands at each sub-leaf of a shown solution. The value of a variable is one binary digit of a choice.
 pub struct Plan {
@@ -112,7 +112,7 @@ fn are_same(a: Passing, b: Passing) -> bool
 
 // The number of a leaf's sub-leaf with this rank.
 fn sub_leaf(leaf: usize, splits: usize, rank: usize) -> u16
-    requires { ⌜ (leaf < 32) × (splits ≤ 5) × (rank ≤ 32) ⌝ }
+    requires { ⌜ (leaf < 64) × (splits ≤ 5) × (rank ≤ 32) ⌝ }
     ensures { λ r. ⌜ r ≡ leaf * 2 ^ splits + rank ⌝ }
 {
     ((leaf << splits) + rank) as u16
@@ -129,28 +129,28 @@ fn take_rank(taken: &mut [usize], leaf: usize) -> usize
 }
 
 // The least choice of leaf b: that of the leaf before it, if it has the same word.
-fn plain_at(firsts: &[u64; 128], b: usize, free: usize, plain: &[u16]) -> u16
-    requires { ⌜ (b < 32) × (free ≤ 12) × (length (now plain) ≡ 64) ⌝ }
-    requires { ⌜ (numberAt (now firsts) (32 + b) < 2 ^ free) × (0 < b → getD (now plain) (b - 1) 0 ≡ numberAt (now firsts) (31 + b)) ⌝ }
-    ensures { λ r. ⌜ r ≡ numberAt (now (firsts .entry)) (32 + b) ⌝ }
+fn plain_at(leaves: &[u64; 128], b: usize, free: usize, plain: &[u16]) -> u16
+    requires { ⌜ (b < 64) × (free ≤ 12) × (length (now plain) ≡ 64) ⌝ }
+    requires { ⌜ (numberAt (now leaves) b < 2 ^ free) × (0 < b → getD (now plain) (b - 1) 0 ≡ numberAt (now leaves) (b - 1)) ⌝ }
+    ensures { λ r. ⌜ r ≡ numberAt (now (leaves .entry)) b ⌝ }
 {
-    let kept = word_at(firsts, 32 + b);
+    let kept = word_at(leaves, b);
     if 0 < b {
-        if are_same(word_at(firsts, 31 + b), kept) {
+        if are_same(word_at(leaves, b - 1), kept) {
             return plain[b - 1];
         }
     }
     choice_of(kept, free)
 }
 
-// Puts the least choices of the leaves into the plan.
-fn fill_plain(firsts: &[u64; 128], leaves: usize, free: usize, plain: &mut [u16])
-    requires { ⌜ (leaves ≤ 32) × (free ≤ 12) × (length (now plain) ≡ 64) × ((b : ℕ) → b < leaves → numberAt (now firsts) (32 + b) < 2 ^ free) ⌝ }
-    ensures { λ _. ⌜ ((b : ℕ) → b < leaves → getD (now (plain .exit)) b 0 ≡ numberAt (now (firsts .entry)) (32 + b)) ⌝ }
+// Puts the least choices of the first `count` leaves into the plan.
+fn fill_plain(leaves: &[u64; 128], count: usize, free: usize, plain: &mut [u16])
+    requires { ⌜ (count ≤ 64) × (free ≤ 12) × (length (now plain) ≡ 64) × ((b : ℕ) → b < count → numberAt (now leaves) b < 2 ^ free) ⌝ }
+    ensures { λ _. ⌜ ((b : ℕ) → b < count → getD (now (plain .exit)) b 0 ≡ numberAt (now (leaves .entry)) b) ⌝ }
 {
     let mut b: usize = 0;
-    while b < leaves {
-        plain[b] = plain_at(firsts, b, free, plain);
+    while b < count {
+        plain[b] = plain_at(leaves, b, free, plain);
         b += 1;
     }
 }
@@ -161,7 +161,7 @@ fn fill_entries(firsts: &[u64; 128], outline: Outline, subleaf: &mut [u16], choi
     requires { ⌜ (length (now subleaf) ≡ 32) × (length (now choice) ≡ 32) ⌝ }
     ensures { λ _. ⌜ Filled outline (now (firsts .entry)) (outline .extra + outline .count) (now (subleaf .exit)) (now (choice .exit)) ⌝ }
 {
-    let mut taken = [0usize; 32];
+    let mut taken = [0usize; 64];
     let mut e: usize = 0;
     while e < outline.extra + outline.count {
         let kept = word_at(firsts, slot_of(outline.extra, e));
@@ -173,16 +173,16 @@ fn fill_entries(firsts: &[u64; 128], outline: Outline, subleaf: &mut [u16], choi
     }
 }
 
-// The plan of the solution that a table of first words holds.
-pub fn plan_of(firsts: &[u64; 128], outline: Outline) -> Plan
-    requires { ⌜ Fitting outline (now firsts) ⌝ }
-    ensures { λ r. ⌜ ((R : Problem ℕ) → R .count ≡ outline .extra + outline .count → PairsOf (outline .free) (outline .height) R (outline .extra) (now (firsts .entry)) → Made (outline .free) (outline .height) R (outline .splits) r) ⌝ }
+// The plan of the solution that a table of first words and one of the leaves' least words hold.
+pub fn plan_of(firsts: &[u64; 128], leaves: &[u64; 128], outline: Outline) -> Plan
+    requires { ⌜ Fitting outline (now firsts) × LeavesFit outline (now leaves) ⌝ }
+    ensures { λ r. ⌜ ((R : Problem ℕ) → R .count ≡ outline .extra + outline .count → PairsOf (outline .free) (outline .height) R (outline .extra) (now (firsts .entry)) (now (leaves .entry)) → Made (outline .free) (outline .height) R (outline .splits) r) ⌝ }
 {
     let mut plain = [0u16; 64];
     let mut subleaf = [0u16; 32];
     let mut choice = [0u16; 32];
     fill_plain(
-        firsts,
+        leaves,
         basics::power(outline.height),
         outline.free,
         &mut plain,

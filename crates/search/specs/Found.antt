@@ -26,21 +26,21 @@ abbrev pub lowestMissedIn : Stored → ℕ → ℕ
 lowestMissedIn S h = firstBelow (getD (S .counts) 3 0) (λ j. solvableIn S h (Missed j))
 
 -- after a pass: every leaf has found a choice, and each of the first system's disequations a pair
-abbrev pub allFound : ℕ → ℕ → ℕ → Bool
-allFound h count met = everyBelow (2 ^ h) (λ b. bit met (32 + b)) && everyBelow count (bit met)
+abbrev pub allFound : ℕ → ℕ → Bool
+allFound count met = bit met 32 && everyBelow count (bit met)
 
 -- a search: whether its problem is solvable, and then the first words of its solution
-pub record SolvedAs (S : Stored) (h : ℕ) (search : Search) (found : Bool) (firsts : List ℕ) : Type 0 where
+pub record SolvedAs (S : Stored) (h : ℕ) (search : Search) (found : Bool) (firsts leaves : List ℕ) : Type 0 where
   pub found-is : found ≡ solvableIn S h search
-  pub pairs-are : T found → PairsOf (S .free) h (testsOf S h search) (extraOf search) firsts
+  pub pairs-are : T found → PairsOf (S .free) h (testsOf S h search) (extraOf search) firsts leaves
 
 -- a survey of an entailment: whether the first system has a solution; if so, whether some solution leaves the second's positive clauses unmet, and the
 -- first words of one; if none does, the lowest disequation of the second that some solution misses. Where it is not asked for, `unmet` is false and `missed`
 -- their count
-pub record SurveyedAs (S : Stored) (h : ℕ) (r : Survey) (firsts : List ℕ) : Type 0 where
+pub record SurveyedAs (S : Stored) (h : ℕ) (r : Survey) (firsts leaves : List ℕ) : Type 0 where
   pub solvable-is : r .solvable ≡ solvableIn S h First
   pub unmet-is : T (r .solvable) → r .unmet ≡ solvableIn S h Unmet
-  pub pairs-are : T (r .solvable) → T (r .unmet) → PairsOf (S .free) h (testsOf S h Unmet) (extraOf Unmet) firsts
+  pub pairs-are : T (r .solvable) → T (r .unmet) → PairsOf (S .free) h (testsOf S h Unmet) (extraOf Unmet) firsts leaves
   pub missed-is : T (r .solvable) → T (not (r .unmet)) → r .missed ≡ lowestMissedIn S h
   pub unmet-else : T (not (r .solvable)) → r .unmet ≡ false
   pub missed-else : T (not (r .solvable && not (r .unmet))) → r .missed ≡ getD (S .counts) 3 0

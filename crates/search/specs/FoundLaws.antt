@@ -121,27 +121,27 @@ module _ (S : Stored) (h : ℕ) where
     rw at (entry-pair p met firsts slot E t ∙ sym (first-ext pairCount (pairAt (S .free) (testsOf S h search) e) p (λ u l. same u))),
   )
 
-  module _ (search : Search) (seen : Seen) (firsts rows : List ℕ) (P : Passed S h search seen firsts rows) where
-    all-found : allFound h (getD (S .counts) 1 0) (seen .met) ≡ (leavesAllow search && everyBelow (getD (S .counts) 1 0) (pairMeets search))
+  module _ (search : Search) (seen : Seen) (firsts leaves rows : List ℕ) (P : Passed S h search seen firsts leaves rows) where
+    all-found : allFound (getD (S .counts) 1 0) (seen .met) ≡ (leavesAllow search && everyBelow (getD (S .counts) 1 0) (pairMeets search))
     all-found =
         and-same _ _ _ _ (P .all) (λ t. every-ext (getD (S .counts) 1 0) _ _ (λ i l. entry-found _ _ _ _ (P .after t .entries i l)))
 
-    module _ (t : T (allFound h (getD (S .counts) 1 0) (seen .met))) where
-      after : After S h search (2 ^ h) seen firsts rows
-      after = P .after (and-left (everyBelow (2 ^ h) (λ b. bit (seen .met) (32 + b))) (everyBelow (getD (S .counts) 1 0) (bit (seen .met))) t)
+    module _ (t : T (allFound (getD (S .counts) 1 0) (seen .met))) where
+      after : After S h search (2 ^ h) seen firsts leaves rows
+      after = P .after (and-left (bit (seen .met) 32) (everyBelow (getD (S .counts) 1 0) (bit (seen .met))) t)
 
       stored-has : (i : ℕ) → i < getD (S .counts) 1 0 → HasPair search firsts (extraOf search + i)
       stored-has i l =
           has-pair search (onPairs S h (meetsHere S search i)) (seen .met) firsts i (extraOf search + i) (after .entries i l) slot (stored-pair search i)
-          (every-at (getD (S .counts) 1 0) (bit (seen .met)) (and-right (everyBelow (2 ^ h) (λ b. bit (seen .met) (32 + b))) (everyBelow (getD (S .counts) 1 0) (bit (seen .met))) t) i l)
+          (every-at (getD (S .counts) 1 0) (bit (seen .met)) (and-right (bit (seen .met) 32) (everyBelow (getD (S .counts) 1 0) (bit (seen .met))) t) i l)
         where
           slot : slotOf (extraOf search) (extraOf search + i) ≡ i
           slot = rw (le-ltb (extraOf search + i) (extraOf search) (omega arith)) (omega arith)
 
       -- with pairs of the extra disequations too, the table is that of the problem
-      all-pairs : ((e : ℕ) → e < extraOf search → HasPair search firsts e) → PairsOf (S .free) h (testsOf S h search) (extraOf search) firsts
+      all-pairs : ((e : ℕ) → e < extraOf search → HasPair search firsts e) → PairsOf (S .free) h (testsOf S h search) (extraOf search) firsts leaves
       all-pairs extra =
-          pairs-of (S .free) h (testsOf S h search) (tests-periodic S h search) (extraOf search) firsts (after .plains)
+          pairs-of (S .free) h (testsOf S h search) (tests-periodic S h search) (extraOf search) firsts leaves (after .least)
           (λ e l. entry e l (decLt e (extraOf search)))
         where
           entry : (e : ℕ) → e < extraOf search + getD (S .counts) 1 0 → Dec (e < extraOf search) → HasPair search firsts e
@@ -151,7 +151,7 @@ module _ (S : Stored) (h : ℕ) where
               subst (HasPair search firsts) q (stored-has (e - extraOf search) (omega arith))
 
     -- a search without an extra disequation
-    pub solved : extraOf search ≡ 0 → SolvedAs S h search (allFound h (getD (S .counts) 1 0) (seen .met)) firsts
+    pub solved : extraOf search ≡ 0 → SolvedAs S h search (allFound (getD (S .counts) 1 0) (seen .met)) firsts leaves
     solved q = record {
       found-is = all-found ∙ sym (solvable-plain search q);
       pairs-are = λ t. all-pairs t (λ e l. absurd (omega arith));
@@ -159,18 +159,18 @@ module _ (S : Stored) (h : ℕ) where
 
   -- ---- after a pass for an unmet choice
 
-  module _ (seen : Seen) (firsts rows : List ℕ) (P : Passed S h Unmet seen firsts rows) where
+  module _ (seen : Seen) (firsts leaves rows : List ℕ) (P : Passed S h Unmet seen firsts leaves rows) where
     -- the same leaves and stored disequations as in a search of the first system
-    first-solvable : allFound h (getD (S .counts) 1 0) (seen .met) ≡ solvableIn S h First
-    first-solvable = all-found Unmet seen firsts rows P ∙ sym (solvable-plain First refl)
+    first-solvable : allFound (getD (S .counts) 1 0) (seen .met) ≡ solvableIn S h First
+    first-solvable = all-found Unmet seen firsts leaves rows P ∙ sym (solvable-plain First refl)
 
-    module _ (t : T (allFound h (getD (S .counts) 1 0) (seen .met))) where
-      at-end : After S h Unmet (2 ^ h) seen firsts rows
-      at-end = after Unmet seen firsts rows P t
+    module _ (t : T (allFound (getD (S .counts) 1 0) (seen .met))) where
+      at-end : After S h Unmet (2 ^ h) seen firsts leaves rows
+      at-end = after Unmet seen firsts leaves rows P t
 
       unmet-solvable : bit (seen .met) 31 ≡ solvableIn S h Unmet
       unmet-solvable =
-          let all : (leavesAllow First && everyBelow (getD (S .counts) 1 0) (pairMeets First)) ≡ true = sym (all-found Unmet seen firsts rows P) ∙ is-true _ t in
+          let all : (leavesAllow First && everyBelow (getD (S .counts) 1 0) (pairMeets First)) ≡ true = sym (all-found Unmet seen firsts leaves rows P) ∙ is-true _ t in
           entry-found _ _ _ _ (at-end .unmet refl) ∙ sym (solvable-unmet ∙ within (leavesAllow First) pairUnmet _ all)
         where
           within : (a b c : Bool) → (a && c) ≡ true → (a && (b && c)) ≡ b
@@ -178,8 +178,8 @@ module _ (S : Stored) (h : ℕ) where
           within true false c e = refl
           within false b c e = absurd (false≢true e)
 
-      unmet-pairs : T (bit (seen .met) 31) → PairsOf (S .free) h (testsOf S h Unmet) (extraOf Unmet) firsts
-      unmet-pairs u = all-pairs Unmet seen firsts rows P t (λ e l. let q : 0 ≡ e = omega arith in subst (HasPair Unmet firsts) q first)
+      unmet-pairs : T (bit (seen .met) 31) → PairsOf (S .free) h (testsOf S h Unmet) (extraOf Unmet) firsts leaves
+      unmet-pairs u = all-pairs Unmet seen firsts leaves rows P t (λ e l. let q : 0 ≡ e = omega arith in subst (HasPair Unmet firsts) q first)
         where
           first : HasPair Unmet firsts 0
           first = has-pair Unmet (onPairs S h (unmetHere S)) (seen .met) firsts 31 0 (at-end .unmet refl) refl unmet-pair u
@@ -197,8 +197,8 @@ module _ (S : Stored) (h : ℕ) where
 
     -- ---- the three outcomes of a survey
 
-    pub surveyed-none : allFound h (getD (S .counts) 1 0) (seen .met) ≡ false
-        → SurveyedAs S h (record { solvable = false; unmet = false; missed = getD (S .counts) 3 0 }) firsts
+    pub surveyed-none : allFound (getD (S .counts) 1 0) (seen .met) ≡ false
+        → SurveyedAs S h (record { solvable = false; unmet = false; missed = getD (S .counts) 3 0 }) firsts leaves
     surveyed-none e = record {
       solvable-is = sym e ∙ first-solvable;
       unmet-is = λ t. absurd t;
@@ -208,8 +208,8 @@ module _ (S : Stored) (h : ℕ) where
       missed-else = λ t. refl;
     }
 
-    pub surveyed-unmet : allFound h (getD (S .counts) 1 0) (seen .met) ≡ true → bit (seen .met) 31 ≡ true
-        → SurveyedAs S h (record { solvable = true; unmet = true; missed = getD (S .counts) 3 0 }) firsts
+    pub surveyed-unmet : allFound (getD (S .counts) 1 0) (seen .met) ≡ true → bit (seen .met) 31 ≡ true
+        → SurveyedAs S h (record { solvable = true; unmet = true; missed = getD (S .counts) 3 0 }) firsts leaves
     surveyed-unmet e u = record {
       solvable-is = sym e ∙ first-solvable;
       unmet-is = λ t. sym u ∙ unmet-solvable (of-true e);
@@ -219,9 +219,9 @@ module _ (S : Stored) (h : ℕ) where
       missed-else = λ t. refl;
     }
 
-    pub surveyed-missed : (lowest : ℕ) → allFound h (getD (S .counts) 1 0) (seen .met) ≡ true → bit (seen .met) 31 ≡ false
+    pub surveyed-missed : (lowest : ℕ) → allFound (getD (S .counts) 1 0) (seen .met) ≡ true → bit (seen .met) 31 ≡ false
         → lowest ≡ firstBelow (getD (S .counts) 3 0) (isMissed (seen .possible) rows (getD (S .counts) 1 0))
-        → SurveyedAs S h (record { solvable = true; unmet = false; missed = lowest }) firsts
+        → SurveyedAs S h (record { solvable = true; unmet = false; missed = lowest }) firsts leaves
     surveyed-missed lowest e u q = record {
       solvable-is = sym e ∙ first-solvable;
       unmet-is = λ t. sym u ∙ unmet-solvable (of-true e);

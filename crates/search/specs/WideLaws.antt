@@ -89,12 +89,12 @@ module _ (n h : ℕ) (R : Problem ℕ) (P : PeriodicIn n R) where
         first-passes (2 ^ n) (bothAt R e (leafFor n h R e)) z l v .0
 
   -- a table of first choices and first pairs
-  pub pairs-of : (extra : ℕ) (firsts : List ℕ)
-      → ((b : ℕ) → b < 2 ^ h → T (someBelow (leafWidth n) (R .pos b)) × (numberAt firsts (32 + b) ≡ firstBelow (leafWidth n) (R .pos b)))
+  pub pairs-of : (extra : ℕ) (firsts leaves : List ℕ)
+      → ((b : ℕ) → b < 2 ^ h → T (someBelow (leafWidth n) (R .pos b)) × (numberAt leaves b ≡ firstBelow (leafWidth n) (R .pos b)))
       → ((e : ℕ) → e < R .count → T (someBelow (2 ^ h * leafWidth n) (pairAt n R e))
       × (numberAt firsts (slotOf extra e) ≡ firstBelow (2 ^ h * leafWidth n) (pairAt n R e)))
-      → PairsOf n h R extra firsts
-  pairs-of extra firsts plains entries = record {
+      → PairsOf n h R extra firsts leaves
+  pairs-of extra firsts leaves plains entries = record {
     plains = λ b l. plains b l .1 ∙ plain-first b (plains b l .0);
     entries = λ e l. entries e l .1 ∙ pair-first e (entries e l .0);
     within = λ e l. pair-within e (entries e l .0);

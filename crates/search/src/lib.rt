@@ -27,20 +27,12 @@ fn all_set(x: u64, count: usize) -> bool
     count <= words::lowest(!x)
 }
 
-// Whether each of 2^height leaves has found a choice: leaf b has bit 32 + b.
-fn all_leaves(met: u64, height: usize) -> bool
-    requires { ⌜ height ≤ 5 ⌝ }
-    ensures { λ r. ⌜ r ≡ everyBelow (2 ^ height) (λ b. bit met (32 + b)) ⌝ }
+// Whether every leaf has found a choice, bit 32, and each of the first system's disequations a pair.
+fn all_found(met: u64, count: usize) -> bool
+    requires { ⌜ count ≤ 32 ⌝ }
+    ensures { λ r. ⌜ r ≡ allFound count met ⌝ }
 {
-    all_set(met >> 32, 1 << height)
-}
-
-// Whether each leaf has found a choice, and each of the first system's disequations a pair.
-fn all_found(met: u64, height: usize, count: usize) -> bool
-    requires { ⌜ (height ≤ 5) × (count ≤ 32) ⌝ }
-    ensures { λ r. ⌜ r ≡ allFound height count met ⌝ }
-{
-    all_leaves(met, height) && all_set(met, count)
+    basics::digit(met, 32) && all_set(met, count)
 }
 
 // Whether disequation j of the second system is possible, and each of the first system's is met with it.
@@ -73,14 +65,15 @@ pub fn solve(
     constants: &[u64; 32],
     search: Search,
     firsts: &mut [u64; 128],
+    leaves: &mut [u64; 128],
 ) -> bool
     requires { ⌜ Readable (now clauses) (sizes .counts) (sizes .free) (sizes .own) ⌝ }
     requires { ⌜ Named (sizes .counts) search × (sizes .named < 2 ^ 32) × (sizes .height ≤ 5) × (extraOf search ≡ 0) ⌝ }
-    ensures { λ r. ⌜ SolvedAs (storedBy sizes (now (clauses .entry)) (now (constants .entry))) (sizes .height) search r (now (firsts .exit)) ⌝ }
+    ensures { λ r. ⌜ SolvedAs (storedBy sizes (now (clauses .entry)) (now (constants .entry))) (sizes .height) search r (now (firsts .exit)) (now (leaves .exit)) ⌝ }
 {
     let mut rows = [0u64; 96];
-    let seen = pass::pass_leaves(clauses, sizes, constants, search, firsts, &mut rows);
-    all_found(seen.met, sizes.height, sizes.counts[1])
+    let seen = pass::pass_leaves(clauses, sizes, constants, search, firsts, leaves, &mut rows);
+    all_found(seen.met, sizes.counts[1])
 }
 
 // Surveys an entailment, with the first words of a solution that has an unmet choice, if there is one. Where the first system has no solution `unmet` is false,
@@ -90,15 +83,24 @@ pub fn survey_leaves(
     sizes: Sizes,
     constants: &[u64; 32],
     firsts: &mut [u64; 128],
+    leaves: &mut [u64; 128],
 ) -> Survey
     requires { ⌜ Readable (now clauses) (sizes .counts) (sizes .free) (sizes .own) ⌝ }
     requires { ⌜ (sizes .named < 2 ^ 32) × (sizes .height ≤ 5) ⌝ }
-    ensures { λ r. ⌜ SurveyedAs (storedBy sizes (now (clauses .entry)) (now (constants .entry))) (sizes .height) r (now (firsts .exit)) ⌝ }
+    ensures { λ r. ⌜ SurveyedAs (storedBy sizes (now (clauses .entry)) (now (constants .entry))) (sizes .height) r (now (firsts .exit)) (now (leaves .exit)) ⌝ }
 {
     let second_count = sizes.counts[3];
     let mut rows = [0u64; 96];
-    let seen = pass::pass_leaves(clauses, sizes, constants, Search::Unmet, firsts, &mut rows);
-    if !all_found(seen.met, sizes.height, sizes.counts[1]) {
+    let seen = pass::pass_leaves(
+        clauses,
+        sizes,
+        constants,
+        Search::Unmet,
+        firsts,
+        leaves,
+        &mut rows,
+    );
+    if !all_found(seen.met, sizes.counts[1]) {
         return Survey {
             solvable: false,
             unmet: false,

@@ -23,7 +23,7 @@ use Rattle.entries.specs.EntryLaws.{some-word, entry-none, entry-same}
 use Rattle.plans.specs.Pairs.{leafWidth}
 use Rattle.plans.specs.PairLaws.{number-leaf, number-choice}
 use Rattle.steps.specs.Tests.{leafValues, firstMeets, firstDiffers, secondMeets, secondDiffers, allowedIn}
-use Rattle.steps.specs.Steps.{storedBy, onPairs, meetsHere, unmetHere, Second, Amid, OthersKept}
+use Rattle.steps.specs.Steps.{storedBy, onPairs, meetsHere, unmetHere, Second, Amid}
 use Rattle.steps.specs.TestLaws.{differs-bits}
 use Rattle.steps.specs.declared.Search.{Search}
 use Rattle.steps.specs.declared.Search.the-variants.{First, Unmet, Missed}
@@ -88,7 +88,7 @@ module _ (sizes : Sizes) (clauses constants : List ℕ) (h b w : ℕ) (search : 
 
     pub amid-none : Amid S h search b (w + 1) seen firsts rows′
     amid-none = record {
-      plain = entry-none (allowedIn S search values) w (seen .met) firsts (32 + b) none (A .plain);
+      plain = entry-none (allowedIn S search values) w (seen .met) firsts 32 none (A .plain);
       entries = λ i m.
           entry-next _ _ _ i
           (entry-none (onPairs S h (meetsHere S search i)) turn (seen .met) firsts i
@@ -109,10 +109,10 @@ module _ (sizes : Sizes) (clauses constants : List ℕ) (h b w : ℕ) (search : 
 
   -- ---- some are
 
-  module _ (R : Readable clauses (sizes .counts) (sizes .free) (sizes .own)) (small : b < 32) (terms : List ℕ)
+  module _ (R : Readable clauses (sizes .counts) (sizes .free) (sizes .own)) (terms : List ℕ)
       (table : Terms (sizes .free) (sizes .own) values w terms)
       (x : ℕ) (bits : (k : ℕ) → k < 64 → bit x k ≡ allowedIn S search values (64 * w + k))
-      (met₁ : ℕ) (firsts₁ : List ℕ) (K : Kept (32 + b) w (bit x) (seen .met) firsts met₁ firsts₁)
+      (met₁ : ℕ) (firsts₁ : List ℕ) (K : Kept 32 w (bit x) (seen .met) firsts met₁ firsts₁)
       (met₂ : ℕ) (firsts₂ : List ℕ)
       (L : KeptAll (getD (sizes .counts) 1 0) turn (λ i k. bit x k && not (clauseTest clauses (λ t. bit (getD terms t 0) k) (256 + 4 * i))) met₁ firsts₁ met₂ firsts₂) where
     -- the choices of a disequation
@@ -121,9 +121,9 @@ module _ (sizes : Sizes) (clauses constants : List ℕ) (h b w : ℕ) (search : 
     meeting i m k u =
         ap₂ _&&_ (bits k u) (differs-bits sizes clauses R values w terms table i m k u) ∙ sym (on-pairs S h b w k (meetsHere S search i) l u)
 
-    pub plain-after : Entry (allowedIn S search values) (w + 1) met₂ firsts₂ (32 + b)
+    pub plain-after : Entry (allowedIn S search values) (w + 1) met₂ firsts₂ 32
     plain-after =
-        entry-same _ _ _ _ _ _ (32 + b) (L .met-kept (32 + b) (omega (arith, R .few))) (L .firsts-kept (32 + b) (omega (arith, R .few)))
+        entry-same _ _ _ _ _ _ 32 (L .met-kept 32 (omega (arith, R .few))) (L .firsts-kept 32 (omega (arith, R .few)))
         (K .entry (allowedIn S search values) bits (A .plain))
 
     pub entries-after : (i : ℕ) → i < getD (sizes .counts) 1 0 → Entry (onPairs S h (meetsHere S search i)) (b * wordCount (sizes .free) + (w + 1)) met₂ firsts₂ i
@@ -161,7 +161,7 @@ module _ (sizes : Sizes) (clauses constants : List ℕ) (h b w : ℕ) (search : 
 
       pub amid-second : Amid S h search b (w + 1) seen₃ firsts₃ rows₃
       amid-second = record {
-        plain = entry-same _ _ _ _ _ _ (32 + b) (met-kept (32 + b) (λ q. omega arith)) (firsts-kept (32 + b) (λ q. omega arith)) plain-after;
+        plain = entry-same _ _ _ _ _ _ 32 (met-kept 32 (λ q. omega arith)) (firsts-kept 32 (λ q. omega arith)) plain-after;
         entries = λ i m. entry-same _ _ _ _ _ _ i (met-kept i (λ q. omega (arith, R .few))) (firsts-kept i (λ q. omega (arith, R .few))) (entries-after i m);
         unmet = λ q.
             entry-next _ _ _ 31 (Q .unmet (onPairs S h (unmetHere S)) (λ k u. sym (on-pairs S h b w k (unmetHere S) l u)) (unmet-apart q));
@@ -177,28 +177,8 @@ module _ (sizes : Sizes) (clauses constants : List ℕ) (h b w : ℕ) (search : 
             ∙ ap (λ t. someBelow (64 * t) (onPairs S h (meetsHere S (Missed j) i))) (next (wordCount (sizes .free)) b w);
       }
 
--- ---- the other leaves
-
-pub others-kept : (b w t x count : ℕ) (word : ℕ → ℕ → Bool) (seen : Seen) (firsts : List ℕ) (met₁ : ℕ) (firsts₁ : List ℕ) (met₂ : ℕ) (firsts₂ : List ℕ) → count ≤ 31
-    → Kept (32 + b) w (bit x) (seen .met) firsts met₁ firsts₁ → KeptAll count t word met₁ firsts₁ met₂ firsts₂
-    → OthersKept b seen firsts (record { met = met₂; possible = seen .possible; here = seen .here }) firsts₂
-others-kept b w t x count word seen firsts met₁ firsts₁ met₂ firsts₂ few K L = record {
-  possible-kept = refl;
-  met-kept = λ k m n. L .met-kept k (omega arith) ∙ K .met-kept k n;
-  firsts-kept = λ k m n. L .firsts-kept k (omega arith) ∙ K .firsts-kept k n;
-}
-
-pub others-second : (b : ℕ) (seen : Seen) (firsts : List ℕ) (seen₂ : Seen) (firsts₂ : List ℕ) (seen₃ : Seen) (firsts₃ : List ℕ) → OthersKept b seen firsts seen₂ firsts₂
-    → seen₃ .possible ≡ seen₂ .possible → ((k : ℕ) → (k ≡ 31 → ⊥) → bit (seen₃ .met) k ≡ bit (seen₂ .met) k)
-    → ((k : ℕ) → (k ≡ 31 → ⊥) → numberAt firsts₃ k ≡ numberAt firsts₂ k) → OthersKept b seen firsts seen₃ firsts₃
-others-second b seen firsts seen₂ firsts₂ seen₃ firsts₃ O e met-kept firsts-kept = record {
-  possible-kept = e ∙ O .possible-kept;
-  met-kept = λ k m n. met-kept k (λ q. omega arith) ∙ O .met-kept k m n;
-  firsts-kept = λ k m n. firsts-kept k (λ q. omega arith) ∙ O .firsts-kept k m n;
-}
-
 -- ---- numbers
 
--- there are at most 2,048 words
-pub turn-lt : (n b w : ℕ) → n ≤ 12 → b < 32 → w < wordCount n → b * wordCount n + w < 2048
+-- there are at most 4,096 words
+pub turn-lt : (n b w : ℕ) → n ≤ 12 → b < 64 → w < wordCount n → b * wordCount n + w < 4096
 turn-lt n b w h l m = omega (arith, digits-lt l m, words-le n h)

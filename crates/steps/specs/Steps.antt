@@ -54,8 +54,8 @@ unmetHere S values z = firstMeets S values z && not (secondMeets S values z)
 -- ---- in the middle of leaf b, after its first w words
 
 pub record Amid (S : Stored) (h : ℕ) (search : Search) (b w : ℕ) (seen : Seen) (firsts rows : List ℕ) : Type 0 where
-  -- the least choice of the leaf
-  pub plain : Entry (allowedIn S search (leafValues S h b)) w (seen .met) firsts (32 + b)
+  -- the least choice of the leaf, in entry 32
+  pub plain : Entry (allowedIn S search (leafValues S h b)) w (seen .met) firsts 32
   -- the least pair of each disequation of the first system, and of an unmet choice
   pub entries : (i : ℕ) → i < getD (S .counts) 1 0 → Entry (onPairs S h (meetsHere S search i)) (b * wordCount (S .free) + w) (seen .met) firsts i
   pub unmet : search ≡ Unmet → Entry (onPairs S h (unmetHere S)) (b * wordCount (S .free) + w) (seen .met) firsts 31
@@ -76,9 +76,3 @@ pub record Second (S : Stored) (values : ℕ) (at : Allowed) (seen : Seen) (firs
       → bit (seen′ .here) j ≡ (bit (seen .here) j || someBelow 64 (λ i. allowedIn S (Missed j) values (64 * at .word + i)))
   pub marks : T (not (bit (seen′ .met) 31)) → (j : ℕ) → j < getD (S .counts) 3 0 → T (bit (seen .possible) j) → (i : ℕ) → i < getD (S .counts) 1 0
       → bit (getD rows′ (64 + j) 0) i ≡ (bit (getD rows (64 + j) 0) i || someBelow 64 (λ k. meetsHere S (Missed j) i values (64 * at .word + k)))
-
--- what is possible is as it was, and so is everything about the leaves other than b
-pub record OthersKept (b : ℕ) (seen : Seen) (firsts : List ℕ) (seen′ : Seen) (firsts′ : List ℕ) : Type 0 where
-  pub possible-kept : seen′ .possible ≡ seen .possible
-  pub met-kept : (k : ℕ) → 32 ≤ k → (k ≡ 32 + b → ⊥) → bit (seen′ .met) k ≡ bit (seen .met) k
-  pub firsts-kept : (k : ℕ) → 32 ≤ k → (k ≡ 32 + b → ⊥) → numberAt firsts′ k ≡ numberAt firsts k

@@ -11,7 +11,7 @@ ghost use Rattle.words.specs.Kept.{numberAt};
 ghost use Rattle.words.specs.Table.{Terms};
 ghost use Rattle.beside.specs.Beside.{SameFree, Readable};
 ghost use Rattle.steps.specs.Tests.{leafValues, firstMeets, allowedIn, Named};
-ghost use Rattle.steps.specs.Steps.{storedBy, Tabled, Amid, OthersKept, Second};
+ghost use Rattle.steps.specs.Steps.{storedBy, Tabled, Amid, Second};
 
 // What is searched for.
 pub enum Search {
@@ -25,7 +25,7 @@ pub enum Search {
 
 // What a pass has seen.
 pub struct Seen {
-    // which searches have found a choice: bit i for disequation i of the first system, bit 31 for an unmet choice, bit 32 + b for leaf b
+    // which searches have found a choice: bit i for disequation i of the first system, bit 31 for an unmet choice, bit 32 for the least of this leaf
     pub met: u64,
     // which disequations of the second system every leaf so far has a choice that misses
     pub possible: u64,
@@ -160,10 +160,10 @@ pub fn pass_word(
     rows: &mut [u64; 96],
 ) -> Seen
     requires { ⌜ Readable (now clauses) (sizes .counts) (sizes .free) (sizes .own) ⌝ }
-    requires { ⌜ Named (sizes .counts) (spot .search) × (spot .leaf < 32) × (spot .word < wordCount (sizes .free)) × Tabled (sizes .free) (sizes .own) (spot .word) (now terms) ⌝ }
+    requires { ⌜ Named (sizes .counts) (spot .search) × (spot .leaf < 64) × (spot .word < wordCount (sizes .free)) × Tabled (sizes .free) (sizes .own) (spot .word) (now terms) ⌝ }
     ensures { λ r. ⌜ ((values : ℕ) → Terms (sizes .free) (sizes .own) values (spot .word) (now (terms .entry)) → Terms (sizes .free) (sizes .own) values (spot .word) (now (terms .exit))) ⌝ }
     ensures { λ r. ⌜ ((h : ℕ) (constants : List ℕ) → Terms (sizes .free) (sizes .own) (leafValues (storedBy sizes (now (clauses .entry)) constants) h (spot .leaf)) (spot .word) (now (terms .entry)) → Amid (storedBy sizes (now (clauses .entry)) constants) h (spot .search) (spot .leaf) (spot .word) seen (now (firsts .entry)) (now (rows .entry)) → Amid (storedBy sizes (now (clauses .entry)) constants) h (spot .search) (spot .leaf) (spot .word + 1) r (now (firsts .exit)) (now (rows .exit))) ⌝ }
-    ensures { λ r. ⌜ OthersKept (spot .leaf) seen (now (firsts .entry)) r (now (firsts .exit)) ⌝ }
+    ensures { λ r. ⌜ r .possible ≡ seen .possible ⌝ }
 {
     let search = spot.search;
     let x = allowed_word(terms, clauses, sizes, search, spot.word, rows);
@@ -171,7 +171,7 @@ pub fn pass_word(
         return seen;
     }
     let turn = spot.leaf * words::word_count(sizes.free) + spot.word;
-    let least = entries::keep_word(32 + spot.leaf, spot.word, x, seen.met, firsts);
+    let least = entries::keep_word(32, spot.word, x, seen.met, firsts);
     let met = entries::keep_all(terms, clauses, sizes.counts[1], turn, x, least, firsts);
     let kept = Seen {
         met,

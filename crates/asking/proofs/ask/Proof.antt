@@ -60,13 +60,13 @@ sizes-of-requires c κs = let T = taken (c .before .before .before) in (refl, (T
 
 decide-requires : tie.Need-decide-requires
 decide-requires c κs =
-    let sized = c .before .before .before .before .before in
+    let sized = c .before .before .before .before .before .before in
     let T = taken (sized .before .before .before .before) in
     ((T .question, T .stands, T .formed), sized .sizes-of .ensures, refl)
 
 show-solution-requires : tie.Need-show-solution-requires
 show-solution-requires c κs =
-    let sized = c .before .before .before .before .before .before .before .before in
+    let sized = c .before .before .before .before .before .before .before .before .before .before in
     let passed = sized .before .before .before .before in
     let T = taken passed in (
       passed .before .if2 .left,
@@ -74,7 +74,7 @@ show-solution-requires c κs =
         T .question,
         record {
           sizing = record { question = passed .before .before .before .read .result .question; standing = record { clauses = _; stands = T .stands }; sized = sized .sizes-of .ensures };
-          decided = c .before .before .decide .ensures (T .question) (T .stands) (T .formed);
+          decided = c .before .before .before .decide .ensures (T .question) (T .stands) (T .formed);
         },
       ),
     )
@@ -84,7 +84,7 @@ clear-work-requires c κs = search needs
 
 found-requires : tie.Need-found-requires
 found-requires c κs =
-    let sizes = c .before .before .before .before .before .before .before .before .before .before .before .before .before .before .before in
+    let sizes = c .before .before .before .before .before .before .before .before .before .before .before .before .before .before .before .before .before in
     let passed = sizes .before .before .before .before in
     let T = taken passed in
     (T .question, record { question = passed .before .before .before .read .result .question; standing = record { clauses = _; stands = T .stands }; sized = sizes .sizes-of .ensures })
@@ -98,13 +98,13 @@ same-length-2 c = search needs
 returns-4 : tie.Need-returns-4
 returns-4 c =
     let shown = c .before .before .before .before .before .before .before in
-    let found = shown .before .before .before in
-    let sized = found .before .before .before .before .before .before in
+    let found = shown .before .before .before .before in
+    let sized = found .before .before .before .before .before .before .before in
     let passed = sized .before .before .before .before in
     let start = passed .before .before .before .before .before .before .before .before .args in
     let T = taken passed in
     given-answer (start .question .now) (start .answer .now) (start .work .now) _ _ T
-    (rw (levels-are _ _ (T .stands)) (passed .before .if2 .left)) (passed .if3 .left) _ _ _
+    (rw (levels-are _ _ (T .stands)) (passed .before .if2 .left)) (passed .if3 .left) _ _ _ _
     (record {
       sizing = record { question = passed .before .before .before .read .result .question; standing = record { clauses = _; stands = T .stands }; sized = sized .sizes-of .ensures };
       decided = found .decide .ensures (T .question) (T .stands) (T .formed);

@@ -28,12 +28,12 @@ returns c =
     let plan = c .before .before .before .before in
     λ q D.
     c .before .before .write-rows .ensures
-    ∙ answer-shown q _ _ _ (D .decided) _ (levels-are _ _ (D .sizing .standing .stands))
+    ∙ answer-shown q _ _ _ _ (D .decided) _ (levels-are _ _ (D .sizing .standing .stands))
     (sym (plan .before .before .is-shown .ensures) ∙ plan .before .if1 .taken) _ (plan .plan .ensures q D) _
     (ap (λ s. s .free) (D .sizing .sized) ∙ D .sizing .standing .stands .free) _
 
 returns-2 : tie.Need-returns-2
-returns-2 c = λ q D. answer-kept q _ _ _ (D .decided) (sym (c .before .is-shown .ensures) ∙ c .if1 .left) _
+returns-2 c = λ q D. answer-kept q _ _ _ _ (D .decided) (sym (c .before .is-shown .ensures) ∙ c .if1 .left) _
 
 pub show-solution-spec : {M : Type 1} → statement M
 show-solution-spec =

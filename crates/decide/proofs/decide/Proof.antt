@@ -15,20 +15,20 @@ searchable s =
     rw (s .pre .1) (readable _ q St, named-lt _ q St, omega (arith, question-low _ q St, height-is _ q St))
 
 decide-satisfiability-requires : tie.Need-decide-satisfiability-requires
-decide-satisfiability-requires c κs = searchable (c .before .before .before)
+decide-satisfiability-requires c κs = searchable (c .before .before .before .before)
 
 returns : tie.Need-returns
 returns c =
-    let s = c .before .before .before .before in
-    λ q St F. (rw (s .pre .1, s .pre .2) at (c .decide-satisfiability .ensures)) _ q St (kind-satisfiability _ q St (c .before .before .if1 .taken)) (height-is _ q St)
+    let s = c .before .before .before .before .before in
+    λ q St F. (rw (s .pre .1, s .pre .2) at (c .decide-satisfiability .ensures)) _ q St (kind-satisfiability _ q St (c .before .before .before .if1 .taken)) (height-is _ q St)
 
 decide-entailment-requires : tie.Need-decide-entailment-requires
-decide-entailment-requires c κs = searchable (c .before .before .before)
+decide-entailment-requires c κs = searchable (c .before .before .before .before)
 
 returns-2 : tie.Need-returns-2
 returns-2 c =
-    let s = c .before .before .before .before in
-    λ q St F. (rw (s .pre .1, s .pre .2) at (c .decide-entailment .ensures)) _ q St (kind-entailment _ q St (c .before .before .if1 .left)) (height-is _ q St)
+    let s = c .before .before .before .before .before in
+    λ q St F. (rw (s .pre .1, s .pre .2) at (c .decide-entailment .ensures)) _ q St (kind-entailment _ q St (c .before .before .before .if1 .left)) (height-is _ q St)
 
 pub decide-spec : {M : Type 1} → statement M
 decide-spec =

@@ -16,7 +16,7 @@ returns c =
       s .pre .1 .4,
       λ h constants e like A.
           leaf-copied (storedBy (a .sizes) (a .clauses .now) constants) h (a .leaf .search) (a .leaf .number) (a .leaf .like) (c .before .before .if1 .taken) (like (c .before .before .if1 .taken) ∙ e)
-          (a .seen) _ _ _ _ (s .pre .1 .1) (s .pre .0 .few .0) (c .copy-leaf .ensures) A,
+          (a .seen) _ _ _ _ _ (s .pre .0 .few .0) (c .copy-leaf .ensures) A,
     )
 
 set-constants-requires : tie.Need-set-constants-requires
@@ -24,16 +24,16 @@ set-constants-requires c κs = search needs
 
 pass-leaf-requires : tie.Need-pass-leaf-requires
 pass-leaf-requires c κs =
-    let s = c .before .before .before .before .before .before in
+    let s = c .before .before .before .before .before .before .before in
     let (old, v, within, t) = s .pre .1 .4 in
-    (s .pre .0, (s .pre .1 .0, s .pre .1 .1, (s .args .leaf .values, v, c .before .before .before .set-constants .ensures _ _ old v (s .pre .0 .variables) within (s .pre .1 .3) t)))
+    (s .pre .0, (s .pre .1 .0, s .pre .1 .1, (s .args .leaf .values, v, c .before .before .before .before .set-constants .ensures _ _ old v (s .pre .0 .variables) within (s .pre .1 .3) t)))
 
 returns-2 : tie.Need-returns-2
 returns-2 c =
-    let s = c .before .before .before .before .before .before .before in
+    let s = c .before .before .before .before .before .before .before .before in
     let a = s .args in
     let (old, v, within, t) = s .pre .1 .4 in
-    let placed = c .before .before .before .before .set-constants .ensures (a .sizes .free) (a .sizes .own) old v (s .pre .0 .variables) within (s .pre .1 .3) t in
+    let placed = c .before .before .before .before .before .set-constants .ensures (a .sizes .free) (a .sizes .own) old v (s .pre .0 .variables) within (s .pre .1 .3) t in
     let passed = c .pass-leaf .ensures in (
       (let (u, w) = passed .0 (a .leaf .values) v placed in (a .leaf .values, u, s .pre .1 .3, w)),
       λ h constants e like A. passed .1 h constants v (rw e at placed) A,

@@ -13,7 +13,7 @@ use Rattle.plans.proofs.fill_entries.Tie as tie
 
 abbrev Inv-loop : tie.InvT-loop
 Inv-loop firsts outline subleaf₀ choice₀ taken₀ e₀ subleaf choice taken e = (e ≤ outline .extra + outline .count) × (length subleaf ≡ 32) × (length choice ≡ 32)
-    × (length taken ≡ 32) × Taken outline firsts e taken × Filled outline firsts e subleaf choice
+    × (length taken ≡ 64) × Taken outline firsts e taken × Filled outline firsts e subleaf choice
 
 abbrev μ-loop : tie.MeasureT-loop
 μ-loop firsts outline subleaf₀ choice₀ taken₀ e₀ subleaf choice taken e = outline .extra + outline .count - e
@@ -57,7 +57,7 @@ at-leaf c =
     let s = c .before .before .before .before .before .before .before .before in
     c .leaf-of .ensures ∙ ap (λ x. x / leafWidth (s .args .outline .free)) (number (c .before))
 
-leaf-lt : (c : tie.After-leaf-of Inv-loop μ-loop) → c .leaf-of .result < 32
+leaf-lt : (c : tie.After-leaf-of Inv-loop μ-loop) → c .leaf-of .result < 64
 leaf-lt c =
     let s = c .before .before .before .before .before .before .before .before in
     omega (arith, at-leaf c, pair-leaf-lt (s .args .outline) (s .args .firsts .now) (s .pre .0) (c .before .before .before .before .before .loop .e) (c .before .before .before .if1 .taken))

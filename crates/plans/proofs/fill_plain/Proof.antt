@@ -9,10 +9,10 @@ use Rattle.plans.proofs.fill_plain.Statement.{statement}
 use Rattle.plans.proofs.fill_plain.Tie as tie
 
 abbrev Inv-loop : tie.InvT-loop
-Inv-loop firsts leaves free plain₀ b₀ plain b = (b ≤ leaves) × (length plain ≡ 64) × ((i : ℕ) → i < b → getD plain i 0 ≡ numberAt firsts (32 + i))
+Inv-loop leaves count free plain₀ b₀ plain b = (b ≤ count) × (length plain ≡ 64) × ((i : ℕ) → i < b → getD plain i 0 ≡ numberAt leaves i)
 
 abbrev μ-loop : tie.MeasureT-loop
-μ-loop firsts leaves free plain₀ b₀ plain b = leaves - b
+μ-loop leaves count free plain₀ b₀ plain b = count - b
 
 loop-holds : tie.Need-loop-holds Inv-loop μ-loop
 loop-holds c = (omega arith, c .before .pre .2, λ i l. absurd (omega arith))
@@ -21,11 +21,11 @@ plain-at-requires : tie.Need-plain-at-requires Inv-loop μ-loop
 plain-at-requires c κs =
     let s = c .before .before .before .before in
     let l = c .before .before .loop in
-    let firsts = s .args .firsts .now in (
+    let leaves = s .args .leaves .now in (
       (omega arith, s .pre .1, l .inv .1),
       (
         s .pre .3 (l .b) (c .before .loop-test .taken),
-        λ p. let e : 32 + (l .b - 1) ≡ 31 + l .b = omega arith in rw e at (l .inv .2 (l .b - 1) (omega arith)),
+        λ p. l .inv .2 (l .b - 1) (omega arith),
       ),
     )
 
@@ -44,10 +44,10 @@ loop-less c = omega arith
 loop-again : tie.Need-loop-again Inv-loop μ-loop
 loop-again c =
     let l = c .before .before .before .loop in
-    let firsts = c .before .before .before .before .before .args .firsts .now in (
+    let leaves = c .before .before .before .before .before .args .leaves .now in (
       omega arith,
       simp length-set (l .inv .1),
-      store-law (λ i x. i < l .b + 1 → x ≡ numberAt firsts (32 + i)) (l .plain) (l .b) (c .plain-at .result) (omega arith)
+      store-law (λ i x. i < l .b + 1 → x ≡ numberAt leaves i) (l .plain) (l .b) (c .plain-at .result) (omega arith)
           (λ i n h. l .inv .2 i (omega arith)) (λ h. c .plain-at .ensures),
     )
 

@@ -10,14 +10,11 @@ use borrow.Author.Needs.{needs}
 use Rattle.plans.proofs.plain_at.Statement.{statement}
 use Rattle.plans.proofs.plain_at.Tie as tie
 
-add-word-at : tie.Need-add-word-at
-add-word-at c = search needs
-
 word-at-requires : tie.Need-word-at-requires
 word-at-requires c κs = search needs
 
-add-word-at-2 : tie.Need-add-word-at-2
-add-word-at-2 c = search needs
+sub-word-at : tie.Need-sub-word-at
+sub-word-at c = search needs
 
 word-at-requires-2 : tie.Need-word-at-requires-2
 word-at-requires-2 c κs = search needs
@@ -44,7 +41,7 @@ returns c =
     ∙ first .word-at .ensures
 
 -- the number of the leaf's word is the choice
-alone : (s : tie.Start) → numberAt (s .args .firsts .now) (32 + s .args .b) % leafWidth (s .args .free) ≡ numberAt (s .args .firsts .now) (32 + s .args .b)
+alone : (s : tie.Start) → numberAt (s .args .leaves .now) (s .args .b) % leafWidth (s .args .free) ≡ numberAt (s .args .leaves .now) (s .args .b)
 alone s = mod-eq-of-lt (le-trans (s .pre .1 .0) (width-enough (s .args .free)))
 
 choice-of-requires : tie.Need-choice-of-requires
@@ -62,9 +59,8 @@ pub plain-at-spec : {M : Type 1} → statement M
 plain-at-spec =
     tie.close
     (tie.spec
-    add-word-at
     word-at-requires
-    add-word-at-2
+    sub-word-at
     word-at-requires-2
     are-same-requires
     sub-result

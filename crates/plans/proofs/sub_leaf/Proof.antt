@@ -7,9 +7,9 @@ use borrow.Author.Needs.{needs}
 use Rattle.plans.proofs.sub_leaf.Statement.{statement}
 use Rattle.plans.proofs.sub_leaf.Tie as tie
 
--- the first sub-leaf of the leaf is one of 1,024
-first-le : (c : tie.Start) → c .args .leaf * 2 ^ c .args .splits ≤ 992
-first-le c = mul-le-mul {n₂ = 31} {m₂ = 32} (omega arith) (pow-mono {j = 5} (c .pre .1))
+-- the first sub-leaf of the leaf is one of 2,048
+first-le : (c : tie.Start) → c .args .leaf * 2 ^ c .args .splits ≤ 2016
+first-le c = mul-le-mul {n₂ = 63} {m₂ = 32} (omega arith) (pow-mono {j = 5} (c .pre .1))
 
 shl-result : tie.Need-shl-result
 shl-result c = search needs

@@ -12,7 +12,7 @@ element-copy-out-second-count c = search needs
 
 pass-leaves-requires : tie.Need-pass-leaves-requires
 pass-leaves-requires c κs =
-    let p = c .before .before .before .pre in
+    let p = c .before .before .before .before .pre in
     (p .0, (tt, p .1 .0, p .1 .1, λ k. replicate-at 96 k 0))
 
 element-copy-out-all-found : tie.Need-element-copy-out-all-found
@@ -23,7 +23,7 @@ all-found-requires c κs = search needs
 
 returns : tie.Need-returns
 returns c =
-    surveyed-none _ _ _ _ _ (c .before .before .before .pass-leaves .ensures) (sym (c .before .all-found .ensures) ∙ not-true _ (c .if1 .taken))
+    surveyed-none _ _ _ _ _ _ (c .before .before .before .pass-leaves .ensures) (sym (c .before .all-found .ensures) ∙ not-true _ (c .if1 .taken))
 
 digit-requires : tie.Need-digit-requires
 digit-requires c κs = search needs
@@ -31,7 +31,7 @@ digit-requires c κs = search needs
 returns-2 : tie.Need-returns-2
 returns-2 c =
     let found = c .before .before in
-    surveyed-unmet _ _ _ _ _ (found .before .before .before .pass-leaves .ensures)
+    surveyed-unmet _ _ _ _ _ _ (found .before .before .before .pass-leaves .ensures)
     (sym (found .before .all-found .ensures) ∙ not-false _ (found .if1 .left)) (sym (c .before .digit .ensures) ∙ c .if2 .taken)
 
 element-copy-out-lowest-missed : tie.Need-element-copy-out-lowest-missed
@@ -44,7 +44,7 @@ returns-3 : tie.Need-returns-3
 returns-3 c =
     let more = c .before .before .before in
     let found = more .before .before in
-    surveyed-missed _ _ _ _ _ (found .before .before .before .pass-leaves .ensures) _
+    surveyed-missed _ _ _ _ _ _ (found .before .before .before .pass-leaves .ensures) _
     (sym (found .before .all-found .ensures) ∙ not-false _ (found .if1 .left)) (sym (more .before .digit .ensures) ∙ more .if2 .left) (c .lowest-missed .ensures)
 
 pub survey-leaves-spec : {M : Type 1} → statement M
