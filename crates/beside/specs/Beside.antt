@@ -1,6 +1,6 @@
 -- What is left of one word of free choices beside the own choices: definitions. Assumes nothing.
 use mathlib.Core.Path.{_≡_}
-use mathlib.Core.Bool.{Bool, _&&_, not}
+use mathlib.Core.Bool.{Bool, false, _&&_, not}
 use mathlib.Core.List.{List}
 use Prim.Native.Nat.{ℕ, _+_, _-_, _*_, _%_, _^_, _≤_, _<_}
 use lib.Dec.{T, eqb}
@@ -73,6 +73,16 @@ pub record Taken (j : ℕ) (s : ℕ → Bool) (wanted : ℕ) (left : List ℕ) (
 pub record TakenAll (count : ℕ) (s : ℕ → ℕ → Bool) (wanted : ℕ) (left : List ℕ) (wanted′ : ℕ) (left′ : List ℕ) : Type 0 where
   pub word : (j : ℕ) → j < count → T (bit wanted j) → Left (getD left j 0) (s j) (getD left′ j 0)
   pub empty : (j : ℕ) → j < count → T (bit wanted j) → T (not (bit wanted′ j)) → getD left′ j 0 ≡ 0
+  pub wanted-kept : (k : ℕ) → count ≤ k → k < 64 → bit wanted′ k ≡ bit wanted k
+  pub left-kept : (k : ℕ) → (k < count → T (not (bit wanted k))) → getD left′ k 0 ≡ getD left k 0
+
+-- the same, but for those whose bits of `rest` are set, which are as they were
+pub record TakenBut (rest count : ℕ) (s : ℕ → ℕ → Bool) (wanted : ℕ) (left : List ℕ) (wanted′ : ℕ) (left′ : List ℕ) : Type 0 where
+  pub word : (j : ℕ) → j < count → bit rest j ≡ false → T (bit wanted j) → Left (getD left j 0) (s j) (getD left′ j 0)
+  pub empty : (j : ℕ) → j < count → bit rest j ≡ false → T (bit wanted j) → T (not (bit wanted′ j)) → getD left′ j 0 ≡ 0
+  pub inside : (j : ℕ) → T (bit rest j) → (j < count) × T (bit wanted j)
+  pub wanted-same : (j : ℕ) → T (bit rest j) → bit wanted′ j ≡ bit wanted j
+  pub left-same : (j : ℕ) → T (bit rest j) → getD left′ j 0 ≡ getD left j 0
   pub wanted-kept : (k : ℕ) → count ≤ k → k < 64 → bit wanted′ k ≡ bit wanted k
   pub left-kept : (k : ℕ) → (k < count → T (not (bit wanted k))) → getD left′ k 0 ≡ getD left k 0
 

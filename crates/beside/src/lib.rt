@@ -140,10 +140,11 @@ fn take_all(
         return wanted;
     }
     let mut r = wanted;
-    let mut j: usize = 0;
-    while j < count {
+    let mut rest = words::first_bits(wanted, count);
+    while rest != 0 {
+        let j = words::lowest(rest);
         r = take_one(terms, clauses, SECOND_DISEQUATIONS + 4 * j, y, r, j, left);
-        j += 1;
+        rest = words::without_lowest(rest);
     }
     r
 }

@@ -1,16 +1,16 @@
 -- One bit of a word set, where a test passes. Assumes nothing.
 use mathlib.Core.Path.{_≡_, sym, ap, ap₂, _∙_}
-use mathlib.Core.Bool.{Bool, true, false, _&&_, _||_, and-true, and-false, or-false}
-use Prim.Native.Nat.{ℕ, _+_, _^_, _≤_, _<_}
-use native.Mathlib.Nat.{one-mul}
-use native.Mathlib.Decide.{ℕ-discrete}
+use mathlib.Core.Bool.{Bool, true, false, not, _&&_, _||_, and-true, and-false, or-false}
+use Prim.Native.Nat.{ℕ, _-_, _*_, _%_, _^_, _≤_, _<_}
 use native.Mathlib.Omega.{arith}
-use lib.Bits.{bitOr}
-use lib.Dec.{eqb, lit<}
-use borrow.Author.Tests.{eq-eqb, ne-eqb}
+use lib.Bits.{bitAnd, bitOr}
+use lib.Dec.{eqb, ltb}
+use lib.Pow.{pow-lt}
+use borrow.Author.Tests.{ne-eqb, lt-ltb, not-false}
 use Rattle.shares.specs.Constant.{bit}
-use Rattle.shares.specs.BitLaws.{bit-or}
-use Rattle.shares.specs.Shifts.{power-bit}
+use Rattle.shares.specs.BitLaws.{bit-zero, bit-and, bit-or}
+use Rattle.shares.specs.BitParts.{bit-not}
+use Rattle.shares.specs.Shifts.{power-shift, power-bit}
 
 -- set where a test passes: it was set already, or it is set now, or the test fails
 module _ (x i : ℕ) (p : Bool) where
@@ -20,16 +20,15 @@ module _ (x i : ℕ) (p : Bool) where
   pub bit-not-added : p ≡ false → (k : ℕ) → bit x k ≡ (bit x k || (eqb k i && p))
   bit-not-added e k = sym (ap (λ b. bit x k || b) (ap (_&&_ (eqb k i)) e ∙ and-false (eqb k i)) ∙ or-false (bit x k))
 
--- the first i bits have been seen to, and now bit i
-pub bits-more : (old x y i : ℕ) (p : ℕ → Bool) → ((k : ℕ) → k < i → bit x k ≡ (bit old k || p k)) → bit x i ≡ bit old i
-    → ((k : ℕ) → bit y k ≡ (bit x k || (eqb k i && p i))) → (k : ℕ) → k < i + 1 → bit y k ≡ (bit old k || p k)
-bits-more old x y i p before here step k l = go (ℕ-discrete k i)
+-- bit j taken out of a word: every other bit stays
+pub other-bits : (x j k : ℕ) → j < 64 → k < 64 → (k ≡ j → ⊥) → bit (bitAnd x ((2 ^ 64 - 1) - (1 * 2 ^ j) % 2 ^ 64)) k ≡ bit x k
+other-bits x j k h l n =
+    bit-and x ((2 ^ 64 - 1) - (1 * 2 ^ j) % 2 ^ 64) k ∙ ap (_&&_ (bit x k)) (ap (λ y. bit ((2 ^ 64 - 1) - y) k) (power-shift j h) ∙ unset) ∙ and-true (bit x k)
   where
-    go : Dec (k ≡ i) → bit y k ≡ (bit old k || p k)
-    go (yes q) = step k ∙ ap₂ _||_ (ap (bit x) q ∙ here ∙ ap (bit old) (sym q)) (rw (eq-eqb k i q) (ap p (sym q)))
-    go (no n) = step k ∙ rw (ne-eqb k i n) (or-false (bit x k) ∙ before k (omega arith))
+    unset : bit ((2 ^ 64 - 1) - 2 ^ j) k ≡ true
+    unset = bit-not 64 (2 ^ j) k (pow-lt {j = 64} h) l ∙ ap not (power-bit j k ∙ ne-eqb k j n)
 
--- the later ones are as they were
-pub bits-later : (old x y i : ℕ) (p : Bool) → ((k : ℕ) → i ≤ k → bit x k ≡ bit old k)
-    → ((k : ℕ) → bit y k ≡ (bit x k || (eqb k i && p))) → (k : ℕ) → i + 1 ≤ k → bit y k ≡ bit old k
-bits-later old x y i p before step k l = step k ∙ rw (ne-eqb k i (λ q. omega arith)) (or-false (bit x k) ∙ before k (omega arith))
+-- the first bits of a word that has none unset
+pub all-set : (x count r : ℕ) → x < 2 ^ 64 → count ≤ 32 → ((k : ℕ) → bit r k ≡ (ltb k count && bit ((2 ^ 64 - 1) - x) k)) → r ≡ 0 → (i : ℕ) → i < count → bit x i ≡ true
+all-set x count r small few bits z i l = not-false (bit x i)
+    (sym (ap₂ _&&_ (lt-ltb i count l) (bit-not 64 x i small (omega arith))) ∙ sym (bits i) ∙ ap (λ y. bit y i) z ∙ bit-zero i)

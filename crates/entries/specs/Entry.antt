@@ -1,6 +1,6 @@
 -- What is kept of the words of choices that a pass goes over. Words are counted through all leaves; bit i of word t is number 64 * t + i. Assumes nothing.
 use mathlib.Core.Path.{_≡_}
-use mathlib.Core.Bool.{Bool, _&&_, _||_}
+use mathlib.Core.Bool.{Bool, true, false, _&&_, _||_}
 use mathlib.Core.List.{List}
 use Prim.Native.Nat.{ℕ, _+_, _*_, _≤_, _<_}
 use lib.Dec.{T}
@@ -32,6 +32,12 @@ pub record KeptAll (count t : ℕ) (word : ℕ → ℕ → Bool) (met : ℕ) (fi
   pub met-kept : (k : ℕ) → count ≤ k → bit met′ k ≡ bit met k
   pub firsts-kept : (k : ℕ) → count ≤ k → numberAt firsts′ k ≡ numberAt firsts k
 
+-- the same, but for those whose bits of `rest` are set, which are as they were
+pub record KeptBut (rest count t : ℕ) (word : ℕ → ℕ → Bool) (met : ℕ) (firsts : List ℕ) (met′ : ℕ) (firsts′ : List ℕ) : Type 0 where
+  pub entry : (e : ℕ) → e < count → bit rest e ≡ false → (p : ℕ → Bool) → WordOf (word e) p t → Entry p t met firsts e → Entry p (t + 1) met′ firsts′ e
+  pub met-kept : (k : ℕ) → (k < count → T (bit rest k)) → bit met′ k ≡ bit met k
+  pub firsts-kept : (k : ℕ) → (k < count → T (bit rest k)) → numberAt firsts′ k ≡ numberAt firsts k
+
 -- ---- marks
 
 -- two words have a bit in common
@@ -42,17 +48,39 @@ common a b = someBelow 64 (λ k. bit a k && bit b k)
 abbrev pub some : ℕ → Bool
 some a = someBelow 64 (bit a)
 
--- mark j, if bit j is wanted: rows 0 to 31 are the choices left, 32 to 63 those of the first system's disequations, 64 to 95 the marks
-pub record Marked (j count wanted here : ℕ) (rows : List ℕ) (here′ : ℕ) (rows′ : List ℕ) : Type 0 where
-  pub there : bit here′ j ≡ (bit here j || (bit wanted j && some (getD rows j 0)))
-  pub mark : T (bit wanted j) → (i : ℕ) → i < count → bit (getD rows′ (64 + j) 0) i ≡ (bit (getD rows (64 + j) 0) i || common (getD rows (32 + i) 0) (getD rows j 0))
+-- the first `count` bits of a mark are all set
+abbrev pub FullMark : ℕ → ℕ → Type 0
+FullMark count mark = (i : ℕ) → i < count → bit mark i ≡ true
+
+-- bit j is taken out only if a mark is full. No other bit changes
+pub record Settling (j count mark wanted wanted′ : ℕ) : Type 0 where
+  pub settled : T (bit wanted j) → bit wanted′ j ≡ false → FullMark count mark
+  pub wanted-kept : (k : ℕ) → k < 64 → (k ≡ j → ⊥) → bit wanted′ k ≡ bit wanted k
+
+-- mark j, which is wanted: rows 0 to 31 are the choices left, 32 to 63 those of the first system's disequations, 64 to 95 the marks
+pub record Marked (j count wanted here : ℕ) (rows : List ℕ) (wanted′ here′ : ℕ) (rows′ : List ℕ) : Type 0 where
+  pub there : bit here′ j ≡ (bit here j || some (getD rows j 0))
+  pub mark : (i : ℕ) → i < count → bit (getD rows′ (64 + j) 0) i ≡ (bit (getD rows (64 + j) 0) i || common (getD rows (32 + i) 0) (getD rows j 0))
+  pub settled : bit wanted′ j ≡ false → (bit here′ j ≡ true) × FullMark count (getD rows′ (64 + j) 0)
+  pub wanted-kept : (k : ℕ) → k < 64 → (k ≡ j → ⊥) → bit wanted′ k ≡ bit wanted k
   pub here-kept : (k : ℕ) → (k ≡ j → ⊥) → bit here′ k ≡ bit here k
   pub rows-kept : (k : ℕ) → (k ≡ 64 + j → ⊥) → getD rows′ k 0 ≡ getD rows k 0
 
--- the first n marks
-pub record MarkedAll (n count wanted here : ℕ) (rows : List ℕ) (here′ : ℕ) (rows′ : List ℕ) : Type 0 where
+-- the first n marks, of those that are wanted: one that no longer is has a bit and a full mark
+pub record MarkedAll (n count wanted here : ℕ) (rows : List ℕ) (wanted′ here′ : ℕ) (rows′ : List ℕ) : Type 0 where
   pub there : (j : ℕ) → j < n → bit here′ j ≡ (bit here j || (bit wanted j && some (getD rows j 0)))
-  pub mark : (j : ℕ) → j < n → T (bit wanted j) → (i : ℕ) → i < count
-      → bit (getD rows′ (64 + j) 0) i ≡ (bit (getD rows (64 + j) 0) i || common (getD rows (32 + i) 0) (getD rows j 0))
-  pub here-kept : (k : ℕ) → n ≤ k → bit here′ k ≡ bit here k
-  pub rows-kept : (k : ℕ) → (64 ≤ k → 64 + n ≤ k) → getD rows′ k 0 ≡ getD rows k 0
+  pub mark : (j : ℕ) → j < n → (i : ℕ) → i < count
+      → bit (getD rows′ (64 + j) 0) i ≡ (bit (getD rows (64 + j) 0) i || (bit wanted j && common (getD rows (32 + i) 0) (getD rows j 0)))
+  pub settled : (j : ℕ) → j < n → T (bit wanted j) → bit wanted′ j ≡ false → (bit here′ j ≡ true) × FullMark count (getD rows′ (64 + j) 0)
+
+-- the same, but for those whose bits of `rest` are set, which are as they were
+pub record MarkedBut (rest n count wanted here : ℕ) (rows : List ℕ) (wanted′ here′ : ℕ) (rows′ : List ℕ) : Type 0 where
+  pub there : (j : ℕ) → j < n → bit rest j ≡ false → bit here′ j ≡ (bit here j || (bit wanted j && some (getD rows j 0)))
+  pub mark : (j : ℕ) → j < n → bit rest j ≡ false → (i : ℕ) → i < count
+      → bit (getD rows′ (64 + j) 0) i ≡ (bit (getD rows (64 + j) 0) i || (bit wanted j && common (getD rows (32 + i) 0) (getD rows j 0)))
+  pub settled : (j : ℕ) → j < n → bit rest j ≡ false → T (bit wanted j) → bit wanted′ j ≡ false → (bit here′ j ≡ true) × FullMark count (getD rows′ (64 + j) 0)
+  pub inside : (j : ℕ) → T (bit rest j) → (j < n) × T (bit wanted j)
+  pub wanted-kept : (j : ℕ) → T (bit rest j) → bit wanted′ j ≡ bit wanted j
+  pub here-kept : (j : ℕ) → T (bit rest j) → bit here′ j ≡ bit here j
+  pub mark-kept : (j : ℕ) → T (bit rest j) → getD rows′ (64 + j) 0 ≡ getD rows (64 + j) 0
+  pub rows-kept : (k : ℕ) → k < 64 → getD rows′ k 0 ≡ getD rows k 0

@@ -1,22 +1,22 @@
 -- Laws of marks. Assumes nothing.
-use mathlib.Core.Path.{_≡_, refl, sym, ap, _∙_}
-use mathlib.Core.Bool.{Bool, true, false, not, _&&_, _||_, or-false, and-false}
+use mathlib.Core.Path.{_≡_, refl, sym, ap, _∙_, subst}
+use mathlib.Core.Bool.{Bool, true, false, not, _&&_, _||_, or-false, or-true, and-true, and-false}
 use mathlib.Core.List.{List}
 use Prim.Native.Nat.{ℕ, _+_, _^_, _≤_, _<_}
 use native.Mathlib.Decide.{ℕ-discrete}
 use native.Mathlib.Omega.{arith}
 use lib.Bits.{bitAnd, bitOr, and-lt}
-use lib.Dec.{T, T-not, eqb}
+use lib.Dec.{T, T-not, eqb, ltb, ltb→lt}
 use lib.ListN.{length, getD, set}
 use lib.Seq.{getD-set-same, getD-set-other}
-use borrow.Author.Tests.{eq-eqb, ne-eqb}
-use Rattle.shares.specs.Test.{is-true, of-false}
+use borrow.Author.Tests.{eq-eqb, ne-eqb, lt-ltb}
+use Rattle.shares.specs.Test.{is-true, of-true, of-false, and-left, and-right}
 use Rattle.shares.specs.BelowLaws.{some-none, some-ext, first-some}
 use Rattle.shares.specs.Constant.{bit}
 use Rattle.shares.specs.BitLaws.{bit-zero, bit-and}
 use Rattle.words.specs.LowestLaws.{lowest-lt}
 use Rattle.entries.specs.BitLaws.{bit-added}
-use Rattle.entries.specs.Entry.{common, some, Marked, MarkedAll}
+use Rattle.entries.specs.Entry.{common, some, FullMark, Settling, Marked, MarkedAll, MarkedBut}
 
 -- a word has a set bit exactly if it is not 0
 pub some-zero : (x : ℕ) → x ≡ 0 → some x ≡ false
@@ -41,66 +41,111 @@ pub common-zero : (a b : ℕ) → b ≡ 0 → common a b ≡ false
 unfolding common
 common-zero a b e = some-none 64 (λ k. bit a k && bit b k) (λ k l. ap (λ y. bit a k && bit y k) e ∙ ap (_&&_ (bit a k)) (bit-zero k) ∙ and-false (bit a k))
 
-module _ (j count wanted here : ℕ) (rows : List ℕ) where
-  -- it is not wanted
-  pub marked-not : bit wanted j ≡ false → Marked j count wanted here rows here rows
-  marked-not e = record {
-    there = rw e (sym (or-false (bit here j)));
-    mark = λ t. absurd (T-not (bit wanted j) (of-false e) t);
-    here-kept = λ k n. refl;
-    rows-kept = λ k n. refl;
-  }
+-- ---- one mark
 
+module _ (j count wanted here : ℕ) (rows : List ℕ) where
   -- its word is empty
-  pub marked-none : getD rows j 0 ≡ 0 → Marked j count wanted here rows here rows
-  marked-none e = record {
-    there = rw (some-zero (getD rows j 0) e) (sym (ap (_||_ (bit here j)) (and-false (bit wanted j)) ∙ or-false (bit here j)));
-    mark = λ t i l. rw (common-zero (getD rows (32 + i) 0) (getD rows j 0) e) (sym (or-false (bit (getD rows (64 + j) 0) i)));
+  pub marked-none : T (bit wanted j) → getD rows j 0 ≡ 0 → Marked j count wanted here rows wanted here rows
+  marked-none t e = record {
+    there = rw (some-zero (getD rows j 0) e) (sym (or-false (bit here j)));
+    mark = λ i l. rw (common-zero (getD rows (32 + i) 0) (getD rows j 0) e) (sym (or-false (bit (getD rows (64 + j) 0) i)));
+    settled = λ z. absurd (T-not (bit wanted j) (of-false z) t);
+    wanted-kept = λ k l n. refl;
     here-kept = λ k n. refl;
     rows-kept = λ k n. refl;
   }
 
   -- it is marked
-  pub marked-more : (x : ℕ) → 64 + j < length rows → getD rows j 0 < 2 ^ 64 → (getD rows j 0 ≡ 0 → ⊥) → bit wanted j ≡ true
+  pub marked-more : (x wanted′ : ℕ) → T (bit wanted j) → 64 + j < length rows → getD rows j 0 < 2 ^ 64 → (getD rows j 0 ≡ 0 → ⊥)
       → ((i : ℕ) → i < count → bit x i ≡ (bit (getD rows (64 + j) 0) i || common (getD rows (32 + i) 0) (getD rows j 0)))
-      → Marked j count wanted here rows (bitOr here (2 ^ j)) (set rows (64 + j) x)
-  marked-more x room small n w bits = record {
-    there = bit-added here j true refl j ∙ rw (eq-eqb j j refl, w, some-set (getD rows j 0) small n);
-    mark = λ t i l. rw (getD-set-same rows (64 + j) x 0 room) (bits i l);
+      → Settling j count x wanted wanted′ → Marked j count wanted here rows wanted′ (bitOr here (2 ^ j)) (set rows (64 + j) x)
+  marked-more x wanted′ t room small n bits Q = record {
+    there = set-here ∙ sym (ap (_||_ (bit here j)) (some-set (getD rows j 0) small n) ∙ or-true (bit here j));
+    mark = λ i l. rw (getD-set-same rows (64 + j) x 0 room) (bits i l);
+    settled = λ z. (set-here, λ i l. rw (getD-set-same rows (64 + j) x 0 room) (Q .settled t z i l));
+    wanted-kept = Q .wanted-kept;
     here-kept = λ k a. bit-added here j true refl k ∙ rw (ne-eqb k j a) (or-false (bit here k));
     rows-kept = λ k a. getD-set-other rows (64 + j) k x 0 a;
   }
+    where
+      set-here : bit (bitOr here (2 ^ j)) j ≡ true
+      set-here = bit-added here j true refl j ∙ rw (eq-eqb j j refl) (or-true (bit here j))
 
-module _ (count wanted here : ℕ) (rows : List ℕ) where
-  pub all-none : MarkedAll 0 count wanted here rows here rows
-  all-none = record {
-    there = λ j l. absurd (omega arith);
-    mark = λ j l. absurd (omega arith);
-    here-kept = λ k l. refl;
+-- ---- all of them, by the bits of those that are left
+
+module _ (n count wanted here : ℕ) (rows : List ℕ) where
+  -- those that are not wanted are done
+  pub but-start : (rest : ℕ) → ((k : ℕ) → bit rest k ≡ (ltb k n && bit wanted k)) → MarkedBut rest n count wanted here rows wanted here rows
+  but-start rest bits = record {
+    there = λ j l z. rw (unwanted j l z) (sym (or-false (bit here j)));
+    mark = λ j l z i m. rw (unwanted j l z) (sym (or-false (bit (getD rows (64 + j) 0) i)));
+    settled = λ j l z t u. absurd (T-not (bit wanted j) (of-false u) t);
+    inside = λ j t. (ltb→lt j n (and-left (ltb j n) (bit wanted j) (subst T (bits j) t)), and-right (ltb j n) (bit wanted j) (subst T (bits j) t));
+    wanted-kept = λ j t. refl;
+    here-kept = λ j t. refl;
+    mark-kept = λ j t. refl;
     rows-kept = λ k l. refl;
   }
+    where
+      unwanted : (j : ℕ) → j < n → bit rest j ≡ false → bit wanted j ≡ false
+      unwanted j l z = sym (ap (λ b. b && bit wanted j) (lt-ltb j n l)) ∙ sym (bits j) ∙ z
 
-  pub all-more : (j : ℕ) → j < 32 → count ≤ 32 → (here′ : ℕ) (rows′ : List ℕ) (here″ : ℕ) (rows″ : List ℕ) → MarkedAll j count wanted here rows here′ rows′
-      → Marked j count wanted here′ rows′ here″ rows″ → MarkedAll (j + 1) count wanted here rows here″ rows″
-  all-more j few low here′ rows′ here″ rows″ A M = record {
-    there = λ k l. there k l (ℕ-discrete k j);
-    mark = λ k l. mark k l (ℕ-discrete k j);
-    here-kept = λ k l. M .here-kept k (λ q. omega arith) ∙ A .here-kept k (omega arith);
-    rows-kept = λ k h. M .rows-kept k (λ q. omega (arith, h (omega arith))) ∙ A .rows-kept k (λ q. omega (arith, h q));
+  -- one of them more
+  pub but-more : (i rest rest′ wanted′ here′ : ℕ) (rows′ : List ℕ) (wanted″ here″ : ℕ) (rows″ : List ℕ) → n ≤ 32 → count ≤ 32 → T (bit rest i)
+      → ((k : ℕ) → bit rest′ k ≡ (bit rest k && not (eqb k i))) → MarkedBut rest n count wanted here rows wanted′ here′ rows′
+      → Marked i count wanted′ here′ rows′ wanted″ here″ rows″ → MarkedBut rest′ n count wanted here rows wanted″ here″ rows″
+  but-more i rest rest′ wanted′ here′ rows′ wanted″ here″ rows″ few low set out A M = record {
+    there = λ j l z. there j l z (ℕ-discrete j i);
+    mark = λ j l z. mark j l z (ℕ-discrete j i);
+    settled = λ j l z. settled j l z (ℕ-discrete j i);
+    inside = λ j t. A .inside j (before j t);
+    wanted-kept = λ j t. M .wanted-kept j (omega (arith, A .inside j (before j t) .0)) (other j t) ∙ A .wanted-kept j (before j t);
+    here-kept = λ j t. M .here-kept j (other j t) ∙ A .here-kept j (before j t);
+    mark-kept = λ j t. M .rows-kept (64 + j) (λ q. other j t (omega arith)) ∙ A .mark-kept j (before j t);
+    rows-kept = λ k l. M .rows-kept k (λ q. omega arith) ∙ A .rows-kept k l;
   }
     where
-      same : (k : ℕ) → k < 64 → getD rows′ k 0 ≡ getD rows k 0
-      same k l = A .rows-kept k (λ q. omega arith)
+      before : (k : ℕ) → T (bit rest′ k) → T (bit rest k)
+      before k t = and-left (bit rest k) (not (eqb k i)) (subst T (out k) t)
 
-      there : (k : ℕ) → k < j + 1 → Dec (k ≡ j) → bit here″ k ≡ (bit here k || (bit wanted k && some (getD rows k 0)))
-      there k l (yes q) = rw q (M .there ∙ rw (A .here-kept j (omega arith), same j (omega arith)))
-      there k l (no n) = M .here-kept k n ∙ A .there k (omega arith)
+      other : (k : ℕ) → T (bit rest′ k) → k ≡ i → ⊥
+      other k t q = T-not (eqb k i) (and-right (bit rest k) (not (eqb k i)) (subst T (out k) t)) (of-true (eq-eqb k i q))
 
-      mark : (k : ℕ) → k < j + 1 → Dec (k ≡ j) → T (bit wanted k) → (i : ℕ) → i < count
-          → bit (getD rows″ (64 + k) 0) i ≡ (bit (getD rows (64 + k) 0) i || common (getD rows (32 + i) 0) (getD rows k 0))
-      mark k l (yes q) t i m =
-          rw q (M .mark (rw q at t) i m ∙ rw (A .rows-kept (64 + j) (λ q. omega arith), same (32 + i) (omega arith), same j (omega arith)))
-      mark k l (no n) t i m = ap (λ x. bit x i) (M .rows-kept (64 + k) (λ q. omega arith)) ∙ A .mark k (omega arith) t i m
+      done : (k : ℕ) → bit rest′ k ≡ false → (k ≡ i → ⊥) → bit rest k ≡ false
+      done k z n = sym (and-true (bit rest k)) ∙ sym (out k ∙ ap (λ b. bit rest k && not b) (ne-eqb k i n)) ∙ z
+
+      is-wanted : bit wanted i ≡ true
+      is-wanted = is-true (bit wanted i) (A .inside i set .1)
+
+      there : (k : ℕ) → k < n → bit rest′ k ≡ false → Dec (k ≡ i) → bit here″ k ≡ (bit here k || (bit wanted k && some (getD rows k 0)))
+      there k l z (yes q) =
+          rw (q, is-wanted) (M .there ∙ rw (A .here-kept i set, A .rows-kept i (omega (arith, A .inside i set .0))))
+      there k l z (no a) = M .here-kept k a ∙ A .there k l (done k z a)
+
+      mark : (k : ℕ) → k < n → bit rest′ k ≡ false → Dec (k ≡ i) → (m : ℕ) → m < count
+          → bit (getD rows″ (64 + k) 0) m ≡ (bit (getD rows (64 + k) 0) m || (bit wanted k && common (getD rows (32 + m) 0) (getD rows k 0)))
+      mark k l z (yes q) m h =
+          rw (q, is-wanted) (M .mark m h ∙ rw (A .mark-kept i set, A .rows-kept (32 + m) (omega arith), A .rows-kept i (omega (arith, A .inside i set .0))))
+      mark k l z (no a) m h = ap (λ x. bit x m) (M .rows-kept (64 + k) (λ q. a (omega arith))) ∙ A .mark k l (done k z a) m h
+
+      settled : (k : ℕ) → k < n → bit rest′ k ≡ false → Dec (k ≡ i) → T (bit wanted k) → bit wanted″ k ≡ false
+          → (bit here″ k ≡ true) × FullMark count (getD rows″ (64 + k) 0)
+      settled k l z (yes q) t u = rw q (M .settled (rw q at u))
+      settled k l z (no a) t u =
+          let F = A .settled k l (done k z a) t (sym (M .wanted-kept k (omega arith) a) ∙ u) in
+          (M .here-kept k a ∙ F .0, λ m h. ap (λ x. bit x m) (M .rows-kept (64 + k) (λ q. a (omega arith))) ∙ F .1 m h)
+
+  -- none is left
+  pub but-none : (rest wanted′ here′ : ℕ) (rows′ : List ℕ) → rest ≡ 0 → MarkedBut rest n count wanted here rows wanted′ here′ rows′
+      → MarkedAll n count wanted here rows wanted′ here′ rows′
+  but-none rest wanted′ here′ rows′ z A = record {
+    there = λ j l. A .there j l (none j);
+    mark = λ j l. A .mark j l (none j);
+    settled = λ j l. A .settled j l (none j);
+  }
+    where
+      none : (j : ℕ) → bit rest j ≡ false
+      none j = ap (λ x. bit x j) z ∙ bit-zero j
 
 -- ---- the words of the first system's disequations, one by one
 

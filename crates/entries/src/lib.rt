@@ -5,11 +5,11 @@ use basics::FIRST_DISEQUATIONS;
 ghost use mathlib.Core.Path.{_≡_};
 ghost use mathlib.Core.Bool.{_&&_, _||_, not};
 ghost use Prim.Native.Nat.{ℕ, _+_, _*_, _<_, _≤_};
-ghost use lib.Dec.{eqb};
+ghost use lib.Dec.{T, eqb};
 ghost use lib.ListN.{length, getD};
 ghost use Rattle.shares.specs.Constant.{bit};
 ghost use Rattle.words.specs.Clause.{clauseTest, Clauses};
-ghost use Rattle.entries.specs.Entry.{Kept, KeptAll, common, Marked, MarkedAll};
+ghost use Rattle.entries.specs.Entry.{Kept, KeptAll, common, Settling, Marked, MarkedAll};
 
 // Keeps word number `turn` as that of search e, with the choices y in it that pass, if there are any and the search has found none yet.
 pub fn keep_word(e: usize, turn: usize, y: u64, met: u64, firsts: &mut [u64]) -> u64
@@ -41,9 +41,6 @@ fn keep_one(
     requires { ⌜ Clauses (now clauses) (256 + 4 * i) 1 ⌝ }
     ensures { λ r. ⌜ Kept i turn (λ k. bit x k && not (clauseTest (now (clauses .entry)) (λ t. bit (getD (now (terms .entry)) t 0) k) (256 + 4 * i))) met (now (firsts .entry)) r (now (firsts .exit)) ⌝ }
 {
-    if basics::digit(met, i) {
-        return met;
-    }
     let y = words::failing_word(terms, clauses, FIRST_DISEQUATIONS + 4 * i, x);
     keep_word(i, turn, y, met, firsts)
 }
@@ -63,10 +60,11 @@ pub fn keep_all(
     ensures { λ r. ⌜ KeptAll count turn (λ i k. bit x k && not (clauseTest (now (clauses .entry)) (λ t. bit (getD (now (terms .entry)) t 0) k) (256 + 4 * i))) met (now (firsts .entry)) r (now (firsts .exit)) ⌝ }
 {
     let mut r = met;
-    let mut i: usize = 0;
-    while i < count {
+    let mut rest = words::first_bits(!met, count);
+    while rest != 0 {
+        let i = words::lowest(rest);
         r = keep_one(terms, clauses, i, turn, x, r, firsts);
-        i += 1;
+        rest = words::without_lowest(rest);
     }
     r
 }
@@ -124,46 +122,62 @@ fn mark_row(rows: &[u64], j: usize, count: usize, mark: u64) -> u64
 {
     let left = word_of(rows, j);
     let mut r = mark;
-    let mut i: usize = 0;
-    while i < count {
+    let mut rest = words::first_bits(!mark, count);
+    while rest != 0 {
+        let i = words::lowest(rest);
         r = mark_bit(word_of(rows, 32 + i), left, i, r);
-        i += 1;
+        rest = words::without_lowest(rest);
     }
     r
 }
 
-// If disequation j of the second system is wanted and word j is not empty: sets bit j of `here`, and adds to mark j, which is word 64 + j, the
-// disequations of the first system that have a choice in common with word j.
-fn mark_one(rows: &mut [u64], wanted: u64, count: usize, j: usize, here: u64) -> u64
-    requires { ⌜ (j < 32) × (count ≤ 32) × (length (now rows) ≡ 96) ⌝ }
-    ensures { λ r. ⌜ Marked j count wanted here (now (rows .entry)) r (now (rows .exit)) ⌝ }
-{
-    if !basics::digit(wanted, j) {
-        return here;
-    }
-    if word_of(rows, j) == 0 {
-        return here;
-    }
-    rows[64 + j] = mark_row(rows, j, count, word_of(rows, 64 + j));
-    here | (1 << j)
+// What is known of the disequations of the second system at a leaf.
+pub struct Marks {
+    // which of them some choice of the leaf misses so far
+    pub here: u64,
+    // which of them there is still something to learn of: no choice of the leaf misses it so far, or its mark is not full
+    pub wanted: u64,
 }
 
-// The same for each disequation of the second system.
-pub fn mark_all(
-    rows: &mut [u64],
-    wanted: u64,
-    first_count: usize,
-    second_count: usize,
-    here: u64,
-) -> u64
-    requires { ⌜ («first_count» ≤ 32) × («second_count» ≤ 32) × (length (now rows) ≡ 96) ⌝ }
-    ensures { λ r. ⌜ MarkedAll «second_count» «first_count» wanted here (now (rows .entry)) r (now (rows .exit)) ⌝ }
+// Takes bit j out of `wanted` if the first `count` bits of a mark are all set.
+fn still_wanted(mark: u64, count: usize, wanted: u64, j: usize) -> u64
+    requires { ⌜ (j < 32) × (count ≤ 32) ⌝ }
+    ensures { λ r. ⌜ Settling j count mark wanted r ⌝ }
 {
-    let mut r = here;
-    let mut j: usize = 0;
-    while j < second_count {
-        r = mark_one(rows, wanted, first_count, j, r);
-        j += 1;
+    if words::first_bits(!mark, count) != 0 {
+        return wanted;
+    }
+    wanted & !(1 << j)
+}
+
+// If word j is not empty: sets bit j of `here`, and adds to mark j, which is word 64 + j, the disequations of the first system that have a choice in common
+// with word j. Once its mark is full it is no longer wanted.
+fn mark_one(rows: &mut [u64], count: usize, j: usize, marks: Marks) -> Marks
+    requires { ⌜ (j < 32) × (count ≤ 32) × (length (now rows) ≡ 96) × T (bit (marks .wanted) j) ⌝ }
+    ensures { λ r. ⌜ Marked j count (marks .wanted) (marks .here) (now (rows .entry)) (r .wanted) (r .here) (now (rows .exit)) ⌝ }
+{
+    if word_of(rows, j) == 0 {
+        return marks;
+    }
+    let mark = mark_row(rows, j, count, word_of(rows, 64 + j));
+    rows[64 + j] = mark;
+    Marks {
+        here: marks.here | (1 << j),
+        wanted: still_wanted(mark, count, marks.wanted, j),
+    }
+}
+
+// The same for each disequation of the second system that is wanted.
+pub fn mark_all(rows: &mut [u64], first_count: usize, second_count: usize, marks: Marks) -> Marks
+    requires { ⌜ («first_count» ≤ 32) × («second_count» ≤ 32) × (length (now rows) ≡ 96) ⌝ }
+    ensures { λ r. ⌜ MarkedAll «second_count» «first_count» (marks .wanted) (marks .here) (now (rows .entry)) (r .wanted) (r .here) (now (rows .exit)) ⌝ }
+{
+    let mut r = marks;
+    let mut rest = words::first_bits(marks.wanted, second_count);
+    while rest != 0 {
+        let j = words::lowest(rest);
+        r = mark_one(rows, first_count, j, r);
+        rest = words::without_lowest(rest);
     }
     r
 }

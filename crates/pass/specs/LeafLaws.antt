@@ -24,11 +24,11 @@ use Rattle.words.specs.Kept.{numberAt}
 use Rattle.words.specs.KeptLaws.{keptIn, kept-there, kept-others}
 use Rattle.entries.specs.BitLaws.{bit-added}
 use Rattle.entries.specs.Entry.{Entry}
-use Rattle.entries.specs.EntryLaws.{entry-same, some-stays}
+use Rattle.entries.specs.EntryLaws.{entry-same, entry-stays, some-stays}
 use Rattle.plans.specs.Pairs.{leafWidth}
 use Rattle.steps.specs.Tests.{leafValues, allowedIn}
 use Rattle.steps.specs.Steps.{onPairs, meetsHere, unmetHere, Amid}
-use Rattle.pass.specs.Pass.{missedBelow, After, Put, Copied, Visited}
+use Rattle.pass.specs.Pass.{missedBelow, Done, After, Put, Copied, Visited}
 use Rattle.steps.specs.declared.Search.{Search}
 use Rattle.steps.specs.declared.Search.the-variants.{Unmet, Missed}
 use Rattle.steps.specs.declared.Seen.{Seen}
@@ -54,7 +54,7 @@ module _ (S : Stored) (h : ℕ) (search : Search) (b : ℕ) where
   searches-fresh met = bit-and met 0xFFFFFFFF 32 ∙ ap (λ c. bit met 32 && c) (bit-beyond 32 0xFFFFFFFF 32 (omega arith) (omega arith)) ∙ and-false (bit met 32)
 
   pub amid-start : (seen : Seen) (firsts plains rows : List ℕ) → getD (S .counts) 1 0 ≤ 31 → After S h search b seen firsts plains rows
-      → Amid S h search b 0 (record { met = searches (seen .met); possible = seen .possible; here = 0 }) firsts rows
+      → Amid S h search b 0 (record { met = searches (seen .met); possible = seen .possible; here = 0; wanted = seen .possible }) firsts rows
   unfolding someBelow
   amid-start seen firsts plains rows few A = record {
     plain = record { found = searches-fresh (seen .met); stored = λ t. absurd (T-not (bit (searches (seen .met)) 32) (of-false (searches-fresh (seen .met))) t) };
@@ -66,6 +66,20 @@ module _ (S : Stored) (h : ℕ) (search : Search) (b : ℕ) where
     marks = λ e t j l u i m.
         A .marks e (subst (λ c. T (not c)) (searches-kept (seen .met) 31 (omega arith)) t) j l u i m
         ∙ ap (λ t. someBelow (64 * t) (onPairs S h (meetsHere S (Missed j) i))) (sym (add-zero (b * wordCount n)));
+    settled = λ e j l t z. absurd (T-not (bit (seen .possible) j) (of-false z) t);
+  }
+
+  -- ---- where nothing is sought any more
+
+  pub amid-done : (w w′ : ℕ) (seen : Seen) (firsts rows : List ℕ) → w ≤ w′ → Done search (seen .met) (getD (S .counts) 1 0)
+      → Amid S h search b w seen firsts rows → Amid S h search b w′ seen firsts rows
+  amid-done w w′ seen firsts rows l D A = record {
+    plain = entry-stays _ w w′ (seen .met) firsts 32 l (D .plain) (A .plain);
+    entries = λ i m. entry-stays _ (b * wordCount n + w) (b * wordCount n + w′) (seen .met) firsts i (omega arith) (D .full i m) (A .entries i m);
+    unmet = λ e. entry-stays _ (b * wordCount n + w) (b * wordCount n + w′) (seen .met) firsts 31 (omega arith) (D .unmet e) (A .unmet e);
+    here = λ e t. absurd (T-not (bit (seen .met) 31) t (of-true (D .unmet e)));
+    marks = λ e t. absurd (T-not (bit (seen .met) 31) t (of-true (D .unmet e)));
+    settled = A .settled;
   }
 
   -- ---- after the last word
@@ -95,7 +109,7 @@ module _ (S : Stored) (h : ℕ) (search : Search) (b : ℕ) where
             (M .here e t j l (of-true (ap (λ x. bit x j) (possible-kept) ∙ q)))
         go false q = ap (λ c. c && bit (seen₁ .here) j) q ∙ sym (ap (λ c. c && some) (sym (A .possible e (before e t) j l) ∙ q))
 
-    pub leaf-done : Visited S h search b (record { met = seen₁ .met; possible = bitAnd (seen₁ .possible) (seen₁ .here); here = 0 }) firsts₁ plains₁ rows₁
+    pub leaf-done : Visited S h search b (record { met = seen₁ .met; possible = bitAnd (seen₁ .possible) (seen₁ .here); here = 0; wanted = 0 }) firsts₁ plains₁ rows₁
     leaf-done = record {
       done = λ t. record {
         least = λ a l. plains-of t a l (ℕ-discrete a b);
@@ -197,7 +211,7 @@ put-entry b from a old room = record {
 }
 
 pub copied : (b a : ℕ) (seen : Seen) (plains plains′ : List ℕ) → Put b plains a plains plains′
-    → Copied b a seen plains (record { met = bitOr (seen .met) (2 ^ 32); possible = seen .possible; here = 0 }) plains′
+    → Copied b a seen plains (record { met = bitOr (seen .met) (2 ^ 32); possible = seen .possible; here = 0; wanted = 0 }) plains′
 copied b a seen plains plains′ P = record {
   possible-kept = refl;
   found = bit-added (seen .met) 32 true refl 32 ∙ rw (eq-eqb 32 32 refl) (or-true (bit (seen .met) 32));

@@ -10,13 +10,19 @@ use Rattle.shares.specs.Constant.{bit}
 use Rattle.format.specs.Stored.{Stored}
 use Rattle.words.specs.Choices.{wordCount}
 use Rattle.words.specs.Kept.{numberAt}
-use Rattle.entries.specs.Entry.{Entry}
+use Rattle.entries.specs.Entry.{Entry, FullMark}
 use Rattle.plans.specs.Pairs.{leafWidth}
 use Rattle.steps.specs.Tests.{leafValues, allowedIn}
 use Rattle.steps.specs.Steps.{onPairs, meetsHere, unmetHere}
 use Rattle.steps.specs.declared.Search.{Search}
 use Rattle.steps.specs.declared.Search.the-variants.{Unmet, Missed}
 use Rattle.steps.specs.declared.Seen.{Seen}
+
+-- nothing is sought any more at a leaf
+pub record Done (search : Search) (met count : ℕ) : Type 0 where
+  pub plain : bit met 32 ≡ true
+  pub full : FullMark count met
+  pub unmet : search ≡ Unmet → bit met 31 ≡ true
 
 -- every leaf so far has a choice that misses disequation j of the second system
 abbrev pub missedBelow : Stored → ℕ → ℕ → ℕ → Bool

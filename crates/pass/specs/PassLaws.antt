@@ -57,7 +57,7 @@ module _ (S : Stored) (h : ℕ) (search : Search) where
   entry-start f firsts e = record { found = bit-zero e ∙ sym (none f); stored = λ t. absurd (T-not (bit 0 e) (of-false (bit-zero e)) t) }
 
   pub after-none : (firsts plains rows : List ℕ) → ((k : ℕ) → getD rows k 0 ≡ 0)
-      → After S h search 0 (record { met = 0; possible = 2 ^ getD (S .counts) 3 0 - 1; here = 0 }) firsts plains rows
+      → After S h search 0 (record { met = 0; possible = 2 ^ getD (S .counts) 3 0 - 1; here = 0; wanted = 0 }) firsts plains rows
   unfolding everyBelow
   after-none firsts plains rows zero = record {
     least = λ a l. absurd (omega arith);

@@ -5,14 +5,16 @@ use steps::Search;
 use steps::Seen;
 use steps::Spot;
 ghost use mathlib.Core.Path.{_≡_};
+ghost use mathlib.Core.Bool.{true};
 ghost use mathlib.Core.List.{List};
 ghost use Prim.Native.Nat.{ℕ, _+_, _*_, _^_, _<_, _≤_};
 ghost use lib.ListN.{length, getD, set};
+ghost use Rattle.words.specs.Choices.{wordCount};
 ghost use Rattle.words.specs.Table.{Terms, Within};
 ghost use Rattle.beside.specs.Beside.{Readable};
 ghost use Rattle.steps.specs.Tests.{leafValues, Named};
-ghost use Rattle.steps.specs.Steps.{storedBy, Placed, PlacedWithin};
-ghost use Rattle.pass.specs.Pass.{After, Copied, Visited, Passed};
+ghost use Rattle.steps.specs.Steps.{storedBy, Placed, PlacedWithin, Amid};
+ghost use Rattle.pass.specs.Pass.{Done, After, Copied, Visited, Passed};
 
 // A leaf: what is searched for, its number, the first leaf that looks like it, and the values of the constants there.
 pub struct Leaf {
@@ -29,6 +31,61 @@ fn put_entry(plains: &mut [u64], number: usize, word: u64, choices: u64)
 {
     plains[2 * number] = word;
     plains[2 * number + 1] = choices;
+}
+
+// Whether nothing is sought any more at a leaf: its least choice and a pair for each of the first system's disequations are found, and so is an unmet choice
+// where one is sought.
+fn is_done(search: Search, met: u64, count: usize) -> bool
+    requires { ⌜ count ≤ 32 ⌝ }
+    ensures { λ r. ⌜ (r ≡ true → Done search met count) ⌝ }
+{
+    if !basics::digit(met, 32) {
+        return false;
+    }
+    if words::first_bits(!met, count) != 0 {
+        return false;
+    }
+    match search {
+        Search::First => true,
+        Search::Unmet => basics::digit(met, 31),
+        Search::Missed(_) => true,
+    }
+}
+
+// The words of a leaf, as long as anything is sought.
+fn pass_words(
+    terms: &mut [u64; 64],
+    clauses: &[u8; CLAUSE_BYTES],
+    sizes: Sizes,
+    search: Search,
+    number: usize,
+    start: Seen,
+    firsts: &mut [u64; 128],
+    rows: &mut [u64; 96],
+) -> Seen
+    requires { ⌜ Readable (now clauses) (sizes .counts) (sizes .free) (sizes .own) ⌝ }
+    requires { ⌜ Named (sizes .counts) search × (number < 64) × Placed (sizes .free) (sizes .own) (now terms) ⌝ }
+    ensures { λ r. ⌜ ((values v : ℕ) → Terms (sizes .free) (sizes .own) values v (now (terms .entry)) → (u : ℕ) × Terms (sizes .free) (sizes .own) values u (now (terms .exit))) ⌝ }
+    ensures { λ r. ⌜ ((h : ℕ) (constants : List ℕ) (v : ℕ) → Terms (sizes .free) (sizes .own) (leafValues (storedBy sizes (now (clauses .entry)) constants) h number) v (now (terms .entry)) → Amid (storedBy sizes (now (clauses .entry)) constants) h search number 0 start (now (firsts .entry)) (now (rows .entry)) → Amid (storedBy sizes (now (clauses .entry)) constants) h search number (wordCount (sizes .free)) r (now (firsts .exit)) (now (rows .exit))) ⌝ }
+    ensures { λ r. ⌜ r .possible ≡ start .possible ⌝ }
+{
+    let words = words::word_count(sizes.free);
+    let mut r = start;
+    let mut w: usize = 0;
+    while w < words {
+        if is_done(search, r.met, sizes.counts[1]) {
+            return r;
+        }
+        words::move_terms(sizes.free, sizes.own, w, terms);
+        let spot = Spot {
+            search,
+            leaf: number,
+            word: w,
+        };
+        r = steps::pass_word(terms, clauses, sizes, spot, r, firsts, rows);
+        w += 1;
+    }
+    r
 }
 
 // All words of a leaf. The least of its choices stands in entry 32 while they are gone over, and then in the leaf's own entry of the table of leaves.
@@ -49,28 +106,19 @@ fn pass_leaf(
 {
     let search = leaf.search;
     let number = leaf.number;
-    let words = words::word_count(sizes.free);
-    let mut r = Seen {
+    let start = Seen {
         met: seen.met & 0xFFFF_FFFF,
         possible: seen.possible,
         here: 0,
+        wanted: seen.possible,
     };
-    let mut w: usize = 0;
-    while w < words {
-        words::move_terms(sizes.free, sizes.own, w, terms);
-        let spot = Spot {
-            search,
-            leaf: number,
-            word: w,
-        };
-        r = steps::pass_word(terms, clauses, sizes, spot, r, firsts, rows);
-        w += 1;
-    }
+    let r = pass_words(terms, clauses, sizes, search, number, start, firsts, rows);
     put_entry(plains, number, firsts[64], firsts[65]);
     Seen {
         met: r.met,
         possible: r.possible & r.here,
         here: 0,
+        wanted: 0,
     }
 }
 
@@ -86,6 +134,7 @@ fn copy_leaf(number: usize, like: usize, seen: Seen, plains: &mut [u64]) -> Seen
         met: seen.met | (1 << 32),
         possible: seen.possible,
         here: 0,
+        wanted: 0,
     }
 }
 
@@ -151,6 +200,7 @@ pub fn pass_leaves(
         met: 0,
         possible: (1 << sizes.counts[3]) - 1,
         here: 0,
+        wanted: 0,
     };
     let mut b: usize = 0;
     while b < leaves {

@@ -23,7 +23,7 @@ use Rattle.entries.specs.EntryLaws.{some-word, entry-none, entry-same}
 use Rattle.plans.specs.Pairs.{leafWidth}
 use Rattle.plans.specs.PairLaws.{number-leaf, number-choice}
 use Rattle.steps.specs.Tests.{leafValues, firstMeets, firstDiffers, secondMeets, secondDiffers, allowedIn}
-use Rattle.steps.specs.Steps.{storedBy, onPairs, meetsHere, unmetHere, Second, Amid}
+use Rattle.steps.specs.Steps.{storedBy, onPairs, meetsHere, unmetHere, Settled, Second, Amid}
 use Rattle.steps.specs.TestLaws.{differs-bits}
 use Rattle.steps.specs.declared.Search.{Search}
 use Rattle.steps.specs.declared.Search.the-variants.{First, Unmet, Missed}
@@ -105,6 +105,7 @@ module _ (sizes : Sizes) (clauses constants : List ℕ) (h b w : ℕ) (search : 
       marks = λ e t j m u i v.
           ap (λ r. bit (getD r (64 + j) 0) i) (kept e) ∙ A .marks e t j m u i v
           ∙ some-same (meetsHere S (Missed j) i) (λ k q. ap (λ c. c && firstDiffers S values i (64 * w + k)) (not-missed e j k q));
+      settled = λ e. subst (λ r. Settled S seen r) (sym (kept e)) (A .settled e);
     }
 
   -- ---- some are
@@ -142,18 +143,19 @@ module _ (sizes : Sizes) (clauses constants : List ℕ) (h b w : ℕ) (search : 
 
     -- a search for a solution of the first system, or for one that misses a disequation
     pub amid-kept : (search ≡ Unmet → ⊥) → (rows′ : List ℕ)
-        → Amid S h search b (w + 1) (record { met = met₂; possible = seen .possible; here = seen .here }) firsts₂ rows′
+        → Amid S h search b (w + 1) (record { met = met₂; possible = seen .possible; here = seen .here; wanted = seen .wanted }) firsts₂ rows′
     amid-kept n rows′ = record {
       plain = plain-after;
       entries = entries-after;
       unmet = λ e. absurd (n e);
       here = λ e. absurd (n e);
       marks = λ e. absurd (n e);
+      settled = λ e. absurd (n e);
     }
 
     -- a search for an unmet choice
     module _ (e : search ≡ Unmet) (seen₃ : Seen) (firsts₃ rows₃ : List ℕ)
-        (Q : Second (storedBy sizes clauses []) values (record { word = w; turn = turn; choices = x }) (record { met = met₂; possible = seen .possible; here = seen .here }) firsts₂ rows seen₃ firsts₃ rows₃)
+        (Q : Second (storedBy sizes clauses []) values (record { word = w; turn = turn; choices = x }) (record { met = met₂; possible = seen .possible; here = seen .here; wanted = seen .wanted }) firsts₂ rows seen₃ firsts₃ rows₃)
         (possible-kept : seen₃ .possible ≡ seen .possible)
         (met-kept : (k : ℕ) → (k ≡ 31 → ⊥) → bit (seen₃ .met) k ≡ bit met₂ k) (firsts-kept : (k : ℕ) → (k ≡ 31 → ⊥) → numberAt firsts₃ k ≡ numberAt firsts₂ k) where
       before : T (not (bit (seen₃ .met) 31)) → T (not (bit (seen .met) 31))
@@ -175,6 +177,7 @@ module _ (sizes : Sizes) (clauses constants : List ℕ) (h b w : ℕ) (search : 
             ∙ ap₂ _||_ (A .marks q (before t) j m v i r) (some-ext 64 _ _ (λ k z. sym (on-pairs S h b w k (meetsHere S (Missed j) i) l z)))
             ∙ sym (some-word turn (onPairs S h (meetsHere S (Missed j) i)))
             ∙ ap (λ t. someBelow (64 * t) (onPairs S h (meetsHere S (Missed j) i))) (next (wordCount (sizes .free)) b w);
+        settled = λ q. Q .settled;
       }
 
 -- ---- numbers

@@ -1,7 +1,7 @@
 -- What is known in the middle of a leaf, after some of its words. A pair of leaf b and choice z is the number b * leafWidth n + z, so that word w of leaf
 -- b is word b * wordCount n + w of all. Assumes nothing.
 use mathlib.Core.Path.{_≡_}
-use mathlib.Core.Bool.{Bool, not, _&&_, _||_}
+use mathlib.Core.Bool.{Bool, true, false, not, _&&_, _||_}
 use mathlib.Core.List.{List}
 use Prim.Native.Nat.{ℕ, _+_, _*_, _/_, _%_, _≤_, _<_}
 use lib.Dec.{T}
@@ -13,7 +13,7 @@ use Rattle.words.specs.Choices.{wordCount}
 use Rattle.words.specs.Kept.{numberAt}
 use Rattle.words.specs.Table.{Terms, Within}
 use Rattle.beside.specs.declared.Sizes.{Sizes}
-use Rattle.entries.specs.Entry.{Entry, WordOf}
+use Rattle.entries.specs.Entry.{Entry, WordOf, FullMark}
 use Rattle.plans.specs.Pairs.{leafWidth}
 use Rattle.steps.specs.Tests.{leafValues, firstMeets, firstDiffers, secondMeets, allowedIn}
 use Rattle.steps.specs.declared.Search.{Search}
@@ -53,6 +53,11 @@ unmetHere S values z = firstMeets S values z && not (secondMeets S values z)
 
 -- ---- in the middle of leaf b, after its first w words
 
+-- there is nothing more to learn at a leaf of a disequation that is no longer wanted: some choice misses it, and each of the first system's was met with it
+abbrev pub Settled : Stored → Seen → List ℕ → Type 0
+Settled S seen rows = (j : ℕ) → j < getD (S .counts) 3 0 → T (bit (seen .possible) j) → bit (seen .wanted) j ≡ false
+    → (bit (seen .here) j ≡ true) × FullMark (getD (S .counts) 1 0) (getD rows (64 + j) 0)
+
 pub record Amid (S : Stored) (h : ℕ) (search : Search) (b w : ℕ) (seen : Seen) (firsts rows : List ℕ) : Type 0 where
   -- the least choice of the leaf, in entry 32
   pub plain : Entry (allowedIn S search (leafValues S h b)) w (seen .met) firsts 32
@@ -66,6 +71,8 @@ pub record Amid (S : Stored) (h : ℕ) (search : Search) (b w : ℕ) (seen : See
   pub marks : search ≡ Unmet → T (not (bit (seen .met) 31)) → (j : ℕ) → j < getD (S .counts) 3 0 → T (bit (seen .possible) j)
       → (i : ℕ) → i < getD (S .counts) 1 0 → bit (getD rows (64 + j) 0) i ≡ someBelow (64 * (b * wordCount (S .free) + w)) (onPairs S h (meetsHere S (Missed j) i))
 
+  pub settled : search ≡ Unmet → Settled S seen rows
+
 -- what the second system says of one word, whose choices the first system allows: the search for an unmet choice has seen it and, unless there is one, each
 -- disequation of the second that is possible has its bit and its mark for it
 pub record Second (S : Stored) (values : ℕ) (at : Allowed) (seen : Seen) (firsts rows : List ℕ) (seen′ : Seen) (firsts′ rows′ : List ℕ) : Type 0 where
@@ -76,3 +83,4 @@ pub record Second (S : Stored) (values : ℕ) (at : Allowed) (seen : Seen) (firs
       → bit (seen′ .here) j ≡ (bit (seen .here) j || someBelow 64 (λ i. allowedIn S (Missed j) values (64 * at .word + i)))
   pub marks : T (not (bit (seen′ .met) 31)) → (j : ℕ) → j < getD (S .counts) 3 0 → T (bit (seen .possible) j) → (i : ℕ) → i < getD (S .counts) 1 0
       → bit (getD rows′ (64 + j) 0) i ≡ (bit (getD rows (64 + j) 0) i || someBelow 64 (λ k. meetsHere S (Missed j) i values (64 * at .word + k)))
+  pub settled : Settled S seen′ rows′

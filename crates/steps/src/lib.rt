@@ -1,6 +1,7 @@
 // One word of choices at a leaf: which of them a search allows, and what is kept of them.
 use basics::CLAUSE_BYTES;
 use beside::Sizes;
+use entries::Marks;
 ghost use mathlib.Core.Path.{_≡_};
 ghost use mathlib.Core.List.{List, []};
 ghost use Prim.Native.Nat.{ℕ, _+_, _*_, _<_};
@@ -11,7 +12,7 @@ ghost use Rattle.words.specs.Kept.{numberAt};
 ghost use Rattle.words.specs.Table.{Terms};
 ghost use Rattle.beside.specs.Beside.{SameFree, Readable};
 ghost use Rattle.steps.specs.Tests.{leafValues, firstMeets, allowedIn, Named};
-ghost use Rattle.steps.specs.Steps.{storedBy, Tabled, Amid, Second};
+ghost use Rattle.steps.specs.Steps.{storedBy, Tabled, Settled, Amid, Second};
 
 // What is searched for.
 pub enum Search {
@@ -31,6 +32,8 @@ pub struct Seen {
     pub possible: u64,
     // which of them some choice of this leaf misses so far
     pub here: u64,
+    // which of them there is still something to learn of at this leaf
+    pub wanted: u64,
 }
 
 // A word of choices: what is searched for, the leaf, and the word of its choices.
@@ -111,7 +114,7 @@ fn second_word(
 ) -> Seen
     requires { ⌜ Readable (now clauses) (sizes .counts) (sizes .free) (sizes .own) ⌝ }
     requires { ⌜ (at .word < wordCount (sizes .free)) × SameFree (sizes .free) (at .choices) ⌝ }
-    ensures { λ r. ⌜ ((values : ℕ) → Terms (sizes .free) (sizes .own) values (at .word) (now (terms .entry)) → Terms (sizes .free) (sizes .own) values (at .word) (now (terms .exit)) × (((i : ℕ) → i < 64 → bit (at .choices) i ≡ firstMeets (storedBy sizes (now (clauses .entry)) []) values (64 * at .word + i)) → Second (storedBy sizes (now (clauses .entry)) []) values at seen (now (firsts .entry)) (now (rows .entry)) r (now (firsts .exit)) (now (rows .exit)))) ⌝ }
+    ensures { λ r. ⌜ ((values : ℕ) → Terms (sizes .free) (sizes .own) values (at .word) (now (terms .entry)) → Terms (sizes .free) (sizes .own) values (at .word) (now (terms .exit)) × (((i : ℕ) → i < 64 → bit (at .choices) i ≡ firstMeets (storedBy sizes (now (clauses .entry)) []) values (64 * at .word + i)) → Settled (storedBy sizes (now (clauses .entry)) []) seen (now (rows .entry)) → Second (storedBy sizes (now (clauses .entry)) []) values at seen (now (firsts .entry)) (now (rows .entry)) r (now (firsts .exit)) (now (rows .exit)))) ⌝ }
     ensures { λ r. ⌜ (r .possible ≡ seen .possible) × ((k : ℕ) → (k ≡ 31 → ⊥) → bit (r .met) k ≡ bit (seen .met) k) × ((k : ℕ) → (k ≡ 31 → ⊥) → numberAt (now (firsts .exit)) k ≡ numberAt (now (firsts .entry)) k) ⌝ }
 {
     if basics::digit(seen.met, 31) {
@@ -123,29 +126,29 @@ fn second_word(
         sizes,
         at.word,
         at.choices,
-        seen.possible,
+        seen.wanted,
         rows,
     );
     let met = entries::keep_word(31, at.turn, none, seen.met, firsts);
-    if seen.possible == 0 {
+    if seen.wanted == 0 {
         return Seen {
             met,
             possible: seen.possible,
             here: seen.here,
+            wanted: seen.wanted,
         };
     }
     entries::fill_failing(terms, clauses, sizes.counts[1], at.choices, rows);
-    let here = entries::mark_all(
-        rows,
-        seen.possible,
-        sizes.counts[1],
-        sizes.counts[3],
-        seen.here,
-    );
+    let marks = Marks {
+        here: seen.here,
+        wanted: seen.wanted,
+    };
+    let more = entries::mark_all(rows, sizes.counts[1], sizes.counts[3], marks);
     Seen {
         met,
         possible: seen.possible,
-        here,
+        here: more.here,
+        wanted: more.wanted,
     }
 }
 
@@ -177,6 +180,7 @@ pub fn pass_word(
         met,
         possible: seen.possible,
         here: seen.here,
+        wanted: seen.wanted,
     };
     let at = Allowed {
         word: spot.word,

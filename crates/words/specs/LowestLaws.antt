@@ -1,6 +1,6 @@
 -- The lowest set bit of a word, and the word without it. Assumes nothing.
 use mathlib.Core.Path.{_≡_, refl, sym, ap, _∙_, subst, fun-ext}
-use mathlib.Core.Bool.{Bool, true, false, not, _&&_, _||_, and-true, or-false}
+use mathlib.Core.Bool.{Bool, true, false, not, _&&_, _||_, and-true, and-false, or-false}
 use Prim.Native.Nat.{ℕ, zero, suc, _+_, _-_, _*_, _/_, _%_, _^_, _≤_, _<_}
 use native.Mathlib.Nat.{add-zero, suc-mul, mod-lt, div-one, lt-of-lt-of-le}
 use native.Mathlib.Decide.{decLt, ℕ-discrete}
@@ -8,15 +8,15 @@ use native.Mathlib.Omega.{arith}
 use lib.Arith.{lt-of-le-ne}
 use lib.Bits.{bitAnd}
 use lib.Count.{trailingZeros, under}
-use lib.Dec.{T, T-not, eqb, eqb→eq, eqb-refl}
+use lib.Dec.{T, T-not, eqb, eqb→eq, eqb-refl, ltb}
 use lib.Pow.{pow-pos, pow-mono, split}
-use borrow.Author.Tests.{eq-eqb, ne-eqb}
+use borrow.Author.Tests.{eq-eqb, ne-eqb, lt-ltb, le-ltb}
 use Rattle.shares.specs.Test.{is-true, is-false, and-right}
 use Rattle.shares.specs.Below.{firstBelow}
 use Rattle.shares.specs.BelowLaws.{first-below, first-least}
 use Rattle.shares.specs.Constant.{bit}
 use Rattle.shares.specs.BitLaws.{bit-and, bit-half, bits-zero}
-use Rattle.shares.specs.BitParts.{bit-beyond, bit-mod, bit-shift, bit-high}
+use Rattle.shares.specs.BitParts.{bit-beyond, bit-ones, bit-mod, bit-shift, bit-high}
 
 -- the zeros below the lowest set bit of x
 lowest-bit : (x : ℕ) → bit x 0 ≡ eqb (x % 2) 1
@@ -121,6 +121,15 @@ without-bit x small some k = bit-and x (x - 1) k ∙ go (decLt k i) (ℕ-discret
 pub without-less : (x y i : ℕ) → y ≤ x → ((k : ℕ) → bit y k ≡ (bit x k && not (eqb k i))) → T (bit x i) → y < x
 without-less x y i l out t =
     lt-of-le-ne l (λ e. T-not (eqb i i) (and-right (bit x i) _ (subst T (ap (λ z. bit z i) (sym e) ∙ out i) t)) (eqb-refl i))
+
+-- ---- the first bits of a word
+
+pub first-bits : (x count k : ℕ) → bit (bitAnd x (2 ^ count - 1)) k ≡ (ltb k count && bit x k)
+first-bits x count k = bit-and x (2 ^ count - 1) k ∙ go (decLt k count)
+  where
+    go : Dec (k < count) → (bit x k && bit (2 ^ count - 1) k) ≡ (ltb k count && bit x k)
+    go (yes l) = rw (bit-ones count k l, lt-ltb k count l) (and-true (bit x k))
+    go (no g) = rw (bit-beyond count (2 ^ count - 1) k (omega (arith, pow-pos count)) (omega arith), le-ltb k count (omega arith)) (and-false (bit x k))
 
 -- ---- bit after bit
 

@@ -5,7 +5,7 @@ use shares::Way;
 ghost use mathlib.Core.Path.{_≡_};
 ghost use mathlib.Core.Bool.{_&&_, not};
 ghost use Prim.Native.Nat.{ℕ, _+_, _-_, _*_, _^_, _<_, _≤_};
-ghost use lib.Dec.{eqb};
+ghost use lib.Dec.{eqb, ltb};
 ghost use lib.ListN.{length, getD};
 ghost use Rattle.shares.specs.Below.{firstBelow};
 ghost use Rattle.shares.specs.Constant.{constantLevels, bit};
@@ -238,6 +238,14 @@ pub fn without_lowest(x: u64) -> u64
     ensures { λ r. ⌜ (r ≤ x) × ((k : ℕ) → bit r k ≡ (bit x k && not (eqb k (firstBelow 64 (bit x))))) ⌝ }
 {
     x & (x - 1)
+}
+
+// The first `count` bits of x.
+pub fn first_bits(x: u64, count: usize) -> u64
+    requires { ⌜ count ≤ 32 ⌝ }
+    ensures { λ r. ⌜ (r < 2 ^ 32) × ((k : ℕ) → bit r k ≡ (ltb k count && bit x k)) ⌝ }
+{
+    x & ((1 << count) - 1)
 }
 
 // How many words hold 2^d choices.

@@ -1,13 +1,13 @@
 -- `steps::pass_word` meets its contract. Assumes nothing.
 use mathlib.Core.Bool.{_&&_, not}
 use mathlib.Core.List.{List, []}
-use mathlib.Core.Path.{_≡_, refl, sym, ap, _∙_}
+use mathlib.Core.Path.{_≡_, refl, sym, ap, _∙_, subst}
 use Prim.Native.Nat.{ℕ, _+_, _*_, _<_}
 use native.Mathlib.Omega.{arith}
 use borrow.Author.Needs.{needs}
 use lib.ListN.{getD}
 use Rattle.entries.specs.Entry.{KeptAll}
-use Rattle.steps.specs.Steps.{storedBy, Amid}
+use Rattle.steps.specs.Steps.{storedBy, Settled, Amid}
 use Rattle.steps.specs.StepLaws.{allowed-same, turn-lt, amid-none, amid-kept, amid-second}
 use Rattle.steps.specs.TestLaws.{first-not-unmet, missed-not-unmet}
 use Rattle.steps.specs.Tests.{leafValues, firstMeets, allowedIn}
@@ -91,7 +91,7 @@ alone : (k : tie.After-keep-all) → (
     → Terms (a .t3 .free) (a .t3 .own) (leafValues (storedBy (a .t3) (a .clauses .now) constants) h (a .spot .leaf)) (a .spot .word) (a .terms .now)
     → Amid (storedBy (a .t3) (a .clauses .now) constants) h (a .spot .search) (a .spot .leaf) (a .spot .word) (a .seen) (a .firsts .now) (a .rows .now)
     → Amid (storedBy (a .t3) (a .clauses .now) constants) h (a .spot .search) (a .spot .leaf) (a .spot .word + 1)
-    (record { met = k .keep-all .result; possible = a .seen .possible; here = a .seen .here }) (k .keep-all .last .1 .1 .1 .1 .1 .1 .0) rows)
+    (record { met = k .keep-all .result; possible = a .seen .possible; here = a .seen .here; wanted = a .seen .wanted }) (k .keep-all .last .1 .1 .1 .1 .1 .1 .0) rows)
 alone k other rows h constants t A =
     let s = k .before .before .before .before .before .before .before .before .before .before .before .before .before in
     let a = s .args in
@@ -128,7 +128,7 @@ returns-3 c =
             amid-second (a .t3) (a .clauses .now) constants h (a .spot .leaf) (a .spot .word) (a .spot .search) (a .seen) _ _ (s .pre .1 .2) A
             (s .pre .0) (x .last .0) (U .0) (x .result)
             (λ j m. U .1 j m ∙ allowed-same (a .t3) (a .clauses .now) constants (a .spot .search) _ _) _ _ (k .before .before .before .before .keep-word .ensures) _ _ (kept k)
-            e _ _ _ (rw (k .before .before .before .before .before .before .before .before .word-count .ensures, x .ensures .1 e .1) at (Q .0 _ (U .0) .1 first)) (Q .1 .0) (Q .1 .1) (Q .1 .2),
+            e _ _ _ (rw (k .before .before .before .before .before .before .before .before .word-count .ensures, x .ensures .1 e .1) at (Q .0 _ (U .0) .1 first (subst (λ r. Settled S₀ (a .seen) r) (sym (x .ensures .1 e .1)) (A .settled e)))) (Q .1 .0) (Q .1 .1) (Q .1 .2),
         Q .1 .0,
       ),
     )

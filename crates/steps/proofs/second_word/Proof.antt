@@ -28,7 +28,7 @@ returns-2 c =
     let K = c .before .before .keep-word .ensures in (
       λ values t. (
         M .0 values t .0,
-        λ first. second-alone (a .t3) (a .clauses .now) (s .pre .0) values (a .at) (a .seen) _ _ first _ _ (M .0 values t .1) (M .1) (sym (c .before .before .before .before .before .before .before .before .digit .ensures) ∙ c .before .before .before .before .before .before .before .if1 .left) _ _ K (c .if2 .taken),
+        λ first Z. second-alone (a .t3) (a .clauses .now) (s .pre .0) values (a .at) (a .seen) _ _ first _ _ (M .0 values t .1) (M .1) (sym (c .before .before .before .before .before .before .before .before .digit .ensures) ∙ c .before .before .before .before .before .before .before .if1 .left) Z _ _ K (c .if2 .taken),
       ),
       (refl, K .met-kept, K .firsts-kept),
     )
@@ -57,9 +57,9 @@ returns-3 c =
     let F = c .before .before .before .before .fill-failing .ensures in (
       λ values t. (
         M .0 values t .0,
-        λ first.
-            second-marked (a .t3) (a .clauses .now) (s .pre .0) values (a .at) (a .seen) _ _ first _ _ (M .0 values t .1) (M .1) (sym (c .before .before .before .before .before .before .before .before .before .before .before .before .before .before .before .before .digit .ensures) ∙ c .before .before .before .before .before .before .before .before .before .before .before .before .before .before .before .if1 .left) _ _ K
-            (c .before .before .before .before .before .before .before .before .before .before .before .before .missing .last .0) _ (M .0 values t .0) (F .0) (F .1) _ _ (c .mark-all .ensures),
+        λ first Z.
+            second-marked (a .t3) (a .clauses .now) (s .pre .0) values (a .at) (a .seen) _ _ first _ _ (M .0 values t .1) (M .1) (sym (c .before .before .before .before .before .before .before .before .before .before .before .before .before .before .before .before .digit .ensures) ∙ c .before .before .before .before .before .before .before .before .before .before .before .before .before .before .before .if1 .left) Z _ _ K
+            (c .before .before .before .before .before .before .before .before .before .before .before .before .missing .last .0) _ (M .0 values t .0) (F .0) (F .1) _ _ _ (c .mark-all .ensures),
       ),
       (refl, K .met-kept, K .firsts-kept),
     )
