@@ -1,6 +1,6 @@
 -- Laws of clauses: the tests by Boolean operations, and the parts that a section reads. Assumes nothing.
 use mathlib.Core.Path.{_≡_, refl, sym, ap, ap₂, _∙_, subst}
-use mathlib.Core.Bool.{Bool, true, false, not, xor, cond, _&&_, _||_}
+use mathlib.Core.Bool.{Bool, true, false, not, xor, cond, _&&_, _||_, Bool·not-not}
 use mathlib.Core.List.{List}
 use mathlib.Core.Option.{none, some}
 use Prim.Native.Nat.{ℕ, _+_, _-_, _*_, _^_, _≤_, _<_}
@@ -21,23 +21,13 @@ use Rattle.shares.specs.WayLaws.{is-way-iff, apart-test}
 use Rattle.shares.specs.declared.Way.{Way}
 use Rattle.shares.specs.declared.Way.the-variants.{Holds, Overlap, Surplus, Shortfall}
 use Rattle.words.specs.declared.Ways.{Ways}
-use Rattle.words.specs.Clause.{testWay, WaysOf, clauseTest, allClauses, Clauses}
+use Rattle.words.specs.Clause.{testWay, testValue, WaysOf, clauseTest, allClauses, Clauses}
 
 -- ---- the ways of a test by operations on bits
 
--- with a sum
-sum-held : (a b c : Bool) → not ((a && b) || xor (a || b) c) ≡ isWay Holds (leafTest a b (some c))
-unfolding leafTest joinLeaf xor
-sum-held false false false = refl
-sum-held false false true = refl
-sum-held false true false = refl
-sum-held false true true = refl
-sum-held true false false = refl
-sum-held true false true = refl
-sum-held true true c = refl
-
-sum-ways : (a b c : Bool) → let w = leafTest a b (some c) in
-    ((a && b) ≡ isWay Overlap w) × ((xor a b && not c) ≡ isWay Surplus w) × ((c && not (a || b)) ≡ isWay Shortfall w)
+-- with a sum; two bits apart from an overlap are unlike the sum by a surplus or a shortfall
+sum-ways : (a b c : Bool) → let w = leafTest a b (some c) in let unlike = xor (a || b) c && not (a && b) in
+    ((a && b) ≡ isWay Overlap w) × ((unlike && not c) ≡ isWay Surplus w) × ((unlike && c) ≡ isWay Shortfall w)
 unfolding leafTest joinLeaf xor
 sum-ways false false false = (refl, refl, refl)
 sum-ways false false true = (refl, refl, refl)
@@ -50,12 +40,13 @@ sum-ways true true true = (refl, refl, refl)
 
 -- without one
 apart-ways : (a b : Bool) → let w = leafTest a b none in
-    (not (a && b) ≡ isWay Holds w) × ((a && b) ≡ isWay Overlap w) × (false ≡ isWay Surplus w) × (false ≡ isWay Shortfall w)
+    ((a && b) ≡ isWay Overlap w) × (false ≡ isWay Surplus w) × (false ≡ isWay Shortfall w)
 apart-ways a b = rw (apart-test a b) (by-case (a && b))
   where
-    by-case : (d : Bool) → let w = cond d Overlap Holds in (not d ≡ isWay Holds w) × (d ≡ isWay Overlap w) × (false ≡ isWay Surplus w) × (false ≡ isWay Shortfall w)
-    by-case true = (refl, refl, refl, refl)
-    by-case false = (refl, refl, refl, refl)
+    by-case : (d : Bool) → let w = cond d Overlap Holds in
+        (d ≡ isWay Overlap w) × (false ≡ isWay Surplus w) × (false ≡ isWay Shortfall w)
+    by-case true = (refl, refl, refl)
+    by-case false = (refl, refl, refl)
 
 -- a test fails in one of three ways
 fails-some : (w : Way) → (isWay Overlap w || (isWay Surplus w || isWay Shortfall w)) ≡ not (isWay Holds w)
@@ -70,15 +61,6 @@ pub not-bits : (x i : ℕ) (p : Bool) → x < 2 ^ 64 → i < 64 → bit x i ≡ 
 not-bits x i p l h e = bit-not 64 x i l h ∙ ap not e
 
 module _ (a b c : ℕ) (x : a < 2 ^ 64) (y : b < 2 ^ 64) (z : c < 2 ^ 64) where
-  pub sum-word : (i : ℕ) → i < 64 → bit ((2 ^ 64 - 1) - bitOr (bitAnd a b) (bitXor (bitOr a b) c)) i ≡ isWay Holds (leafTest (bit a i) (bit b i) (some (bit c i)))
-  sum-word i h =
-      not-bits (bitOr (bitAnd a b) (bitXor (bitOr a b) c)) i _ (or-lt 64 _ _ (and-lt 64 _ _ x y) (xor-lt 64 _ _ (or-lt 64 _ _ x y) z)) h
-      (bit-or (bitAnd a b) (bitXor (bitOr a b) c) i ∙ ap₂ _||_ (bit-and a b i) (bit-xor (bitOr a b) c i ∙ ap (λ x. xor x (bit c i)) (bit-or a b i)))
-      ∙ sum-held (bit a i) (bit b i) (bit c i)
-
-  pub apart-word : (i : ℕ) → i < 64 → bit ((2 ^ 64 - 1) - bitAnd a b) i ≡ isWay Holds (leafTest (bit a i) (bit b i) none)
-  apart-word i h = not-bits (bitAnd a b) i _ (and-lt 64 _ _ x y) h (bit-and a b i) ∙ apart-ways (bit a i) (bit b i) .0
-
   -- three words that are right of each way are right of the test
   ways-of : (form : ℕ) (w : Ways) → ((i : ℕ) → i < 64 → let t = testWay form (bit a i) (bit b i) (bit c i) in
       (bit (w .overlap) i ≡ isWay Overlap t) × (bit (w .surplus) i ≡ isWay Surplus t) × (bit (w .shortfall) i ≡ isWay Shortfall t)) → WaysOf form a b c w
@@ -89,16 +71,25 @@ module _ (a b c : ℕ) (x : a < 2 ^ 64) (y : b < 2 ^ 64) (z : c < 2 ^ 64) where
     fails = λ i h. ap₂ _||_ (f i h .0) (ap₂ _||_ (f i h .1) (f i h .2)) ∙ fails-some (testWay form (bit a i) (bit b i) (bit c i));
   }
 
+  abbrev unlike : ℕ
+  unlike = bitAnd (bitXor (bitOr a b) c) ((2 ^ 64 - 1) - bitAnd a b)
+
+  unlike-bits : (i : ℕ) → i < 64 → bit unlike i ≡ (xor (bit a i || bit b i) (bit c i) && not (bit a i && bit b i))
+  unlike-bits i h =
+      bit-and (bitXor (bitOr a b) c) ((2 ^ 64 - 1) - bitAnd a b) i
+      ∙ ap₂ _&&_ (bit-xor (bitOr a b) c i ∙ ap (λ d. xor d (bit c i)) (bit-or a b i))
+      (not-bits (bitAnd a b) i _ (and-lt 64 _ _ x y) h (bit-and a b i))
+
   pub sum-words : (form : ℕ) → form ≡ 0
-      → WaysOf form a b c (record { overlap = bitAnd a b; surplus = bitAnd (bitXor a b) ((2 ^ 64 - 1) - c); shortfall = bitAnd c ((2 ^ 64 - 1) - bitOr a b) })
+      → WaysOf form a b c (record { overlap = bitAnd a b; surplus = bitAnd unlike ((2 ^ 64 - 1) - c); shortfall = bitAnd unlike c })
   unfolding testWay
   sum-words form e =
       ways-of form _ (λ i h.
       let S = sum-ways (bit a i) (bit b i) (bit c i) in
       rw (eq-eqb form 0 e) (
         bit-and a b i ∙ S .0,
-        bit-and (bitXor a b) ((2 ^ 64 - 1) - c) i ∙ ap₂ _&&_ (bit-xor a b i) (not-bits c i _ z h refl) ∙ S .1,
-        bit-and c ((2 ^ 64 - 1) - bitOr a b) i ∙ ap (λ d. bit c i && d) (not-bits (bitOr a b) i _ (or-lt 64 _ _ x y) h (bit-or a b i)) ∙ S .2,
+        bit-and unlike ((2 ^ 64 - 1) - c) i ∙ ap₂ _&&_ (unlike-bits i h) (not-bits c i _ z h refl) ∙ S .1,
+        bit-and unlike c i ∙ ap (λ d. d && bit c i) (unlike-bits i h) ∙ S .2,
       ))
 
   pub apart-words : (form : ℕ) → (form ≡ 0 → ⊥) → WaysOf form a b c (record { overlap = bitAnd a b; surplus = 0; shortfall = 0 })
@@ -106,7 +97,18 @@ module _ (a b c : ℕ) (x : a < 2 ^ 64) (y : b < 2 ^ 64) (z : c < 2 ^ 64) where
   apart-words form n =
       ways-of form _ (λ i h.
       let A = apart-ways (bit a i) (bit b i) in
-      rw (ne-eqb form 0 n) (bit-and a b i ∙ A .1, bit-zero i ∙ A .2, bit-zero i ∙ A .3))
+      rw (ne-eqb form 0 n) (bit-and a b i ∙ A .0, bit-zero i ∙ A .1, bit-zero i ∙ A .2))
+
+-- the test holds where none of the three words has its bit
+pub holds-word : (form a b c : ℕ) (w : Ways) → WaysOf form a b c w
+    → w .overlap < 2 ^ 64 → w .surplus < 2 ^ 64 → w .shortfall < 2 ^ 64
+    → (i : ℕ) → i < 64 → bit ((2 ^ 64 - 1) - bitOr (w .overlap) (bitOr (w .surplus) (w .shortfall))) i ≡ testValue form (bit a i) (bit b i) (bit c i)
+holds-word form a b c w W x y z i h =
+    not-bits (bitOr (w .overlap) (bitOr (w .surplus) (w .shortfall))) i _ (or-lt 64 _ _ x (or-lt 64 _ _ y z)) h
+    (bit-or (w .overlap) (bitOr (w .surplus) (w .shortfall)) i
+    ∙ ap (λ d. bit (w .overlap) i || d) (bit-or (w .surplus) (w .shortfall) i)
+    ∙ W .fails i h)
+    ∙ Bool·not-not (testValue form (bit a i) (bit b i) (bit c i))
 
 -- ---- the way at one leaf from the three words
 

@@ -22,18 +22,6 @@ fn term_word(terms: &[u64; 64], clauses: &[u8; CLAUSE_BYTES], at: usize) -> u64
     terms[t]
 }
 
-// Bit i of the result is the test with this form at the bits i of a, b and c.
-pub fn test_word(form: u8, a: u64, b: u64, c: u64) -> u64
-    ensures { λ r. ⌜ ((i : ℕ) → i < 64 → bit r i ≡ testValue form (bit a i) (bit b i) (bit c i)) ⌝ }
-{
-    let overlap = a & b;
-    let off = overlap | ((a | b) ^ c);
-    if form == 0 {
-        return !off;
-    }
-    !overlap
-}
-
 // How a test comes out at 64 leaves: those where the parts overlap, those with a surplus, and those with a shortfall. It holds at the others.
 pub struct Ways {
     pub overlap: u64,
@@ -47,10 +35,11 @@ pub fn ways_word(form: u8, a: u64, b: u64, c: u64) -> Ways
 {
     let overlap = a & b;
     if form == 0 {
+        let unlike = ((a | b) ^ c) & !overlap;
         return Ways {
             overlap,
-            surplus: (a ^ b) & !c,
-            shortfall: c & !(a | b),
+            surplus: unlike & !c,
+            shortfall: unlike & c,
         };
     }
     Ways {
@@ -58,6 +47,14 @@ pub fn ways_word(form: u8, a: u64, b: u64, c: u64) -> Ways
         surplus: 0,
         shortfall: 0,
     }
+}
+
+// Bit i of the result says that the test with this form holds at the bits i of a, b and c: it fails in none of the three ways.
+pub fn test_word(form: u8, a: u64, b: u64, c: u64) -> u64
+    ensures { λ r. ⌜ ((i : ℕ) → i < 64 → bit r i ≡ testValue form (bit a i) (bit b i) (bit c i)) ⌝ }
+{
+    let ways = ways_word(form, a, b, c);
+    !(ways.overlap | (ways.surplus | ways.shortfall))
 }
 
 // How the test comes out at leaf i.
