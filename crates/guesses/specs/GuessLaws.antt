@@ -9,7 +9,7 @@ use native.Mathlib.Decide.{decLt}
 use native.Mathlib.Omega.{arith}
 use lib.Bits.{bitAnd, and-mask}
 use lib.Dec.{T-not, ltb, eqb}
-use lib.ListN.{length, replicate, getD, set, length-set}
+use lib.ListN.{length, replicate, getD, set, length-set, getD-replicate}
 use lib.Pow.{pow-pos, pow-mono}
 use lib.Seq.{getD-set-same, getD-set-other}
 use borrow.Author.Tests.{lt-ltb, le-ltb, eq-eqb, ne-eqb}
@@ -18,7 +18,7 @@ use Rattle.shares.specs.BelowLaws.{first-below, first-least}
 use Rattle.shares.specs.Constant.{bit}
 use Rattle.shares.specs.BitLaws.{bit-zero, bits-zero}
 use Rattle.shares.specs.BitParts.{bit-mod}
-use Rattle.shares.specs.NumberLaws.{zero-at, halved}
+use Rattle.shares.specs.NumberLaws.{halved}
 use Rattle.words.specs.Kept.{lowestIn}
 use Rattle.words.specs.KeptLaws.{lowest-in-lt}
 use Rattle.shares.specs.Shifts.{power-shift}
@@ -94,7 +94,7 @@ few h = pow-mono h
 
 -- ---- a guess more
 
--- the values of all variables but the last `left` are guessed, and those are empty: the least choice is one of the 2 ^ left choices from `low` on, which
+-- the values of all variables but the last `left` are guessed, and those are full: the least choice is one of the 2 ^ left choices from `low` on, which
 -- are those with the guessed values
 pub record Guessed (least free left : ℕ) (values : List ℕ) (low span : ℕ) : Type 0 where
   pub within : left ≤ free
@@ -102,26 +102,31 @@ pub record Guessed (least free left : ℕ) (values : List ℕ) (low span : ℕ) 
   pub start : low ≡ choiceNumber (free - left) values * span
   pub size : length values ≡ 12
   pub digits : Values values
-  pub later : (v : ℕ) → free - left ≤ v → getD values v 0 ≡ 0
+  pub later : (v : ℕ) → free - left ≤ v → v < 12 → getD values v 0 ≡ 1
   pub lower : low ≤ least
   pub upper : least < low + span
 
 digit-more : (n d h : ℕ) → (2 * n + d) * h ≡ n * (2 * h) + d * h
 digit-more n d h = add-mul (2 * n) d h ∙ ap (λ x. x + d * h) (ap (λ x. x * h) (mul-comm 2 n) ∙ mul-assoc n 2 h)
 
+ones-small : (n : ℕ) → Values (replicate n 1)
+ones-small zero v = omega arith
+ones-small (suc n) zero = omega arith
+ones-small (suc n) (suc v) = ones-small n v
+
 -- nothing is guessed at first
-pub guess-none : (least free : ℕ) → least < 2 ^ free → Guessed least free free (replicate 12 0) 0 (2 ^ free)
+pub guess-none : (least free : ℕ) → least < 2 ^ free → Guessed least free free (replicate 12 1) 0 (2 ^ free)
 unfolding choiceNumber
 guess-none least free h =
-    let values : List ℕ = replicate 12 0 in
+    let values : List ℕ = replicate 12 1 in
     let e : free - free ≡ 0 = omega arith in
     record {
       within = omega arith;
       range = refl;
       start = sym (ap (λ k. choiceNumber k values * 2 ^ free) e ∙ zero-mul (2 ^ free));
       size = refl;
-      digits = λ v. omega (arith, zero-at 12 v);
-      later = λ v l. zero-at 12 v;
+      digits = ones-small 12;
+      later = λ v l m. getD-replicate 12 v 1 0 m;
       lower = omega arith;
       upper = omega arith;
     }
@@ -144,35 +149,35 @@ module _ (least free left : ℕ) (values : List ℕ) (low span : ℕ) (g : Guess
       ∙ ap (λ n. n + d * (span / 2)) (ap (λ n. choiceNumber (free - left) values * n) two-halves ∙ sym (g .start)))
 
   -- the least choice is in the lower span of the range: the next variable is empty
-  pub guess-empty : least < low + span / 2 → Guessed least free (left - 1) values low (span / 2)
-  guess-empty l =
-      let e : low + 0 * (span / 2) ≡ low = omega arith in
-      record {
-        within = omega (arith, g .within);
-        range = half-range;
-        start = sym e ∙ next-start values 0 refl (g .later (free - left) (omega arith));
-        size = g .size;
-        digits = g .digits;
-        later = λ v k. g .later v (omega arith);
-        lower = g .lower;
-        upper = l;
-      }
-
-  -- it is in the upper span: the next variable is full
-  pub guess-full : free ≤ 12 → low + span / 2 ≤ least → Guessed least free (left - 1) (set values (free - left) 1) (low + span / 2) (span / 2)
-  guess-full f l =
+  pub guess-empty : free ≤ 12 → least < low + span / 2 → Guessed least free (left - 1) (set values (free - left) 0) low (span / 2)
+  guess-empty f l =
       let inside : free - left < length values = omega (arith, g .size, g .within) in
-      let e : low + 1 * (span / 2) ≡ low + span / 2 = omega arith in
+      let e : low + 0 * (span / 2) ≡ low = omega arith in
       record {
         within = omega (arith, g .within);
         range = half-range;
         start =
             sym e
-            ∙ next-start (set values (free - left) 1) 1 (number-kept (free - left) values (free - left) 1 (omega arith))
-            (getD-set-same values (free - left) 1 0 inside);
+            ∙ next-start (set values (free - left) 0) 0 (number-kept (free - left) values (free - left) 0 (omega arith))
+            (getD-set-same values (free - left) 0 0 inside);
         size = simp length-set (g .size);
-        digits = store-law (λ j x. x < 2) values (free - left) 1 inside (λ j n. g .digits j) (omega arith);
-        later = λ v k. getD-set-other values (free - left) v 1 0 (λ q. omega (arith, g .within)) ∙ g .later v (omega (arith, g .within));
+        digits = store-law (λ j x. x < 2) values (free - left) 0 inside (λ j n. g .digits j) (omega arith);
+        later = λ v k m. getD-set-other values (free - left) v 0 0 (λ q. omega (arith, g .within)) ∙ g .later v (omega (arith, g .within)) m;
+        lower = g .lower;
+        upper = l;
+      }
+
+  -- it is in the upper span: the next variable is full, as it was before the guess
+  pub guess-full : free ≤ 12 → low + span / 2 ≤ least → Guessed least free (left - 1) values (low + span / 2) (span / 2)
+  guess-full f l =
+      let e : low + 1 * (span / 2) ≡ low + span / 2 = omega arith in
+      record {
+        within = omega (arith, g .within);
+        range = half-range;
+        start = sym e ∙ next-start values 1 refl (g .later (free - left) (omega arith) (omega (arith, g .within)));
+        size = g .size;
+        digits = g .digits;
+        later = λ v k m. g .later v (omega arith) m;
         lower = l;
         upper = omega (arith, g .upper, two-halves);
       }

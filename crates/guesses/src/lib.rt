@@ -27,25 +27,23 @@ fn passes_below(passing: Passing, end: usize) -> bool
     choices & ((1 << (end - start)) - 1) != 0
 }
 
-// The values of the least choice that passes. The variables are guessed in order, each empty first: the values are copied, the guess is kept if a choice
-// that passes has it, and otherwise replaced by full. `left` are left to guess, and the choices with the values so far are the 2^left from `low` on.
+// The values of the least choice that passes. The variables are guessed in order; one that is not guessed yet is full. Before each guess the values are
+// copied, and the guess is that the variable is empty: it stands if a choice that passes has it, and is otherwise undone. `left` are left to guess, and
+// the choices with the values so far are the 2^left from `low` on.
 fn least_values(passing: Passing, free: usize) -> [u8; 12]
     requires { ⌜ (free ≤ 12) × (leastNumber passing < 2 ^ free) ⌝ }
     ensures { λ r. ⌜ Values r × (choiceNumber free r ≡ leastNumber passing) ⌝ }
 {
-    let mut values = [0u8; 12];
+    let mut values = [1u8; 12];
     let mut low: usize = 0;
     let mut span = basics::power(free);
     let mut left = free;
     while 0 < left {
         span = span / 2;
-        let empty = values;
-        if passes_below(passing, low + span) {
-            values = empty;
-        } else {
-            let mut full = empty;
-            full[free - left] = 1;
-            values = full;
+        let before = values;
+        values[free - left] = 0;
+        if !passes_below(passing, low + span) {
+            values = before;
             low += span;
         }
         left -= 1;

@@ -5,7 +5,7 @@ use mathlib.Core.Logic.{⊎-elim}
 use Prim.Native.Nat.{_+_, _/_}
 use native.Mathlib.Omega.{arith}
 use lib.Dec.{ltb}
-use borrow.Author.Tests.{ltb-true, ltb-false}
+use borrow.Author.Tests.{ltb-true, ltb-false, not-true, not-false}
 use Rattle.guesses.specs.Guesses.{leastNumber}
 use Rattle.guesses.specs.GuessLaws.{Guessed, guess-none, guess-empty, guess-full, guess-all, few}
 use Rattle.guesses.proofs.least_values.Statement.{statement}
@@ -23,17 +23,17 @@ power-requires c κs = omega arith
 loop-holds : tie.Need-loop-holds Inv-loop μ-loop
 loop-holds c = rw (c .power .ensures) (guess-none _ _ (c .before .pre .1))
 
+sub-values : tie.Need-sub-values Inv-loop μ-loop
+sub-values c = omega arith
+
+array-write-values : tie.Need-array-write-values Inv-loop μ-loop
+array-write-values c = omega arith
+
 add-passes-below : tie.Need-add-passes-below Inv-loop μ-loop
 add-passes-below c = let s = c .before .before .before in omega (arith, few (s .pre .0), few {k = c .before .loop .left} (omega arith))
 
 passes-below-requires : tie.Need-passes-below-requires Inv-loop μ-loop
 passes-below-requires c κs = omega (arith, few (c .before .before .before .pre .0))
-
-sub-full : tie.Need-sub-full Inv-loop μ-loop
-sub-full c = omega arith
-
-array-write-full : tie.Need-array-write-full Inv-loop μ-loop
-array-write-full c = omega arith
 
 add-low : tie.Need-add-low Inv-loop μ-loop
 add-low c =
@@ -56,11 +56,11 @@ loop-again c =
     let told : c .before .passes-below .result ≡ ltb least end = c .before .passes-below .ensures in
     ⊎-elim
     (λ w.
-    let passes : c .before .passes-below .result ≡ true = w .0 .taken in
-    rw (w .1, w .2) (guess-empty least free (l .left) (l .values) (l .low) (l .span) (l .inv) (omega arith) (ltb-true least end (sym told ∙ passes))))
-    (λ w.
-    let fails : c .before .passes-below .result ≡ false = w .0 .left in
+    let fails : c .before .passes-below .result ≡ false = not-true _ (w .0 .taken) in
     rw (w .1, w .2) (guess-full least free (l .left) (l .values) (l .low) (l .span) (l .inv) (omega arith) (s .pre .0) (ltb-false least end (sym told ∙ fails))))
+    (λ w.
+    let passes : c .before .passes-below .result ≡ true = not-false _ (w .0 .left) in
+    rw (w .1, w .2) (guess-empty least free (l .left) (l .values) (l .low) (l .span) (l .inv) (omega arith) (s .pre .0) (ltb-true least end (sym told ∙ passes))))
     (c .if1 .came)
 
 returns : tie.Need-returns Inv-loop μ-loop
@@ -76,10 +76,10 @@ least-values-spec =
     μ-loop
     power-requires
     loop-holds
+    sub-values
+    array-write-values
     add-passes-below
     passes-below-requires
-    sub-full
-    array-write-full
     add-low
     sub-left
     loop-less
