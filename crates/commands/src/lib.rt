@@ -4,6 +4,7 @@ pub mod table;
 
 use format::Command;
 use format::Entry;
+use format::Leading;
 use format::Section;
 use format::Shape;
 use format::Step;
@@ -12,7 +13,7 @@ ghost use mathlib.Core.Path.{_≡_};
 ghost use Prim.Native.Nat.{_+_, _≤_};
 ghost use lib.ListN.{length};
 ghost use Rattle.format.specs.Format.{termCount, operands, termByte, clauseAt, commandOf, readAt};
-ghost use Rattle.format.specs.Stored.{constantAt};
+ghost use Rattle.format.specs.Stored.{leadingOf};
 
 // A constant's command has this many bytes.
 pub const CONSTANT_SIZE: usize = 5;
@@ -58,15 +59,29 @@ fn command_of(bytes: &[u8], i: usize, shape: Shape) -> Command
     }
 }
 
-// Whether a constant stands at an offset, with all its bytes.
-pub fn constant_at(bytes: &[u8], at: usize) -> bool
-    requires { ⌜ at ≤ length (now bytes) ⌝ }
-    ensures { λ r. ⌜ r ≡ constantAt (now (bytes .entry)) at ⌝ }
+// What stands at an offset where one more constant may stand.
+pub fn constant_at(bytes: &[u8], at: usize) -> Leading
+    ensures { λ r. ⌜ r ≡ leadingOf (readAt (now (bytes .entry)) at) ⌝ }
 {
-    if bytes.len() - at < CONSTANT_SIZE {
-        return false;
+    if bytes.len() <= at {
+        return Leading::Other;
     }
-    bytes[at] == 0x03
+    let entry = table::entry_of(bytes[at]);
+    let Entry::Known(shape) = entry else {
+        return Leading::Other;
+    };
+    let Shape::Constant = shape else {
+        return Leading::Other;
+    };
+    let width = table::operand_count(shape);
+    let from = at + 1;
+    if bytes.len() - from < width {
+        return Leading::Other;
+    }
+    Leading::Constant {
+        number: basics::four_bytes(bytes, from),
+        next: from + width,
+    }
 }
 
 // What stands at an offset where a command is due.

@@ -3,6 +3,5 @@ pub mod Order
 pub mod Worked
 pub mod OrderLaws
 pub mod ByteLaws
-pub mod ConstantFirst
 pub mod EncodeLaws
 pub mod AcceptedLaws

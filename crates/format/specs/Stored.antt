@@ -1,10 +1,10 @@
 -- A question as it is stored once it is read: the fields of a struct and the clauses' bytes, and when they stand for a question of the
 -- model. Assumes nothing.
 use mathlib.Core.Path.{_≡_}
-use mathlib.Core.Bool.{Bool, true, false, not, cond, _&&_, _||_}
+use mathlib.Core.Bool.{Bool, true, false, cond, _||_}
 use mathlib.Core.List.{List, [], _∷_, _++_, map}
 use Prim.Native.Nat.{ℕ, zero, suc, _+_, _-_, _*_, _^_, _≤_, _<_}
-use lib.Dec.{T, eqb, ltb}
+use lib.Dec.{T, eqb}
 use lib.ListN.{length, getD, set, take, replicate}
 use Rattle.shares.specs.Constant.{constantLevels, numberOf, bytesAt}
 use Rattle.shares.specs.Parts.{emptyPart, fullPart}
@@ -18,6 +18,8 @@ use Rattle.format.specs.declared.LeafJoin.{LeafJoin}
 use Rattle.format.specs.declared.Command.{Command}
 use Rattle.format.specs.declared.Step.{Step}
 use Rattle.format.specs.declared.Step.the-variants.{Take, Refused}
+use Rattle.format.specs.declared.Leading.{Leading}
+use Rattle.format.specs.declared.Leading.the-variants.{Other}
 use Rattle.format.specs.declared.Head.{Head}
 use Rattle.format.specs.declared.Head.the-variants.{Opens, Wrong}
 use Rattle.format.specs.declared.Question.{Question}
@@ -218,9 +220,21 @@ clausesAfter s l = writtenAfterHead s l (headOf s)
 abbrev pub constantSize : ℕ
 constantSize = 1 + bytesAt constantLevels
 
+-- the constant that was read at an offset, with the offset after it, or something else
+abbrev pub leadingOf : Step → Leading
+leadingOf (Refused n) = Other
+leadingOf (Take Command.End next) = Other
+leadingOf (Take Command.Head next) = Other
+leadingOf (Take (Command.Constant x) next) = Leading.Constant x next
+leadingOf (Take (Command.Clause σ t a b c) next) = Other
+
+abbrev pub isLeading : Leading → Bool
+isLeading (Leading.Constant x next) = true
+isLeading Other = false
+
 -- a constant stands at an offset, with all its bytes
 abbrev pub constantAt : List ℕ → ℕ → Bool
-constantAt s at = not (ltb (length s - at) constantSize) && eqb (getD s at 0) 0x03
+constantAt s at = isLeading (leadingOf (readAt s at))
 
 -- where constant number n stands, if all before it are constants
 abbrev pub placeOf : ℕ → ℕ

@@ -58,6 +58,12 @@ pub enum Step {
     Refused(u8),
 }
 
+// What stands where one more constant may stand: the constant with the offset after it, or something else.
+pub enum Leading {
+    Constant { number: u64, next: usize },
+    Other,
+}
+
 pub enum Head {
     Opens { kind: u8, free: usize, own: usize },
     Wrong(u8),

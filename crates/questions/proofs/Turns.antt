@@ -21,12 +21,11 @@ use Rattle.format.specs.declared.Step.{Step}
 use Rattle.format.specs.declared.Step.the-variants.{Take, Refused}
 use Rattle.format.specs.declared.Reading.{Reading}
 use Rattle.format.specs.Format.{mostConstants, Result, refused, accepted, readAt, atomOf, fault, judged, taken, ended, go, stop, onward, turn, following, run, headFits, kindFrom, mostOf, inSection, opened, headOf, read}
-use Rattle.format.specs.Stored.{kindNumber, clauseBytes, sectionStart, readingsAt, Stored, stored, storedOf, countOf, definedBy, namedWord, Stands, readingOf, writtenOnward, writtenBy, clausesAfter, constantSize, constantAt, placeOf, leading}
+use Rattle.format.specs.Stored.{kindNumber, clauseBytes, sectionStart, readingsAt, Stored, stored, storedOf, countOf, definedBy, namedWord, Stands, readingOf, writtenOnward, writtenBy, clausesAfter, constantSize, leadingOf, isLeading, constantAt, placeOf, leading}
 use Rattle.format.specs.Keeping.{leadInto, keptConstants, constantCount, keptClauses, keptNames, clauseCounts, judgedOf, refusalOf, isEnd, wrongOf}
 use Rattle.format.specs.FormatLaws.{constant-fits, judged-take, size-some, Whole, read-whole, branch, Sound, Stay, Kept, turn-kept, head-fits, opened-sound, HeadRight, head-right}
 use Rattle.format.specs.LeadLaws.{constant-taken, leading-stops}
 use Rattle.format.specs.SectionLaws.{clause-keeps}
-use Rattle.encoding.specs.ConstantFirst.{constant-stands}
 use Rattle.format.specs.KeepingLaws.{Bytes, ProperStep, read-proper, judged-same, kept, ZerosPast, zeros-kept, defined-kept, written-same, stands-taken, held-as}
 
 -- ---- where the reading stands: some turns from here give what the whole reading gives
@@ -281,7 +280,7 @@ settled-led s q e none room = leading-stops s mostConstants 0 (omega arith)
 module _ (s : List ℕ) (q : Question) (at : ℕ) (S : Settled s q at) where
   -- a command without a fault is no constant
   no-constant : (v next : ℕ) → readAt s at ≡ Take (Command.Constant v) next → fault q (Command.Constant v) ≡ 0 → ⊥
-  no-constant v next r f = let F = constant-fits q v f in true≢false (sym (constant-stands s at v next r) ∙ S (F .before) (F .room))
+  no-constant v next r f = let F = constant-fits q v f in true≢false (sym (ap (λ t. isLeading (leadingOf t)) r) ∙ S (F .before) (F .room))
 
   -- so it leaves the constants as they are, and a clause stands before the next
   pub settled-taken : (c : Command) (next : ℕ) → readAt s at ≡ Take c next → fault q c ≡ 0 → isEnd c ≡ false

@@ -6,6 +6,7 @@ use commands::CONSTANT_SIZE;
 use commands::opening;
 use format::Command;
 use format::Head;
+use format::Leading;
 use format::Question;
 use format::Reading;
 use format::Step;
@@ -77,12 +78,13 @@ fn read_constants(bytes: &[u8], constants: &mut [u64]) -> usize
     let mut defined: usize = 0;
     let mut at: usize = 4;
     while defined < MOST_CONSTANTS {
-        if !commands::constant_at(bytes, at) {
+        let r = commands::constant_at(bytes, at);
+        let Leading::Constant { number, next } = r else {
             return defined;
-        }
-        constants[defined] = basics::four_bytes(bytes, at + 1);
+        };
+        constants[defined] = number;
         defined += 1;
-        at += CONSTANT_SIZE;
+        at = next;
     }
     defined
 }

@@ -3,8 +3,7 @@ use mathlib.Core.Path.{sym, _∙_}
 use Prim.Native.Nat.{_-_}
 use native.Mathlib.Omega.{arith}
 use borrow.Author.Needs.{needs}
-use borrow.Author.Tests.{not-true, not-false}
-use Rattle.format.specs.LeadLaws.{constant-room, Led, led-none, led-last, led-end, led-more}
+use Rattle.format.specs.LeadLaws.{Led, led-none, led-last, led-end, led-more}
 use Rattle.questions.proofs.read_constants.Statement.{statement}
 use Rattle.questions.proofs.read_constants.Tie as tie
 
@@ -18,48 +17,41 @@ loop-holds : tie.Need-loop-holds Inv-loop μ-loop
 loop-holds c = let s = c .before .before in led-none _ _ (s .pre .0) (s .pre .1)
 
 constant-at-requires : tie.Need-constant-at-requires Inv-loop μ-loop
-constant-at-requires c κs = c .before .loop .inv .within
+constant-at-requires c κs = search needs
+
+enum-known-r : tie.Need-enum-known-r Inv-loop μ-loop
+enum-known-r c = search needs
+
+enum-told : tie.Need-enum-told Inv-loop μ-loop
+enum-told c = search needs
 
 same-length : tie.Need-same-length Inv-loop μ-loop
-same-length c = omega (arith, c .before .before .before .loop .inv .size, c .before .before .before .before .before .before .pre .1)
+same-length c =
+    omega (arith, c .before .before .before .before .loop .inv .size, c .before .before .before .before .before .before .before .pre .1)
 
 returns : tie.Need-returns Inv-loop μ-loop
 returns c =
-    let L = c .before .before .before .loop .inv in
-    (led-end L (c .before .before .loop-test .taken) (sym (c .before .constant-at .ensures) ∙ not-true _ (c .if1 .taken)), (L .few, omega (arith, L .place, L .within)))
-
-add-four-bytes : tie.Need-add-four-bytes Inv-loop μ-loop
-add-four-bytes c =
-    let L = c .before .before .before .loop .inv in
-    omega (arith, L .place, L .few)
-
-four-bytes-requires : tie.Need-four-bytes-requires Inv-loop μ-loop
-four-bytes-requires c κs =
-    let start = c .before .before .before .before .before .before in
-    let L = c .before .before .before .loop in
-    omega (arith, constant-room (start .args .bytes .now) (L .at) (sym (c .before .constant-at .ensures) ∙ not-false _ (c .if1 .left)))
+    let L = c .before .before .before .before .loop .inv in (
+      led-end L (c .before .before .before .loop-test .taken) (sym (c .enum-told .given .1) ∙ c .before .before .constant-at .ensures),
+      (L .few, omega (arith, L .place, L .within)),
+    )
 
 mul-constants : tie.Need-mul-constants Inv-loop μ-loop
-mul-constants c = omega (arith, c .before .before .before .before .loop .inv .few)
+mul-constants c = omega (arith, c .before .before .before .before .before .loop .inv .few)
 
 slice-write-constants : tie.Need-slice-write-constants Inv-loop μ-loop
-slice-write-constants c = omega (arith, c .before .before .before .loop-test .taken, c .before .before .before .before .loop .inv .size)
+slice-write-constants c = omega (arith, c .before .before .before .before .loop-test .taken, c .before .before .before .before .before .loop .inv .size)
 
 add-defined : tie.Need-add-defined Inv-loop μ-loop
-add-defined c = omega (arith, c .before .before .before .loop-test .taken)
-
-add-at : tie.Need-add-at Inv-loop μ-loop
-add-at c =
-    let L = c .before .before .before .before .loop .inv in
-    omega (arith, L .place, L .few)
+add-defined c = omega (arith, c .before .before .before .before .loop-test .taken)
 
 loop-less : tie.Need-loop-less Inv-loop μ-loop
-loop-less c = omega (arith, c .before .before .before .loop-test .taken)
+loop-less c = omega (arith, c .before .before .before .before .loop-test .taken)
 
 loop-again : tie.Need-loop-again Inv-loop μ-loop
 loop-again c =
-    led-more (c .before .before .before .before .loop .inv) (c .before .before .before .loop-test .taken) (sym (c .before .before .constant-at .ensures) ∙ not-false _ (c .before .if1 .left)) _
-    (c .four-bytes .ensures .0)
+    led-more (c .before .before .before .before .before .loop .inv) (c .before .before .before .before .loop-test .taken) _ _
+    (sym (c .before .r .given .1) ∙ c .before .before .before .constant-at .ensures)
 
 same-length-2 : tie.Need-same-length-2 Inv-loop μ-loop
 same-length-2 c = omega (arith, c .before .loop .inv .size, c .before .before .before .before .pre .1)
@@ -77,14 +69,13 @@ read-constants-spec =
     μ-loop
     loop-holds
     constant-at-requires
+    enum-known-r
+    enum-told
     same-length
     returns
-    add-four-bytes
-    four-bytes-requires
     mul-constants
     slice-write-constants
     add-defined
-    add-at
     loop-less
     loop-again
     same-length-2
