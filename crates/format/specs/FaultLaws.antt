@@ -1,15 +1,14 @@
--- Reading accepts exactly the strings of questions, and refuses by exactly the first fault. Assumes nothing.
+-- Reading accepts exactly the strings of questions, and refuses exactly by the first fault. Assumes nothing.
 use mathlib.Core.Path.{_≡_, refl, sym, ap, subst, _∙_}
 use mathlib.Core.Bool.{Bool, true, false, cond, _&&_}
 use mathlib.Core.List.{List, [], _∷_}
-use mathlib.Core.Logic.{_⊎_, inl, inr, _↔_, ⊎-elim}
+use mathlib.Core.Logic.{_⊎_, inl, inr, _↔_}
 use Prim.Native.Nat.{ℕ, zero, suc, _+_, _-_, _≤_, _<_}
 use native.Mathlib.Omega.{arith}
 use borrow.Author.Tests.{lt-ltb, ltb-true, ltb-false, leb-true, leb-false, eqb-true, eqb-false, eq-eqb, ne-eqb}
-use lib.Dec.{eqb, ltb, leb, lt→ltb}
-use lib.ListN.{length, getD}
-use Rattle.shares.specs.Constant.{constantLevels, bytesAt}
-use Rattle.shares.specs.Test.{is-true, of-true}
+use lib.Dec.{eqb, ltb, leb}
+use lib.ListN.{length, getD, drop}
+use Rattle.shares.specs.Test.{of-true}
 use Rattle.systems.specs.Clauses.{Constants, variable, constant}
 use Rattle.systems.specs.Questions.{Kind, satisfiability, entailment, Question, Defined}
 use Rattle.format.specs.declared.Section.{Section}
@@ -22,9 +21,16 @@ use Rattle.format.specs.declared.Head.{Head}
 use Rattle.format.specs.declared.Head.the-variants.{Opens, Wrong}
 use Rattle.format.specs.declared.Step.{Step}
 use Rattle.format.specs.declared.Step.the-variants.{Take, Refused}
-use Rattle.format.specs.Format.{Result, refused, accepted, mostVariables, mostConstants, entryOf, termCount, operands, termByte, commandOf, wholeAt, readAt, isSecond, mostOf, inSection, termOf, names, variablesFor, termNamed, allNamed, isForeign, clauseFault, constantFault, begun, fault, judged, taken, ended, onward, turn, following, run, headFits, opened, headOf, afterHead, read}
+use Rattle.format.specs.Format.{Result, refused, accepted, mostVariables, mostConstants, entryOf, termCount}
+use Rattle.format.specs.Format.{operands, termByte, commandOf, wholeAt, readAt, isSecond, mostOf, inSection}
+use Rattle.format.specs.Format.{termOf, names, variablesFor, termNamed, isForeign, clauseFault, constantFault}
+use Rattle.format.specs.Format.{begun, fault, judged, ended, onward, turn, following, run, headFits, opened}
+use Rattle.format.specs.Format.{headOf, afterHead, read}
 use Rattle.format.specs.FormatLaws.{branch, term-small, named-defined, run-enough, head-fits}
-use Rattle.format.specs.Faults.{Announced, NoHead, NoByte, CutShort, UnknownByte, OutOfPlace, Unfit, UnfitHead, ConstantTooMany, ClauseTooMany, NamesNothing, ForeignClause, BytesAfter, Due, headDue, commandDue, nothingDue, faultsAt, NoneOf, FirstOf, dueAfter, Reached, start, next, AcceptedAs, FirstFault}
+use Rattle.format.specs.Faults.{Announced, after, NoHead, NoByte, CutShort, UnknownByte, OutOfPlace, Unfit}
+use Rattle.format.specs.Faults.{UnfitHead, ConstantTooMany, ClauseTooMany, NamesNothing, ForeignClause}
+use Rattle.format.specs.Faults.{Due, headDue, commandDue, nothingDue, faultsAt, NoneOf, FirstOf, dueAfter}
+use Rattle.format.specs.Faults.{Reached, start, further, AcceptedAs, FirstFault}
 
 -- ---- the first fault of a list is one
 
@@ -62,7 +68,8 @@ defined-named : (n : ℕ) (cs : Constants) (t : ℕ) → Defined n cs (termOf t)
 unfolding names termOf
 defined-named n cs t h = pick (ltb t 0x20) h
   where
-    pick : (b : Bool) → Defined n cs (cond b (variable t) (constant (t - 0x20))) → cond b (ltb t n) (ltb (t - 0x20) (length (cs .numbers))) ≡ true
+    pick : (b : Bool) → Defined n cs (cond b (variable t) (constant (t - 0x20)))
+        → cond b (ltb t n) (ltb (t - 0x20) (length (cs .numbers))) ≡ true
     pick true u = lt-ltb _ _ u
     pick false u = lt-ltb _ _ u
 
@@ -71,94 +78,83 @@ module _ (n k : ℕ) (s : List ℕ) (i count : ℕ) where
   abbrev namedAt : ℕ → Bool
   namedAt j = termNamed n k count j (termByte s i count j)
 
-  -- one that is there and names nothing
-  not-named : (j : ℕ) → namedAt j ≡ false → (j < count) × (names n k (getD s (i + j) 0) ≡ false)
+  -- term number j is there and names nothing
+  abbrev Unnamed : ℕ → Type 0
+  Unnamed j = (j < count) × (names n k (getD s (i + j) 0) ≡ false)
+
+  not-named : (j : ℕ) → namedAt j ≡ false → Unnamed j
   not-named j e = pick (ltb j count) refl e
     where
-      pick : (b : Bool) → ltb j count ≡ b → cond b (names n k (cond b (getD s (i + j) 0) 0)) true ≡ false → (j < count) × (names n k (getD s (i + j) 0) ≡ false)
+      pick : (b : Bool) → ltb j count ≡ b → cond b (names n k (cond b (getD s (i + j) 0) 0)) true ≡ false → Unnamed j
       pick true f g = (ltb-true j count f, g)
       pick false f g = let z : _≡_ {A = ℕ} 0 1 = cc in absurd (omega arith)
 
   is-named : (j : ℕ) → j < count → namedAt j ≡ true → names n k (getD s (i + j) 0) ≡ true
   is-named j l e = rw (lt-ltb j count l) at e
 
-  -- some term names nothing, or all that are there are named
-  some-unnamed : (a b c : Bool) → namedAt 0 ≡ a → namedAt 1 ≡ b → namedAt 2 ≡ c → a && (b && c) ≡ false
-      → (j : ℕ) × (j < count) × (names n k (getD s (i + j) 0) ≡ false)
-  some-unnamed false b c e f g h = let z = not-named 0 e in (0, z .0, z .1)
-  some-unnamed true false c e f g h = let z = not-named 1 f in (1, z .0, z .1)
-  some-unnamed true true false e f g h = let z = not-named 2 g in (2, z .0, z .1)
-  some-unnamed true true true e f g h = let z : _≡_ {A = ℕ} 0 1 = cc in absurd (omega arith)
+  -- each of the three that is there
+  abbrev allNamedAt : Bool
+  allNamedAt = namedAt 0 && (namedAt 1 && namedAt 2)
 
-  every-named : count ≤ 3 → (a b c : Bool) → namedAt 0 ≡ a → namedAt 1 ≡ b → namedAt 2 ≡ c → a && (b && c) ≡ true
-      → (j : ℕ) → j < count → names n k (getD s (i + j) 0) ≡ true
-  every-named m true true true e f g h zero l = is-named 0 l e
-  every-named m true true true e f g h (suc zero) l = is-named 1 l f
-  every-named m true true true e f g h (suc (suc zero)) l = is-named 2 l g
-  every-named m true true true e f g h (suc (suc (suc j))) l = absurd (omega arith)
-  every-named m false b c e f g h j l = let z : _≡_ {A = ℕ} 0 1 = cc in absurd (omega arith)
-  every-named m true false c e f g h j l = let z : _≡_ {A = ℕ} 0 1 = cc in absurd (omega arith)
-  every-named m true true false e f g h j l = let z : _≡_ {A = ℕ} 0 1 = cc in absurd (omega arith)
+  some-unnamed : allNamedAt ≡ false → (j : ℕ) × Unnamed j
+  some-unnamed = pick (namedAt 0) (namedAt 1) (namedAt 2) refl refl refl
+    where
+      pick : (a b c : Bool) → namedAt 0 ≡ a → namedAt 1 ≡ b → namedAt 2 ≡ c → a && (b && c) ≡ false
+          → (j : ℕ) × Unnamed j
+      pick false b c e f g h = (0, not-named 0 e)
+      pick true false c e f g h = (1, not-named 1 f)
+      pick true true false e f g h = (2, not-named 2 g)
+      pick true true true e f g h = let z : _≡_ {A = ℕ} 0 1 = cc in absurd (omega arith)
+
+  every-named : count ≤ 3 → allNamedAt ≡ true → (j : ℕ) → j < count → names n k (getD s (i + j) 0) ≡ true
+  every-named m = pick (namedAt 0) (namedAt 1) (namedAt 2) refl refl refl
+    where
+      pick : (a b c : Bool) → namedAt 0 ≡ a → namedAt 1 ≡ b → namedAt 2 ≡ c → a && (b && c) ≡ true
+          → (j : ℕ) → j < count → names n k (getD s (i + j) 0) ≡ true
+      pick true true true e f g h zero l = is-named 0 l e
+      pick true true true e f g h (suc zero) l = is-named 1 l f
+      pick true true true e f g h (suc (suc zero)) l = is-named 2 l g
+      pick true true true e f g h (suc (suc (suc j))) l = absurd (omega arith)
+      pick false b c e f g h j l = let z : _≡_ {A = ℕ} 0 1 = cc in absurd (omega arith)
+      pick true false c e f g h j l = let z : _≡_ {A = ℕ} 0 1 = cc in absurd (omega arith)
+      pick true true false e f g h j l = let z : _≡_ {A = ℕ} 0 1 = cc in absurd (omega arith)
 
 -- ---- one command
 
--- the second system is foreign exactly with kind 0
+-- the second system is foreign to kind 0 alone
 foreign-kind : (k : Kind) (σ : Section) → isForeign k σ ≡ true → (isSecond σ ≡ true) × (k ≡ satisfiability)
 foreign-kind satisfiability σ e = (e, refl)
 foreign-kind entailment σ e = let z : _≡_ {A = ℕ} 0 1 = cc in absurd (omega arith)
 
--- tells the shapes apart
+-- one shape at most is announced
+one-shape : {s : List ℕ} {at : ℕ} {h h′ : Shape} → Announced s at h → Announced s at h′ → h ≡ h′
+one-shape {h} {h′} a b = let e : Known h ≡ Known h′ = sym (a .known) ∙ b .known in cc
+
+-- a byte that announces a shape is there and is known, and not cut short where its operands are there
+module _ {s : List ℕ} {at : ℕ} {h : Shape} (a : Announced s at h) where
+  byte-there : NoByte s at → ⊥
+  byte-there z = omega (arith, a .there)
+
+  byte-known : UnknownByte s at → ⊥
+  byte-known u =
+      let e : Known h ≡ Unknown = sym (a .known) ∙ u .1 in
+      let z : _≡_ {A = ℕ} 0 1 = cc in
+      omega arith
+
+  not-cut : after at h ≤ length s → CutShort s at → ⊥
+  not-cut l c = omega (arith, ap operands (one-shape a (c .1)), c .2)
+
+-- a number for each sort of shape
 abbrev sort : Shape → ℕ
 sort Shape.End = 0
 sort Shape.Head = 1
 sort Shape.Constant = 2
 sort (Shape.Clause σ t) = 3
 
--- one shape at most is announced
-one-shape : {s : List ℕ} {at : ℕ} {h h′ : Shape} → Announced s at h → Announced s at h′ → h ≡ h′
-one-shape {h} {h′} a b = let e : Known h ≡ Known h′ = sym (a .known) ∙ b .known in cc
-
--- a fault of another command is not so
-module _ (s : List ℕ) (at : ℕ) (q : Question) {h : Shape} (a : Announced s at h) where
-  other : (h′ : Shape) → Announced s at h′ → sort h ≡ sort h′
-  other h′ b = ap sort (one-shape a b)
-
-  no-head : (sort h ≡ 1 → ⊥) → UnfitHead s at → ⊥
-  no-head f b = f (other Shape.Head (b .0))
-
-  in-place : (sort h ≡ 1 → ⊥) → (sort h ≡ 2 → ⊥) → OutOfPlace s at q → ⊥
-  in-place f g (inl b) = f (other Shape.Head b)
-  in-place f g (inr b) = g (other Shape.Constant (b .0))
-
-  no-constant : (sort h ≡ 2 → ⊥) → ConstantTooMany s at q → ⊥
-  no-constant f b = f (other Shape.Constant (b .0))
-
-  module _ (f : sort h ≡ 3 → ⊥) where
-    no-foreign : ForeignClause s at q → ⊥
-    no-foreign b = f (other (Shape.Clause (b .0) (b .1)) (b .2))
-
-    no-clause : ClauseTooMany s at q → ⊥
-    no-clause b = f (other (Shape.Clause (b .0) (b .1)) (b .2))
-
-    no-term : NamesNothing s at q → ⊥
-    no-term b = f (other (Shape.Clause (b .0) (b .1)) (b .3))
-
 module _ (s : List ℕ) (at : ℕ) (q : Question) where
   -- the faults of a command that is whole
   abbrev wholeFaults : List (ℕ × Type 0)
-  wholeFaults =
-      (4, OutOfPlace s at q) ∷ (5, UnfitHead s at) ∷ (9, ForeignClause s at q) ∷ (6, ConstantTooMany s at q)
-      ∷ (7, ClauseTooMany s at q) ∷ (8, NamesNothing s at q) ∷ []
-
-  end-faults : Announced s at Shape.End → Numbered wholeFaults 0
-  end-faults a =
-      pass (in-place s at q a (λ z. omega arith) (λ z. omega arith))
-      (pass (no-head s at q a (λ z. omega arith))
-      (pass (no-foreign s at q a (λ z. omega arith))
-      (pass (no-constant s at q a (λ z. omega arith)) (pass (no-clause s at q a (λ z. omega arith)) (pass (no-term s at q a (λ z. omega arith)) none)))))
-
-  head-faults : Announced s at Shape.Head → Numbered wholeFaults 4
-  head-faults a = here (inl a)
+  wholeFaults = drop 3 (faultsAt s at (commandDue q))
 
   -- how many clauses, and how many constants, were read
   abbrev clauses : ℕ
@@ -167,149 +163,192 @@ module _ (s : List ℕ) (at : ℕ) (q : Question) where
   abbrev constants : ℕ
   constants = length (q .constants .numbers)
 
-  constant-faults : Announced s at Shape.Constant → Numbered wholeFaults (constantFault (begun q) (leb mostConstants constants))
-  constant-faults a = pick (begun q) (leb mostConstants constants) refl refl
-    where
-      early : begun q ≡ false → OutOfPlace s at q → ⊥
-      early e (inl b) = omega (arith, other s at q a Shape.Head b)
-      early e (inr b) = omega (arith, ltb-false 0 clauses e, b .1)
+  -- a fault of another command is not so
+  module _ {h : Shape} (a : Announced s at h) where
+    other : (h′ : Shape) → eqb (sort h) (sort h′) ≡ false → Announced s at h′ → ⊥
+    other h′ e b = eqb-false (sort h) (sort h′) e (ap sort (one-shape a b))
 
-      few : leb mostConstants constants ≡ false → ConstantTooMany s at q → ⊥
-      few e b = omega (arith, leb-false mostConstants constants e, b .1)
+    no-head : eqb (sort h) 1 ≡ false → UnfitHead s at → ⊥
+    no-head e b = other Shape.Head e (b .0)
 
-      late : begun q ≡ true → OutOfPlace s at q
-      late e = inr (a, ltb-true 0 clauses e)
+    no-constant : eqb (sort h) 2 ≡ false → ConstantTooMany s at q → ⊥
+    no-constant e b = other Shape.Constant e (b .0)
 
-      spent : leb mostConstants constants ≡ true → ConstantTooMany s at q
-      spent e = (a, leb-true mostConstants constants e)
+    in-place : eqb (sort h) 1 ≡ false → eqb (sort h) 2 ≡ false → OutOfPlace s at q → ⊥
+    in-place e f (inl b) = other Shape.Head e b
+    in-place e f (inr b) = other Shape.Constant f (b .0)
 
-      pick : (e f : Bool) → begun q ≡ e → leb mostConstants constants ≡ f → Numbered wholeFaults (constantFault e f)
-      pick true f g h = here (late g)
-      pick false true g h =
-          pass (early g) (pass (no-head s at q a (λ z. omega arith)) (pass (no-foreign s at q a (λ z. omega arith)) (here (spent h))))
-      pick false false g h =
-          pass (early g)
-          (pass (no-head s at q a (λ z. omega arith))
-          (pass (no-foreign s at q a (λ z. omega arith))
-          (pass (few h) (pass (no-clause s at q a (λ z. omega arith)) (pass (no-term s at q a (λ z. omega arith)) none)))))
+    no-foreign : eqb (sort h) 3 ≡ false → ForeignClause s at q → ⊥
+    no-foreign e b = other (Shape.Clause (b .0) (b .1)) e (b .2)
+
+    no-clause : eqb (sort h) 3 ≡ false → ClauseTooMany s at q → ⊥
+    no-clause e b = other (Shape.Clause (b .0) (b .1)) e (b .2)
+
+    no-term : eqb (sort h) 3 ≡ false → NamesNothing s at q → ⊥
+    no-term e b = other (Shape.Clause (b .0) (b .1)) e (b .3)
+
+  end-faults : Announced s at Shape.End → Numbered wholeFaults 0
+  end-faults a =
+      pass (in-place a refl refl)
+      (pass (no-head a refl)
+      (pass (no-foreign a refl) (pass (no-constant a refl) (pass (no-clause a refl) (pass (no-term a refl) none)))))
+
+  head-faults : Announced s at Shape.Head → Numbered wholeFaults 4
+  head-faults a = here (inl a)
+
+  module _ (a : Announced s at Shape.Constant) where
+    late : begun q ≡ true → OutOfPlace s at q
+    late e = inr (a, ltb-true 0 clauses e)
+
+    early : begun q ≡ false → OutOfPlace s at q → ⊥
+    early e (inl b) = other a Shape.Head refl b
+    early e (inr b) = omega (arith, ltb-false 0 clauses e, b .1)
+
+    spent : leb mostConstants constants ≡ true → ConstantTooMany s at q
+    spent e = (a, leb-true mostConstants constants e)
+
+    few : leb mostConstants constants ≡ false → ConstantTooMany s at q → ⊥
+    few e b = omega (arith, leb-false mostConstants constants e, b .1)
+
+    constant-faults : (e f : Bool) → begun q ≡ e → leb mostConstants constants ≡ f
+        → Numbered wholeFaults (constantFault e f)
+    constant-faults true f g h = here (late g)
+    constant-faults false true g h = pass (early g) (pass (no-head a refl) (pass (no-foreign a refl) (here (spent h))))
+    constant-faults false false g h =
+        pass (early g)
+        (pass (no-head a refl)
+        (pass (no-foreign a refl) (pass (few h) (pass (no-clause a refl) (pass (no-term a refl) none)))))
 
   module _ (σ : Section) (t : Test) (a : Announced s at (Shape.Clause σ t)) where
-    -- the variables that it may name, and the test of term number j
+    -- the variables that it may name
     abbrev variables : ℕ
     variables = variablesFor (q .free) (q .own) σ
 
-    abbrev named : ℕ → Bool
-    named j = namedAt variables constants s (at + 1) (termCount t) j
+    -- the three tests
+    abbrev foreign : Bool
+    foreign = isForeign (q .kind) σ
 
-    same-section : {τ : Section} {u : Test} → Announced s at (Shape.Clause τ u) → (σ ≡ τ) × (t ≡ u)
-    same-section {τ} {u} b = let e : Shape.Clause σ t ≡ Shape.Clause τ u = one-shape a b in (cc, cc)
+    abbrev filled : Bool
+    filled = leb (mostOf σ) (length (inSection q σ))
 
-    home : isForeign (q .kind) σ ≡ false → ForeignClause s at q → ⊥
+    abbrev named : Bool
+    named = allNamedAt variables constants s (at + 1) (termCount t)
+
+    same-clause : {τ : Section} {u : Test} → Announced s at (Shape.Clause τ u) → (σ ≡ τ) × (t ≡ u)
+    same-clause {τ} {u} b = let e : Shape.Clause σ t ≡ Shape.Clause τ u = one-shape a b in (cc, cc)
+
+    abroad : foreign ≡ true → ForeignClause s at q
+    abroad e = let k = foreign-kind (q .kind) σ e in (σ, t, a, k .0, k .1)
+
+    home : foreign ≡ false → ForeignClause s at q → ⊥
     home e b =
-        let f : σ ≡ b .0 = same-section (b .2) .0 in
-        let g : isForeign (q .kind) σ ≡ true = rw (b .4, f) (b .3) in
+        let f : σ ≡ b .0 = same-clause (b .2) .0 in
+        let g : foreign ≡ true = rw (b .4, f) (b .3) in
         let z : _≡_ {A = ℕ} 0 1 = cc in
         omega arith
 
-    room : leb (mostOf σ) (length (inSection q σ)) ≡ false → ClauseTooMany s at q → ⊥
+    too-many : filled ≡ true → ClauseTooMany s at q
+    too-many e = (σ, t, a, leb-true (mostOf σ) (length (inSection q σ)) e)
+
+    room : filled ≡ false → ClauseTooMany s at q → ⊥
     room e b =
-        let f : b .0 ≡ σ = sym (same-section (b .2) .0) in
+        let f : b .0 ≡ σ = sym (same-clause (b .2) .0) in
         let g : mostOf σ ≤ length (inSection q σ) = subst (λ τ. mostOf τ ≤ length (inSection q τ)) f (b .3) in
         omega (arith, leb-false (mostOf σ) (length (inSection q σ)) e)
 
-    all-named : named 0 && (named 1 && named 2) ≡ true → NamesNothing s at q → ⊥
+    all-named : named ≡ true → NamesNothing s at q → ⊥
     all-named e b =
-        let f = same-section (b .3) in
-        let j : ℕ = b .2 in
-        let l : j < termCount t = rw (f .1) (b .4) in
-        let n : names variables constants (getD s (at + 1 + j) 0) ≡ true =
-        every-named variables constants s (at + 1) (termCount t) (term-small t) (named 0) (named 1) (named 2) refl refl refl e j l in
-        let d : Defined variables (q .constants) (termOf (getD s (at + 1 + j) 0)) = named-defined variables (q .constants) (getD s (at + 1 + j) 0) (of-true n) in
-        b .5 (rw (← f .0) d)
+        let f = same-clause (b .3) in
+        let byte : ℕ = getD s (at + 1 + b .2) 0 in
+        let l : b .2 < termCount t = rw (f .1) (b .4) in
+        let n = every-named variables constants s (at + 1) (termCount t) (term-small t) e (b .2) l in
+        b .5 (rw (← f .0) (named-defined variables (q .constants) byte (of-true n)))
 
-    some-nothing : named 0 && (named 1 && named 2) ≡ false → NamesNothing s at q
+    defined-not : (j : ℕ) → names variables constants j ≡ false → Defined variables (q .constants) (termOf j) → ⊥
+    defined-not j e d =
+        let f = defined-named variables (q .constants) j d in
+        let z : _≡_ {A = ℕ} 0 1 = cc in
+        omega arith
+
+    some-nothing : named ≡ false → NamesNothing s at q
     some-nothing e =
-        let u = some-unnamed variables constants s (at + 1) (termCount t) (named 0) (named 1) (named 2) refl refl refl e in
-        (σ, t, u .0, a, u .1, λ d. let w = defined-named variables (q .constants) (getD s (at + 1 + u .0) 0) d in let z : _≡_ {A = ℕ} 0 1 = cc (u .2) in omega arith)
+        let u = some-unnamed variables constants s (at + 1) (termCount t) e in
+        (σ, t, u .0, a, u .1 .0, defined-not (getD s (at + 1 + u .0) 0) (u .1 .1))
 
-    clause-faults : Numbered wholeFaults (clauseFault (isForeign (q .kind) σ) (leb (mostOf σ) (length (inSection q σ))) (named 0 && (named 1 && named 2)))
-    clause-faults = pick (isForeign (q .kind) σ) (leb (mostOf σ) (length (inSection q σ))) (named 0 && (named 1 && named 2)) refl refl refl
+    clause-faults : (f l n : Bool) → foreign ≡ f → filled ≡ l → named ≡ n → Numbered wholeFaults (clauseFault f l n)
+    clause-faults f l n e g h = pass (in-place a refl refl) (pass (no-head a refl) (pick f l n e g h))
       where
-        later : {n : ℕ} {l : List (ℕ × Type 0)} → Numbered l n → Numbered ((4, OutOfPlace s at q) ∷ (5, UnfitHead s at) ∷ l) n
-        later r = pass (in-place s at q a (λ z. omega arith) (λ z. omega arith)) (pass (no-head s at q a (λ z. omega arith)) r)
-
-        none-spent : ConstantTooMany s at q → ⊥
-        none-spent = no-constant s at q a (λ z. omega arith)
-
-        pick : (f l n : Bool) → isForeign (q .kind) σ ≡ f → leb (mostOf σ) (length (inSection q σ)) ≡ l → named 0 && (named 1 && named 2) ≡ n
-            → Numbered wholeFaults (clauseFault f l n)
-        pick true l n e f g = let k = foreign-kind (q .kind) σ e in later (here (σ, t, a, k .0, k .1))
-        pick false true n e f g = later (pass (home e) (pass none-spent (here (σ, t, a, leb-true (mostOf σ) (length (inSection q σ)) f))))
-        pick false false true e f g = later (pass (home e) (pass none-spent (pass (room f) (pass (all-named g) none))))
-        pick false false false e f g = later (pass (home e) (pass none-spent (pass (room f) (here (some-nothing g)))))
+        pick : (f l n : Bool) → foreign ≡ f → filled ≡ l → named ≡ n
+            → Numbered (drop 2 wholeFaults) (clauseFault f l n)
+        pick true l n e g h = here (abroad e)
+        pick false true n e g h = pass (home e) (pass (no-constant a refl) (here (too-many g)))
+        pick false false true e g h =
+            pass (home e) (pass (no-constant a refl) (pass (room g) (pass (all-named h) none)))
+        pick false false false e g h =
+            pass (home e) (pass (no-constant a refl) (pass (room g) (here (some-nothing h))))
 
   whole-faults : (h : Shape) → Announced s at h → Numbered wholeFaults (fault q (commandOf s (at + 1) h))
   unfolding fault commandOf
   whole-faults Shape.End a = end-faults a
   whole-faults Shape.Head a = head-faults a
-  whole-faults Shape.Constant a = constant-faults a
-  whole-faults (Shape.Clause σ t) a = clause-faults σ t a
+  whole-faults Shape.Constant a = constant-faults a _ _ refl refl
+  whole-faults (Shape.Clause σ t) a = clause-faults σ t a _ _ _ refl refl refl
 
-  -- what is said of a command: it is taken, without a fault; or it is refused by its first one
-  record TakenFrom (c : Command) (to : ℕ) : Type 0 where
+  -- the command of a shape, and the offset after it
+  abbrev whole : Shape → Step
+  whole h = Take (commandOf s (at + 1) h) (after at h)
+
+  -- what is said of a command: without a fault it is taken, else its first one refuses it
+  record TakenFrom (r : Step) : Type 0 where
     shape : Shape
     announced : Announced s at shape
     clear : NoneOf (faultsAt s at (commandDue q))
-    step : Take c to ≡ Take (commandOf s (at + 1) shape) (at + 1 + operands shape)
-    within : at + 1 + operands shape ≤ length s
+    step : r ≡ whole shape
+    within : after at shape ≤ length s
 
   abbrev Judged : Step → Type 0
   Judged (Refused n) = FirstOf (faultsAt s at (commandDue q)) n
-  Judged (Take c to) = TakenFrom c to
+  Judged (Take c to) = TakenFrom (Take c to)
+
+  whole-judged : (h : Shape) → Announced s at h → after at h ≤ length s → Judged (judged q (whole h))
+  whole-judged h a l =
+      branch Judged (eqb number 0) (whole h) (Refused number) (λ e. record {
+        shape = h;
+        announced = a;
+        clear = (byte-there a, (byte-known a, (not-cut a l, numbered-none (eqb-true number 0 e) (whole-faults h a))));
+        step = refl;
+        within = l;
+      })
+      (λ e. let f = numbered-first (eqb-false number 0 e) (whole-faults h a) in
+      inr (byte-there a, inr (byte-known a, inr (not-cut a l, f))))
+    where
+      number : ℕ
+      number = fault q (commandOf s (at + 1) h)
+
+  entry-judged : at < length s → (e : Entry) → entryOf (getD s at 0) ≡ e → Judged (judged q (wholeAt s at e))
+  unfolding wholeAt
+  entry-judged l Unknown e = inr (λ z. omega arith, inl ((l, e), refl))
+  entry-judged l (Known h) e =
+      branch (λ r. Judged (judged q r)) (ltb left (operands h)) (Refused 2) (whole h)
+      (λ f. inr (byte-there a, inr (byte-known a, inl ((h, a, omega (arith, ltb-true left (operands h) f)), refl))))
+      (λ f. whole-judged h a (omega (arith, ltb-false left (operands h) f)))
+    where
+      left : ℕ
+      left = length s - (at + 1)
+
+      a : Announced s at h
+      a = record { there = l; known = e }
 
   judged-right : at ≤ length s → Judged (judged q (readAt s at))
-  unfolding readAt wholeAt
-  judged-right w = byte (ltb at (length s)) refl
-    where
-      judge : (h : Shape) → Announced s at h → (NoByte s at → ⊥) → (UnknownByte s at → ⊥) → (CutShort s at → ⊥) → at + 1 + operands h ≤ length s
-          → Judged (judged q (Take (commandOf s (at + 1) h) (at + 1 + operands h)))
-      judge h a x y z l =
-          branch Judged (eqb (fault q (commandOf s (at + 1) h)) 0) (Take (commandOf s (at + 1) h) (at + 1 + operands h)) (Refused (fault q (commandOf s (at + 1) h)))
-          (λ e. record {
-            shape = h;
-            announced = a;
-            clear = (x, (y, (z, numbered-none (eqb-true (fault q (commandOf s (at + 1) h)) 0 e) (whole-faults h a))));
-            step = refl;
-            within = l;
-          })
-          (λ e. inr (x, inr (y, inr (z, numbered-first (eqb-false (fault q (commandOf s (at + 1) h)) 0 e) (whole-faults h a)))))
-
-      entry : (e : Entry) → entryOf (getD s at 0) ≡ e → at < length s → Judged (judged q (wholeAt s at e))
-      entry Unknown e l = inr (λ z. omega arith, inl ((l, e), refl))
-      entry (Known h) e l =
-          branch (λ r. Judged (judged q r)) (ltb (length s - (at + 1)) (operands h)) (Refused 2) (Take (commandOf s (at + 1) h) (at + 1 + operands h))
-          (λ f. inr (here-byte, inr (known, inl ((h, a, omega (arith, ltb-true (length s - (at + 1)) (operands h) f)), refl))))
-          (λ f. let g : at + 1 + operands h ≤ length s = omega (arith, ltb-false (length s - (at + 1)) (operands h) f) in judge h a here-byte known (whole g) g)
-        where
-          a : Announced s at h
-          a = record { there = l; known = e }
-
-          here-byte : NoByte s at → ⊥
-          here-byte z = omega arith
-
-          known : UnknownByte s at → ⊥
-          known u = let f = u .1 in let z : _≡_ {A = ℕ} 0 1 = cc in omega arith
-
-          whole : at + 1 + operands h ≤ length s → CutShort s at → ⊥
-          whole g c = omega (arith, ap operands (one-shape a (c .1)), c .2)
-
-      byte : (b : Bool) → ltb at (length s) ≡ b → Judged (judged q (cond b (wholeAt s at (entryOf (getD s at 0))) (Refused 2)))
-      byte true e = entry (entryOf (getD s at 0)) refl (ltb-true _ _ e)
-      byte false e = inl (omega (arith, ltb-false at (length s) e), refl)
+  unfolding readAt
+  judged-right w =
+      branch (λ r. Judged (judged q r)) (ltb at (length s)) (wholeAt s at (entryOf (getD s at 0))) (Refused 2)
+      (λ e. entry-judged (ltb-true at (length s) e) (entryOf (getD s at 0)) refl)
+      (λ e. inl (omega (arith, ltb-false at (length s) e), refl))
 
 -- ---- the head
 
--- one that is refused does not fit, and one that is taken does
+-- one that is refused does not fit
 unfit : (kind n m : ℕ) → headFits kind n m ≡ false → Unfit kind n m
 unfolding headFits
 unfit kind n m = pick (ltb 1 kind) (ltb mostVariables (n + m)) (eqb kind 0) (eqb m 0) refl refl refl refl
@@ -322,66 +361,76 @@ unfit kind n m = pick (ltb 1 kind) (ltb mostVariables (n + m)) (eqb kind 0) (eqb
     pick false false true true f g h k e = let z : _≡_ {A = ℕ} 0 1 = cc in absurd (omega arith)
     pick false false false d f g h k e = let z : _≡_ {A = ℕ} 0 1 = cc in absurd (omega arith)
 
+-- one that is taken does
 fit : (kind n m : ℕ) → headFits kind n m ≡ true → Unfit kind n m → ⊥
 fit kind n m e (inl u) = omega (arith, head-fits kind n m e .kinds)
 fit kind n m e (inr (inl u)) = omega (arith, head-fits kind n m e .variables)
 fit kind n m e (inr (inr u)) = omega (arith, u .0, head-fits kind n m e .alone (eq-eqb kind 0 (u .1)))
 
 module _ (s : List ℕ) where
+  -- the head's operands
+  abbrev kind : ℕ
+  kind = getD s 1 0
+
+  abbrev free : ℕ
+  free = getD s 2 0
+
+  abbrev own : ℕ
+  own = getD s 3 0
+
   -- what is said of the head, likewise
-  record OpenedFrom (kind n m : ℕ) : Type 0 where
+  record OpenedFrom (q : Question) : Type 0 where
     announced : Announced s 0 Shape.Head
     clear : NoneOf (faultsAt s 0 headDue)
+    question : q ≡ opened kind free own
     within : 4 ≤ length s
-    question : opened kind n m ≡ opened (getD s 1 0) (getD s 2 0) (getD s 3 0)
 
   abbrev HeadJudged : Head → Type 0
   HeadJudged (Wrong n) = FirstOf (faultsAt s 0 headDue) n
-  HeadJudged (Opens kind n m) = OpenedFrom kind n m
+  HeadJudged (Opens k n m) = OpenedFrom (opened k n m)
 
-  -- the byte 01 announces a head
-  announced-head : 0 < length s → getD s 0 0 ≡ 0x01 → Announced s 0 Shape.Head
-  unfolding entryOf
-  announced-head l e = record { there = l; known = ap entryOf e }
+  -- where the first byte is 01
+  module _ (l : 0 < length s) (e : getD s 0 0 ≡ 0x01) where
+    head-announced : Announced s 0 Shape.Head
+    unfolding entryOf
+    head-announced = record { there = l; known = ap entryOf e }
+
+    head-there : NoHead s → ⊥
+    head-there (inl u) = omega arith
+    head-there (inr u) = u e
+
+    whole-head : 4 ≤ length s → HeadJudged (cond (headFits kind free own) (Opens kind free own) (Wrong 5))
+    whole-head g =
+        branch HeadJudged (headFits kind free own) (Opens kind free own) (Wrong 5) (λ f. record {
+          announced = a;
+          clear = (head-there, (byte-there a, (byte-known a, (not-cut a g, (λ u. fit kind free own f (u .1), tt)))));
+          question = refl;
+          within = g;
+        })
+        (λ f. let u = unfit kind free own f in
+        inr (head-there, inr (byte-there a, inr (byte-known a, inr (not-cut a g, inl ((a, u), refl))))))
+      where
+        a : Announced s 0 Shape.Head
+        a = head-announced
+
+    cut-head : length s < 4 → HeadJudged (Wrong 2)
+    cut-head f =
+        let a = head-announced in
+        inr (head-there, inr (byte-there a, inr (byte-known a, inl ((Shape.Head, a, f), refl))))
 
   head-judged : HeadJudged (headOf s)
   unfolding headOf
   head-judged = pick (ltb 0 (length s)) (eqb (getD s 0 0) 0x01) refl refl
     where
-      rest : 0 < length s → getD s 0 0 ≡ 0x01
-          → HeadJudged (cond (ltb (length s) 4) (Wrong 2) (cond (headFits (getD s 1 0) (getD s 2 0) (getD s 3 0)) (Opens (getD s 1 0) (getD s 2 0) (getD s 3 0)) (Wrong 5)))
-      rest l e =
-          branch HeadJudged (ltb (length s) 4) (Wrong 2) _
-          (λ f. inr (first, inr (byte, inr (known, inl ((Shape.Head, a, omega (arith, ltb-true (length s) 4 f)), refl)))))
-          (λ f. let g : 4 ≤ length s = ltb-false (length s) 4 f in
-          branch HeadJudged (headFits (getD s 1 0) (getD s 2 0) (getD s 3 0)) (Opens (getD s 1 0) (getD s 2 0) (getD s 3 0)) (Wrong 5)
-          (λ h. record {
-            announced = a;
-            clear = (first, (byte, (known, (whole g, (λ u. fit (getD s 1 0) (getD s 2 0) (getD s 3 0) h (u .1), tt)))));
-            within = g;
-            question = refl;
-          })
-          (λ h. inr (first, inr (byte, inr (known, inr (whole g, inl ((a, unfit (getD s 1 0) (getD s 2 0) (getD s 3 0) h), refl)))))))
-        where
-          a : Announced s 0 Shape.Head
-          a = announced-head l e
+      rest : Head
+      rest = cond (ltb (length s) 4) (Wrong 2) (cond (headFits kind free own) (Opens kind free own) (Wrong 5))
 
-          first : NoHead s → ⊥
-          first (inl u) = omega arith
-          first (inr u) = u e
-
-          byte : NoByte s 0 → ⊥
-          byte z = omega arith
-
-          known : UnknownByte s 0 → ⊥
-          known u = let f = u .1 in let g = a .known in let z : _≡_ {A = ℕ} 0 1 = cc in omega arith
-
-          whole : 4 ≤ length s → CutShort s 0 → ⊥
-          whole g c = omega (arith, ap operands (one-shape a (c .1)), c .2)
-
-      pick : (b c : Bool) → ltb 0 (length s) ≡ b → eqb (getD s 0 0) 0x01 ≡ c
-          → HeadJudged (cond (b && c) (cond (ltb (length s) 4) (Wrong 2) (cond (headFits (getD s 1 0) (getD s 2 0) (getD s 3 0)) (Opens (getD s 1 0) (getD s 2 0) (getD s 3 0)) (Wrong 5))) (Wrong 1))
-      pick true true e f = rest (ltb-true 0 (length s) e) (eqb-true (getD s 0 0) 0x01 f)
+      pick : (b c : Bool) → ltb 0 (length s) ≡ b → eqb (getD s 0 0) 0x01 ≡ c → HeadJudged (cond (b && c) rest (Wrong 1))
+      pick true true e f =
+          let l = ltb-true 0 (length s) e in
+          let z = eqb-true (getD s 0 0) 0x01 f in
+          branch HeadJudged (ltb (length s) 4) (Wrong 2) (cond (headFits kind free own) (Opens kind free own) (Wrong 5))
+          (λ g. cut-head l z (ltb-true (length s) 4 g)) (λ g. whole-head l z (ltb-false (length s) 4 g))
       pick true false e f = inl (inr (eqb-false (getD s 0 0) 0x01 f), refl)
       pick false c e f = inl (inl (omega (arith, ltb-false 0 (length s) e)), refl)
 
@@ -392,28 +441,33 @@ module _ (s : List ℕ) where
   Right (accepted q) = AcceptedAs s q
   Right (refused n p) = FirstFault s n p
 
-  run-right : (k at : ℕ) (q : Question) → at ≤ length s → length s < at + k → Reached s at (commandDue q) → Right (run k s at q)
+  -- with room for k commands more
+  abbrev RightFrom : ℕ → Type 0
+  RightFrom k = (at : ℕ) (q : Question) → at ≤ length s → length s < at + k → Reached s at (commandDue q)
+      → Right (run k s at q)
+
+  run-right : (k : ℕ) → RightFrom k
   unfolding run turn commandOf ended
   run-right zero at q w l r = absurd (omega arith)
   run-right (suc k) at q w l r = pick (judged q (readAt s at)) (judged-right s at q w) (run-right k)
     where
-      on : (h : Shape) → Announced s at h → NoneOf (faultsAt s at (commandDue q)) → at + 1 + operands h ≤ length s
-          → ((at′ : ℕ) (q′ : Question) → at′ ≤ length s → length s < at′ + k → Reached s at′ (commandDue q′) → Right (run k s at′ q′))
-          → Right (following (λ q′ at′. run k s at′ q′) (onward s at q (Take (commandOf s (at + 1) h) (at + 1 + operands h))))
+      then : Step → Result
+      then j = following (λ q′ at′. run k s at′ q′) (onward s at q j)
+
+      on : (h : Shape) → Announced s at h → NoneOf (faultsAt s at (commandDue q)) → after at h ≤ length s → RightFrom k
+          → Right (then (whole s at q h))
       on Shape.End a c m again =
           branch Right (eqb (at + 1 + 0) (length s)) (accepted q) (refused 10 (at + 1 + 0))
-          (λ e. subst (λ p. Reached s p (nothingDue q)) (eqb-true (at + 1 + 0) (length s) e) (next r c a))
-          (λ e. (nothingDue q, next r c a, inl (let z = eqb-false (at + 1 + 0) (length s) e in omega arith, refl)))
-      on Shape.Head a c m again = again _ _ m (omega arith) (next r c a)
-      on Shape.Constant a c m again = again _ _ m (omega arith) (next r c a)
-      on (Shape.Clause σ t) a c m again = again _ _ m (omega arith) (next r c a)
+          (λ e. subst (λ p. Reached s p (nothingDue q)) (eqb-true (at + 1 + 0) (length s) e) (further r c a))
+          (λ e. (nothingDue q, further r c a, inl (let z = eqb-false (at + 1 + 0) (length s) e in omega arith, refl)))
+      on Shape.Head a c m again = again _ _ m (omega arith) (further r c a)
+      on Shape.Constant a c m again = again _ _ m (omega arith) (further r c a)
+      on (Shape.Clause σ t) a c m again = again _ _ m (omega arith) (further r c a)
 
-      pick : (j : Step) → Judged s at q j
-          → ((at′ : ℕ) (q′ : Question) → at′ ≤ length s → length s < at′ + k → Reached s at′ (commandDue q′) → Right (run k s at′ q′))
-          → Right (following (λ q′ at′. run k s at′ q′) (onward s at q j))
+      pick : (j : Step) → Judged s at q j → RightFrom k → Right (then j)
       pick (Refused n) f again = (commandDue q, r, f)
       pick (Take c to) f again =
-          subst (λ j. Right (following (λ q′ at′. run k s at′ q′) (onward s at q j))) (sym (f .step)) (on (f .shape) (f .announced) (f .clear) (f .within) again)
+          subst (λ j. Right (then j)) (sym (f .step)) (on (f .shape) (f .announced) (f .clear) (f .within) again)
 
   read-right : Right (read s)
   unfolding read
@@ -421,8 +475,10 @@ module _ (s : List ℕ) where
     where
       pick : (h : Head) → HeadJudged s h → Right (afterHead s h)
       pick (Wrong n) f = (headDue, start, f)
-      pick (Opens kind n m) f =
-          rw (f .question) (run-right (length s) 4 (opened (getD s 1 0) (getD s 2 0) (getD s 3 0)) (f .within) (omega arith) (next start (f .clear) (f .announced)))
+      pick (Opens k n m) f =
+          let q : Question = opened (kind s) (free s) (own s) in
+          let r : Reached s 4 (commandDue q) = further start (f .clear) (f .announced) in
+          rw (f .question) (run-right (length s) 4 q (f .within) (omega arith) r)
 
 -- ---- and nothing else is
 
@@ -434,19 +490,20 @@ module _ (s : List ℕ) where
   Stands at (nothingDue q) = read s ≡ ended s at q
 
   -- a command without a fault is taken
-  clear-taken : (at : ℕ) (q : Question) (h : Shape) → at ≤ length s → NoneOf (faultsAt s at (commandDue q)) → Announced s at h
-      → (judged q (readAt s at) ≡ Take (commandOf s (at + 1) h) (at + 1 + operands h)) × (at + 1 + operands h ≤ length s)
-  clear-taken at q h w c a = pick (judged q (readAt s at)) refl (judged-right s at q w)
+  clear-taken : (at : ℕ) (q : Question) (h : Shape) → at ≤ length s
+      → NoneOf (faultsAt s at (commandDue q)) → Announced s at h
+      → (judged q (readAt s at) ≡ whole s at q h) × (after at h ≤ length s)
+  clear-taken at q h w c a = pick (judged q (readAt s at)) (judged-right s at q w)
     where
-      pick : (j : Step) → judged q (readAt s at) ≡ j → Judged s at q j
-          → (j ≡ Take (commandOf s (at + 1) h) (at + 1 + operands h)) × (at + 1 + operands h ≤ length s)
-      pick (Refused n) e f = absurd (first-some (faultsAt s at (commandDue q)) n f c)
-      pick (Take d to) e f =
-          let g : f .shape ≡ h = one-shape (f .announced) a in
-          (f .step ∙ ap (λ k. Take (commandOf s (at + 1) k) (at + 1 + operands k)) g, subst (λ k. at + 1 + operands k ≤ length s) g (f .within))
+      pick : (j : Step) → Judged s at q j → (j ≡ whole s at q h) × (after at h ≤ length s)
+      pick (Refused n) f = absurd (first-some (faultsAt s at (commandDue q)) n f c)
+      pick (Take d to) f =
+          let e : f .shape ≡ h = one-shape (f .announced) a in
+          (f .step ∙ ap (whole s at q) e, subst (λ k. after at k ≤ length s) e (f .within))
 
-  -- and one with a fault is refused by its first one
-  first-refused : (at : ℕ) (q : Question) (n : ℕ) → at ≤ length s → FirstOf (faultsAt s at (commandDue q)) n → judged q (readAt s at) ≡ Refused n
+  -- one with a fault is refused by its first one
+  first-refused : (at : ℕ) (q : Question) (n : ℕ) → at ≤ length s
+      → FirstOf (faultsAt s at (commandDue q)) n → judged q (readAt s at) ≡ Refused n
   first-refused at q n w f = pick (judged q (readAt s at)) (judged-right s at q w)
     where
       pick : (j : Step) → Judged s at q j → j ≡ Refused n
@@ -454,74 +511,91 @@ module _ (s : List ℕ) where
       pick (Take d to) g = absurd (first-some (faultsAt s at (commandDue q)) n f (g .clear))
 
   -- a turn of reading, by what is judged
-  run-turn : (k at : ℕ) (q : Question) (j : Step) → judged q (readAt s at) ≡ j → run (suc k) s at q ≡ following (λ q′ at′. run k s at′ q′) (onward s at q j)
+  run-turn : (k at : ℕ) (q : Question) (j : Step) → judged q (readAt s at) ≡ j
+      → run (suc k) s at q ≡ following (λ q′ at′. run k s at′ q′) (onward s at q j)
   unfolding run turn
   run-turn k at q j e = ap (λ i. following (λ q′ at′. run k s at′ q′) (onward s at q i)) e
 
-  after-head : (h : Shape) → NoneOf (faultsAt s 0 headDue) → Announced s 0 h → Stands (0 + 1 + operands h) (dueAfter s 0 headDue h)
+  -- the bound on the commands does not matter
+  more : (to : ℕ) (q : Question) → 0 < to → to ≤ length s → run (length s) s to q ≡ run (suc (length s)) s to q
+  more to q l m = run-enough s (length s) (suc (length s)) to q m (omega arith) (omega arith)
+
+  after-head : (h : Shape) → NoneOf (faultsAt s 0 headDue) → Announced s 0 h
+      → Stands (after 0 h) (dueAfter s 0 headDue h)
   unfolding read
   after-head h c a = pick (headOf s) refl (head-judged s)
     where
-      pick : (o : Head) → headOf s ≡ o → HeadJudged s o → Stands (0 + 1 + operands h) (dueAfter s 0 headDue h)
+      pick : (o : Head) → headOf s ≡ o → HeadJudged s o → Stands (after 0 h) (dueAfter s 0 headDue h)
       pick (Wrong n) e f = absurd (first-some (faultsAt s 0 headDue) n f c)
-      pick (Opens kind n m) e f = subst (λ k. Stands (0 + 1 + operands k) (dueAfter s 0 headDue k)) (one-shape (f .announced) a) (
-        f .within,
-        ap (afterHead s) e ∙ run-enough s (length s) (suc (length s)) 4 (opened kind n m) (f .within) (omega arith) (omega arith)
-            ∙ ap (run (suc (length s)) s 4) (f .question),
-      )
+      pick (Opens k n m) e f =
+          let r = ap (afterHead s) e ∙ more 4 (opened k n m) (omega arith) (f .within) in
+          subst (λ i. Stands (after 0 i) (dueAfter s 0 headDue i)) (one-shape (f .announced) a)
+          (f .within, r ∙ ap (run (suc (length s)) s 4) (f .question))
 
-  after-command : (at : ℕ) (q : Question) (h : Shape) → Stands at (commandDue q) → NoneOf (faultsAt s at (commandDue q)) → Announced s at h
-      → Stands (at + 1 + operands h) (dueAfter s at (commandDue q) h)
+  after-command : (at : ℕ) (q : Question) (h : Shape) → Stands at (commandDue q)
+      → NoneOf (faultsAt s at (commandDue q)) → Announced s at h → Stands (after at h) (dueAfter s at (commandDue q) h)
   unfolding commandOf
-  after-command at q h w c a = pick h a (clear-taken at q h (w .0) c a .0) (clear-taken at q h (w .0) c a .1)
+  after-command at q h w c a = let t = clear-taken at q h (w .0) c a in pick h (t .0) (t .1)
     where
-      -- the bound does not matter
-      more : (to : ℕ) (r : Question) → at < to → to ≤ length s → run (length s) s to r ≡ run (suc (length s)) s to r
-      more to r l m = run-enough s (length s) (suc (length s)) to r m (omega arith) (omega arith)
+      turned : (j : Step) → judged q (readAt s at) ≡ j
+          → read s ≡ following (λ q′ at′. run (length s) s at′ q′) (onward s at q j)
+      turned j e = w .1 ∙ run-turn (length s) at q j e
 
-      pick : (h : Shape) → Announced s at h → judged q (readAt s at) ≡ Take (commandOf s (at + 1) h) (at + 1 + operands h) → at + 1 + operands h ≤ length s
-          → Stands (at + 1 + operands h) (dueAfter s at (commandDue q) h)
-      pick Shape.End b e m = w .1 ∙ run-turn (length s) at q _ e
-      pick Shape.Head b e m = (m, w .1 ∙ run-turn (length s) at q _ e ∙ more _ _ (omega arith) m)
-      pick Shape.Constant b e m = (m, w .1 ∙ run-turn (length s) at q _ e ∙ more _ _ (omega arith) m)
-      pick (Shape.Clause σ t) b e m = (m, w .1 ∙ run-turn (length s) at q _ e ∙ more _ _ (omega arith) m)
+      pick : (h : Shape) → judged q (readAt s at) ≡ whole s at q h → after at h ≤ length s
+          → Stands (after at h) (dueAfter s at (commandDue q) h)
+      pick Shape.End e m = turned _ e
+      pick Shape.Head e m = (m, turned _ e ∙ more _ _ (omega arith) m)
+      pick Shape.Constant e m = (m, turned _ e ∙ more _ _ (omega arith) m)
+      pick (Shape.Clause σ t) e m = (m, turned _ e ∙ more _ _ (omega arith) m)
 
   reached-stands : {at : ℕ} {d : Due} → Reached s at d → Stands at d
   reached-stands start = refl
-  reached-stands (next {at} {d = headDue} {h} r c a) =
-      subst (λ i. NoneOf (faultsAt s i headDue) → Announced s i h → Stands (i + 1 + operands h) (dueAfter s i headDue h)) (sym (reached-stands r)) (after-head h) c a
-  reached-stands (next {at} {d = commandDue q} {h} r c a) = after-command at q h (reached-stands r) c a
-  reached-stands (next {d = nothingDue q} r c a) = absurd (c .0 (a .there))
+  reached-stands (further {at} {d = headDue} {h} r c a) =
+      subst (λ i. NoneOf (faultsAt s i headDue) → Announced s i h → Stands (after i h) (dueAfter s i headDue h))
+      (sym (reached-stands r)) (after-head h) c a
+  reached-stands (further {at} {d = commandDue q} {h} r c a) = after-command at q h (reached-stands r) c a
+  reached-stands (further {d = nothingDue q} r c a) = absurd (c .0 (a .there))
+
+  -- nothing after the end, and bytes after it
+  ended-all : (q : Question) → ended s (length s) q ≡ accepted q
+  unfolding ended
+  ended-all q = rw (eq-eqb (length s) (length s) refl) refl
+
+  ended-short : (p : ℕ) (q : Question) → p < length s → ended s p q ≡ refused 10 p
+  unfolding ended
+  ended-short p q l = rw (ne-eqb p (length s) (λ z. omega arith)) refl
 
   accepted-read : (q : Question) → AcceptedAs s q → read s ≡ accepted q
-  unfolding ended
-  accepted-read q r = reached-stands r ∙ ap (λ b. cond b (accepted q) (refused 10 (length s))) (eq-eqb (length s) (length s) refl)
+  accepted-read q r = reached-stands r ∙ ended-all q
+
+  head-read : (n : ℕ) → FirstOf (faultsAt s 0 headDue) n → read s ≡ refused n 0
+  unfolding read
+  head-read n f = pick (headOf s) (head-judged s)
+    where
+      pick : (h : Head) → HeadJudged s h → afterHead s h ≡ refused n 0
+      pick (Wrong m) g = ap (λ k. refused k 0) (first-one (faultsAt s 0 headDue) m n g f)
+      pick (Opens k free own) g = absurd (first-some (faultsAt s 0 headDue) n f (g .clear))
 
   fault-read : (n p : ℕ) → FirstFault s n p → read s ≡ refused n p
-  unfolding read ended
   fault-read n p f = pick (f .0) (reached-stands (f .1)) (f .2)
     where
-      head : (h : Head) → HeadJudged s h → FirstOf (faultsAt s 0 headDue) n → afterHead s h ≡ refused n 0
-      head (Wrong m) g o = ap (λ k. refused k 0) (first-one (faultsAt s 0 headDue) m n g o)
-      head (Opens kind free own) g o = absurd (first-some (faultsAt s 0 headDue) n o (g .clear))
-
       pick : (d : Due) → Stands p d → FirstOf (faultsAt s p d) n → read s ≡ refused n p
-      pick headDue e o = subst (λ i. FirstOf (faultsAt s i headDue) n → afterHead s (headOf s) ≡ refused n i) (sym e) (head (headOf s) (head-judged s)) o
+      pick headDue e o = rw e (head-read n (rw e at o))
       pick (commandDue q) e o = e .1 ∙ run-turn (length s) p q (Refused n) (first-refused p q n (e .0) o)
-      pick (nothingDue q) e (inl o) = e ∙ ap (λ b. cond b (accepted q) (refused 10 p)) (ne-eqb p (length s) (λ z. omega (arith, o .0))) ∙ ap (λ k. refused k p) (sym (o .1))
+      pick (nothingDue q) e (inl o) = e ∙ ended-short p q (o .0) ∙ ap (λ k. refused k p) (sym (o .1))
       pick (nothingDue q) e (inr o) = absurd (o .1)
 
   -- ---- what others cite
 
-  -- SPEC 7.4: a string is accepted exactly if it is the string of a question
+  -- reading accepts a string as a question exactly if it is one's: SPEC 7.4
   pub accepts-iff : (q : Question) → (read s ≡ accepted q) ↔ AcceptedAs s q
   accepts-iff q = (λ e. subst (Right s) e (read-right s), accepted-read q)
 
-  -- SPEC 7.3: a string is refused exactly by its first fault
+  -- reading refuses a string exactly by its first fault: SPEC 7.3
   pub refuses-iff : (n p : ℕ) → (read s ≡ refused n p) ↔ FirstFault s n p
   refuses-iff n p = (λ e. subst (Right s) e (read-right s), fault-read n p)
 
-  -- every string is that of a question or has a first fault
+  -- every string is that of a question or has a first fault,
   pub accepted-or-faulty : ((q : Question) × AcceptedAs s q) ⊎ ((n : ℕ) × (p : ℕ) × FirstFault s n p)
   accepted-or-faulty = pick (read s) (read-right s)
     where
@@ -529,17 +603,17 @@ module _ (s : List ℕ) where
       pick (accepted q) h = inl (q, h)
       pick (refused n p) h = inr (n, p, h)
 
-  -- of one question only
-  pub accepted-one : (q r : Question) → AcceptedAs s q → AcceptedAs s r → q ≡ r
-  accepted-one q r h k = let e : accepted q ≡ accepted r = sym (accepted-read q h) ∙ accepted-read r k in cc
-
-  -- one first fault only
-  pub fault-one : (n p m o : ℕ) → FirstFault s n p → FirstFault s m o → (n ≡ m) × (p ≡ o)
-  fault-one n p m o h k = let e : refused n p ≡ refused m o = sym (fault-read n p h) ∙ fault-read m o k in (cc, cc)
-
-  -- and never both
-  pub accepted-no-fault : (q : Question) (n p : ℕ) → AcceptedAs s q → FirstFault s n p → ⊥
-  accepted-no-fault q n p h k =
+  -- not both,
+  pub not-both : (q : Question) (n p : ℕ) → AcceptedAs s q → FirstFault s n p → ⊥
+  not-both q n p h k =
       let e : accepted q ≡ refused n p = sym (accepted-read q h) ∙ fault-read n p k in
       let z : _≡_ {A = ℕ} 0 1 = cc in
       omega arith
+
+  -- of one question only,
+  pub one-question : (q r : Question) → AcceptedAs s q → AcceptedAs s r → q ≡ r
+  one-question q r h k = let e : accepted q ≡ accepted r = sym (accepted-read q h) ∙ accepted-read r k in cc
+
+  -- and with one first fault only
+  pub one-fault : (n p m o : ℕ) → FirstFault s n p → FirstFault s m o → (n ≡ m) × (p ≡ o)
+  one-fault n p m o h k = let e : refused n p ≡ refused m o = sym (fault-read n p h) ∙ fault-read m o k in (cc, cc)

@@ -10,16 +10,23 @@ use Rattle.format.specs.declared.Section.{Section}
 use Rattle.format.specs.declared.Test.{Test}
 use Rattle.format.specs.declared.Shape.{Shape}
 use Rattle.format.specs.declared.Entry.the-variants.{Known, Unknown}
-use Rattle.format.specs.Format.{mostVariables, mostConstants, entryOf, termCount, operands, commandOf, isSecond, mostOf, inSection, termOf, variablesFor, taken, opened}
+use Rattle.format.specs.Format.{mostVariables, mostConstants, entryOf, termCount, operands, commandOf}
+use Rattle.format.specs.Format.{isSecond, mostOf, inSection, termOf, variablesFor, taken, opened}
 
--- ---- the faults, each by its row of the table
+-- ---- a command at an offset
 
--- the byte at an offset is there and announces a command
+-- its byte is there and announces this shape
 pub record Announced (s : List ℕ) (at : ℕ) (h : Shape) : Type 0 where
   pub there : at < length s
   pub known : entryOf (getD s at 0) ≡ Known h
 
--- SPEC 7.1.1: the first byte is missing or is not 01
+-- where it ends, if its operands are there
+abbrev pub after : ℕ → Shape → ℕ
+after at h = at + 1 + operands h
+
+-- ---- the faults, each by its row of SPEC 7.1; q is what the commands before it give
+
+-- 7.1.1: the first byte is missing or is not 01
 abbrev pub NoHead : List ℕ → Type 0
 NoHead s = (length s ≡ 0) ⊎ (getD s 0 0 ≡ 0x01 → ⊥)
 
@@ -29,7 +36,7 @@ NoByte s at = at ≡ length s
 
 -- 7.1.3: the operands of a command are cut short
 abbrev pub CutShort : List ℕ → ℕ → Type 0
-CutShort s at = (h : Shape) × Announced s at h × (length s < at + 1 + operands h)
+CutShort s at = (h : Shape) × Announced s at h × (length s < after at h)
 
 -- 7.1.4: an unknown command byte
 abbrev pub UnknownByte : List ℕ → ℕ → Type 0
@@ -37,13 +44,14 @@ UnknownByte s at = (at < length s) × (entryOf (getD s at 0) ≡ Unknown)
 
 -- 7.1.5: a second head, or a constant after a clause of either system
 abbrev pub OutOfPlace : List ℕ → ℕ → Question → Type 0
-OutOfPlace s at q = Announced s at Shape.Head ⊎ (Announced s at Shape.Constant × (0 < length (q .first) + length (q .second)))
+OutOfPlace s at q =
+    Announced s at Shape.Head ⊎ (Announced s at Shape.Constant × (0 < length (q .first) + length (q .second)))
 
 -- 7.1.6: kind above 1, n + m above 12, or m above 0 with kind 0
 abbrev pub Unfit : ℕ → ℕ → ℕ → Type 0
 Unfit kind n m = (1 < kind) ⊎ (mostVariables < n + m) ⊎ ((0 < m) × (kind ≡ 0))
 
--- of a head
+-- in a head
 abbrev pub UnfitHead : List ℕ → ℕ → Type 0
 UnfitHead s at = Announced s at Shape.Head × Unfit (getD s (at + 1) 0) (getD s (at + 2) 0) (getD s (at + 3) 0)
 
@@ -53,9 +61,10 @@ ConstantTooMany s at q = Announced s at Shape.Constant × (mostConstants ≤ len
 
 -- 7.1.8: a 65th positive clause or a 32nd disequation in one system
 abbrev pub ClauseTooMany : List ℕ → ℕ → Question → Type 0
-ClauseTooMany s at q = (σ : Section) × (t : Test) × Announced s at (Shape.Clause σ t) × (mostOf σ ≤ length (inSection q σ))
+ClauseTooMany s at q =
+    (σ : Section) × (t : Test) × Announced s at (Shape.Clause σ t) × (mostOf σ ≤ length (inSection q σ))
 
--- 7.1.9: a term, the k-th from 0, that names nothing defined, or an own variable in a clause of the first system
+-- 7.1.9: a term, number k from 0, that names nothing defined, or an own variable in a clause of the first system
 abbrev pub NamesNothing : List ℕ → ℕ → Question → Type 0
 NamesNothing s at q =
     (σ : Section) × (t : Test) × (k : ℕ) × Announced s at (Shape.Clause σ t) × (k < termCount t)
@@ -78,13 +87,26 @@ pub data Due : Type 0 where
   commandDue : Question → Due
   nothingDue : Question → Due
 
--- SPEC 7.3: what may be wrong there, with its number: 1, 2 (no byte), 3, 2 (cut short), 4, 5, 9, 6, 7, 8, and 10 after the end
+-- SPEC 7.3: 1, 2 (no byte), 3, 2 (cut short), 4, 5, 9, 6, 7, 8, and 10 after the end; of these, what can be wrong there
 abbrev pub faultsAt : List ℕ → ℕ → Due → List (ℕ × Type 0)
 faultsAt s at headDue =
-    (1, NoHead s) ∷ (2, NoByte s at) ∷ (3, UnknownByte s at) ∷ (2, CutShort s at) ∷ (5, UnfitHead s at) ∷ []
+    (1, NoHead s)
+    ∷ (2, NoByte s at)
+    ∷ (3, UnknownByte s at)
+    ∷ (2, CutShort s at)
+    ∷ (5, UnfitHead s at)
+    ∷ []
 faultsAt s at (commandDue q) =
-    (2, NoByte s at) ∷ (3, UnknownByte s at) ∷ (2, CutShort s at) ∷ (4, OutOfPlace s at q) ∷ (5, UnfitHead s at)
-    ∷ (9, ForeignClause s at q) ∷ (6, ConstantTooMany s at q) ∷ (7, ClauseTooMany s at q) ∷ (8, NamesNothing s at q) ∷ []
+    (2, NoByte s at)
+    ∷ (3, UnknownByte s at)
+    ∷ (2, CutShort s at)
+    ∷ (4, OutOfPlace s at q)
+    ∷ (5, UnfitHead s at)
+    ∷ (9, ForeignClause s at q)
+    ∷ (6, ConstantTooMany s at q)
+    ∷ (7, ClauseTooMany s at q)
+    ∷ (8, NamesNothing s at q)
+    ∷ []
 faultsAt s at (nothingDue q) = (10, BytesAfter s at) ∷ []
 
 -- none of them is so
@@ -99,7 +121,7 @@ FirstOf (f ∷ l) n = (f .1 × (n ≡ f .0)) ⊎ ((f .1 → ⊥) × FirstOf l n)
 
 -- ---- from the left
 
--- what is due after a command that starts at an offset: it is taken, or the end
+-- what is due after a command: nothing after the end; after any other a command, with what it adds
 abbrev pub dueAfter : List ℕ → ℕ → Due → Shape → Due
 dueAfter s at headDue h = commandDue (opened (getD s (at + 1) 0) (getD s (at + 2) 0) (getD s (at + 3) 0))
 dueAfter s at (commandDue q) Shape.End = nothingDue q
@@ -108,16 +130,16 @@ dueAfter s at (commandDue q) Shape.Constant = commandDue (taken q (commandOf s (
 dueAfter s at (commandDue q) (Shape.Clause σ t) = commandDue (taken q (commandOf s (at + 1) (Shape.Clause σ t)))
 dueAfter s at (nothingDue q) h = nothingDue q
 
--- commands stand up to an offset, one after the other, the head first, each without a fault after those before it; this is due there
+-- up to an offset, where this is due, commands stand one after the other, each without a fault after those before it
 pub data Reached (s : List ℕ) : ℕ → Due → Type 0 where
   start : Reached s 0 headDue
-  next : {at : ℕ} {d : Due} {h : Shape} → Reached s at d → NoneOf (faultsAt s at d) → Announced s at h
-      → Reached s (at + 1 + operands h) (dueAfter s at d h)
+  further : {at : ℕ} {d : Due} {h : Shape} → Reached s at d → NoneOf (faultsAt s at d) → Announced s at h
+      → Reached s (after at h) (dueAfter s at d h)
 
--- the string of a question: a head that fits, commands without a fault, the end, and nothing more
+-- the string is that of q: a head that fits, commands without a fault, the end, and nothing more
 abbrev pub AcceptedAs : List ℕ → Question → Type 0
 AcceptedAs s q = Reached s (length s) (nothingDue q)
 
--- the first fault from the left has the number n and the place p
+-- its first fault from the left has the number n and the place p
 abbrev pub FirstFault : List ℕ → ℕ → ℕ → Type 0
 FirstFault s n p = (d : Due) × Reached s p d × FirstOf (faultsAt s p d) n
