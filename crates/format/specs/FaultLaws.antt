@@ -31,19 +31,22 @@ use Rattle.format.specs.Faults.{Announced, after, NoHead, NoByte, CutSho
 use Rattle.format.specs.Faults.{UnfitHead, ConstantTooMany, ClauseTooMany, NamesNothing, ForeignClause}
 use Rattle.format.specs.Faults.{Due, headDue, commandDue, nothingDue, faultsAt, NoneOf, FirstOf, dueAfter}
 use Rattle.format.specs.Faults.{Reached, start, further, AcceptedAs, FirstFault}
+use Rattle.format.specs.AnnouncedLaws.{one-shape, byte-there, byte-known, not-cut, other, no-head, no-constant}
+use Rattle.format.specs.AnnouncedLaws.{in-place, no-foreign, no-clause, no-term}
+use Rattle.format.specs.WorkedFaults.{bytes, nine-first}
 
 -- ---- the first fault of a list is one
 
 first-one : (l : List (ℕ × Type 0)) (n m : ℕ) → FirstOf l n → FirstOf l m → n ≡ m
 first-one [] n m f g = absurd f
-first-one (p ∷ l) n m (inl a) (inl b) = a .1 ∙ sym (b .1)
-first-one (p ∷ l) n m (inl a) (inr b) = absurd (b .0 (a .0))
-first-one (p ∷ l) n m (inr a) (inl b) = absurd (a .0 (b .0))
+first-one (p ∷ l) n m (inl a) (inl b) = a .0 ∙ sym (b .0)
+first-one (p ∷ l) n m (inl a) (inr b) = absurd (b .0 (a .1))
+first-one (p ∷ l) n m (inr a) (inl b) = absurd (a .0 (b .1))
 first-one (p ∷ l) n m (inr a) (inr b) = first-one l n m (a .1) (b .1)
 
 first-some : (l : List (ℕ × Type 0)) (n : ℕ) → FirstOf l n → NoneOf l → ⊥
 first-some [] n f g = f
-first-some (p ∷ l) n (inl a) g = g .0 (a .0)
+first-some (p ∷ l) n (inl a) g = g .0 (a .1)
 first-some (p ∷ l) n (inr a) g = first-some l n (a .1) (g .1)
 
 -- the number of the first that is so, 0 where none is
@@ -59,7 +62,7 @@ numbered-none e (pass f r) = (f, numbered-none e r)
 
 numbered-first : {l : List (ℕ × Type 0)} {n : ℕ} → (n ≡ 0 → ⊥) → Numbered l n → FirstOf l n
 numbered-first e none = e refl
-numbered-first e (here p) = inl (p, refl)
+numbered-first e (here p) = inl (refl, p)
 numbered-first e (pass f r) = inr (f, numbered-first e r)
 
 -- ---- terms
@@ -126,31 +129,6 @@ foreign-kind : (k : Kind) (σ : Section) → isForeign k σ ≡ true → (isSeco
 foreign-kind satisfiability σ e = (e, refl)
 foreign-kind entailment σ e = let z : _≡_ {A = ℕ} 0 1 = cc in absurd (omega arith)
 
--- one shape at most is announced
-one-shape : {s : List ℕ} {at : ℕ} {h h′ : Shape} → Announced s at h → Announced s at h′ → h ≡ h′
-one-shape {h} {h′} a b = let e : Known h ≡ Known h′ = sym (a .known) ∙ b .known in cc
-
--- a byte that announces a shape is there and is known, and not cut short where its operands are there
-module _ {s : List ℕ} {at : ℕ} {h : Shape} (a : Announced s at h) where
-  byte-there : NoByte s at → ⊥
-  byte-there z = omega (arith, a .there)
-
-  byte-known : UnknownByte s at → ⊥
-  byte-known u =
-      let e : Known h ≡ Unknown = sym (a .known) ∙ u .1 in
-      let z : _≡_ {A = ℕ} 0 1 = cc in
-      omega arith
-
-  not-cut : after at h ≤ length s → CutShort s at → ⊥
-  not-cut l c = omega (arith, ap operands (one-shape a (c .1)), c .2)
-
--- a number for each sort of shape
-abbrev sort : Shape → ℕ
-sort Shape.End = 0
-sort Shape.Head = 1
-sort Shape.Constant = 2
-sort (Shape.Clause σ t) = 3
-
 module _ (s : List ℕ) (at : ℕ) (q : Question) where
   -- the faults of a command that is whole
   abbrev wholeFaults : List (ℕ × Type 0)
@@ -163,35 +141,12 @@ module _ (s : List ℕ) (at : ℕ) (q : Question) where
   abbrev constants : ℕ
   constants = length (q .constants .numbers)
 
-  -- a fault of another command is not so
-  module _ {h : Shape} (a : Announced s at h) where
-    other : (h′ : Shape) → eqb (sort h) (sort h′) ≡ false → Announced s at h′ → ⊥
-    other h′ e b = eqb-false (sort h) (sort h′) e (ap sort (one-shape a b))
-
-    no-head : eqb (sort h) 1 ≡ false → UnfitHead s at → ⊥
-    no-head e b = other Shape.Head e (b .0)
-
-    no-constant : eqb (sort h) 2 ≡ false → ConstantTooMany s at q → ⊥
-    no-constant e b = other Shape.Constant e (b .0)
-
-    in-place : eqb (sort h) 1 ≡ false → eqb (sort h) 2 ≡ false → OutOfPlace s at q → ⊥
-    in-place e f (inl b) = other Shape.Head e b
-    in-place e f (inr b) = other Shape.Constant f (b .0)
-
-    no-foreign : eqb (sort h) 3 ≡ false → ForeignClause s at q → ⊥
-    no-foreign e b = other (Shape.Clause (b .0) (b .1)) e (b .2)
-
-    no-clause : eqb (sort h) 3 ≡ false → ClauseTooMany s at q → ⊥
-    no-clause e b = other (Shape.Clause (b .0) (b .1)) e (b .2)
-
-    no-term : eqb (sort h) 3 ≡ false → NamesNothing s at q → ⊥
-    no-term e b = other (Shape.Clause (b .0) (b .1)) e (b .3)
-
   end-faults : Announced s at Shape.End → Numbered wholeFaults 0
   end-faults a =
-      pass (in-place a refl refl)
+      pass (in-place q a refl refl)
       (pass (no-head a refl)
-      (pass (no-foreign a refl) (pass (no-constant a refl) (pass (no-clause a refl) (pass (no-term a refl) none)))))
+      (pass (no-foreign q a refl)
+      (pass (no-constant q a refl) (pass (no-clause q a refl) (pass (no-term q a refl) none)))))
 
   head-faults : Announced s at Shape.Head → Numbered wholeFaults 4
   head-faults a = here (inl a)
@@ -213,11 +168,12 @@ module _ (s : List ℕ) (at : ℕ) (q : Question) where
     constant-faults : (e f : Bool) → begun q ≡ e → leb mostConstants constants ≡ f
         → Numbered wholeFaults (constantFault e f)
     constant-faults true f g h = here (late g)
-    constant-faults false true g h = pass (early g) (pass (no-head a refl) (pass (no-foreign a refl) (here (spent h))))
+    constant-faults false true g h =
+        pass (early g) (pass (no-head a refl) (pass (no-foreign q a refl) (here (spent h))))
     constant-faults false false g h =
         pass (early g)
         (pass (no-head a refl)
-        (pass (no-foreign a refl) (pass (few h) (pass (no-clause a refl) (pass (no-term a refl) none)))))
+        (pass (no-foreign q a refl) (pass (few h) (pass (no-clause q a refl) (pass (no-term q a refl) none)))))
 
   module _ (σ : Section) (t : Test) (a : Announced s at (Shape.Clause σ t)) where
     -- the variables that it may name
@@ -276,16 +232,16 @@ module _ (s : List ℕ) (at : ℕ) (q : Question) where
         (σ, t, u .0, a, u .1 .0, defined-not (getD s (at + 1 + u .0) 0) (u .1 .1))
 
     clause-faults : (f l n : Bool) → foreign ≡ f → filled ≡ l → named ≡ n → Numbered wholeFaults (clauseFault f l n)
-    clause-faults f l n e g h = pass (in-place a refl refl) (pass (no-head a refl) (pick f l n e g h))
+    clause-faults f l n e g h = pass (in-place q a refl refl) (pass (no-head a refl) (pick f l n e g h))
       where
         pick : (f l n : Bool) → foreign ≡ f → filled ≡ l → named ≡ n
             → Numbered (drop 2 wholeFaults) (clauseFault f l n)
         pick true l n e g h = here (abroad e)
-        pick false true n e g h = pass (home e) (pass (no-constant a refl) (here (too-many g)))
+        pick false true n e g h = pass (home e) (pass (no-constant q a refl) (here (too-many g)))
         pick false false true e g h =
-            pass (home e) (pass (no-constant a refl) (pass (room g) (pass (all-named h) none)))
+            pass (home e) (pass (no-constant q a refl) (pass (room g) (pass (all-named h) none)))
         pick false false false e g h =
-            pass (home e) (pass (no-constant a refl) (pass (room g) (here (some-nothing h))))
+            pass (home e) (pass (no-constant q a refl) (pass (room g) (here (some-nothing h))))
 
   whole-faults : (h : Shape) → Announced s at h → Numbered wholeFaults (fault q (commandOf s (at + 1) h))
   unfolding fault commandOf
@@ -327,10 +283,10 @@ module _ (s : List ℕ) (at : ℕ) (q : Question) where
 
   entry-judged : at < length s → (e : Entry) → entryOf (getD s at 0) ≡ e → Judged (judged q (wholeAt s at e))
   unfolding wholeAt
-  entry-judged l Unknown e = inr (λ z. omega arith, inl ((l, e), refl))
+  entry-judged l Unknown e = inr (λ z. omega arith, inl (refl, (l, e)))
   entry-judged l (Known h) e =
       branch (λ r. Judged (judged q r)) (ltb left (operands h)) (Refused 2) (whole h)
-      (λ f. inr (byte-there a, inr (byte-known a, inl ((h, a, omega (arith, ltb-true left (operands h) f)), refl))))
+      (λ f. inr (byte-there a, inr (byte-known a, inl (refl, (h, a, omega (arith, ltb-true left (operands h) f))))))
       (λ f. whole-judged h a (omega (arith, ltb-false left (operands h) f)))
     where
       left : ℕ
@@ -344,7 +300,7 @@ module _ (s : List ℕ) (at : ℕ) (q : Question) where
   judged-right w =
       branch (λ r. Judged (judged q r)) (ltb at (length s)) (wholeAt s at (entryOf (getD s at 0))) (Refused 2)
       (λ e. entry-judged (ltb-true at (length s) e) (entryOf (getD s at 0)) refl)
-      (λ e. inl (omega (arith, ltb-false at (length s) e), refl))
+      (λ e. inl (refl, omega (arith, ltb-false at (length s) e)))
 
 -- ---- the head
 
@@ -408,7 +364,7 @@ module _ (s : List ℕ) where
           within = g;
         })
         (λ f. let u = unfit kind free own f in
-        inr (head-there, inr (byte-there a, inr (byte-known a, inr (not-cut a g, inl ((a, u), refl))))))
+        inr (head-there, inr (byte-there a, inr (byte-known a, inr (not-cut a g, inl (refl, (a, u)))))))
       where
         a : Announced s 0 Shape.Head
         a = head-announced
@@ -416,7 +372,7 @@ module _ (s : List ℕ) where
     cut-head : length s < 4 → HeadJudged (Wrong 2)
     cut-head f =
         let a = head-announced in
-        inr (head-there, inr (byte-there a, inr (byte-known a, inl ((Shape.Head, a, f), refl))))
+        inr (head-there, inr (byte-there a, inr (byte-known a, inl (refl, (Shape.Head, a, f)))))
 
   head-judged : HeadJudged (headOf s)
   unfolding headOf
@@ -431,8 +387,8 @@ module _ (s : List ℕ) where
           let z = eqb-true (getD s 0 0) 0x01 f in
           branch HeadJudged (ltb (length s) 4) (Wrong 2) (cond (headFits kind free own) (Opens kind free own) (Wrong 5))
           (λ g. cut-head l z (ltb-true (length s) 4 g)) (λ g. whole-head l z (ltb-false (length s) 4 g))
-      pick true false e f = inl (inr (eqb-false (getD s 0 0) 0x01 f), refl)
-      pick false c e f = inl (inl (omega (arith, ltb-false 0 (length s) e)), refl)
+      pick true false e f = inl (refl, inr (eqb-false (getD s 0 0) 0x01 f))
+      pick false c e f = inl (refl, inl (omega (arith, ltb-false 0 (length s) e)))
 
 -- ---- what is read is right
 
@@ -459,7 +415,7 @@ module _ (s : List ℕ) where
       on Shape.End a c m again =
           branch Right (eqb (at + 1 + 0) (length s)) (accepted q) (refused 10 (at + 1 + 0))
           (λ e. subst (λ p. Reached s p (nothingDue q)) (eqb-true (at + 1 + 0) (length s) e) (further r c a))
-          (λ e. (nothingDue q, further r c a, inl (let z = eqb-false (at + 1 + 0) (length s) e in omega arith, refl)))
+          (λ e. (nothingDue q, further r c a, inl (refl, let z = eqb-false (at + 1 + 0) (length s) e in omega arith)))
       on Shape.Head a c m again = again _ _ m (omega arith) (further r c a)
       on Shape.Constant a c m again = again _ _ m (omega arith) (further r c a)
       on (Shape.Clause σ t) a c m again = again _ _ m (omega arith) (further r c a)
@@ -582,7 +538,7 @@ module _ (s : List ℕ) where
       pick : (d : Due) → Stands p d → FirstOf (faultsAt s p d) n → read s ≡ refused n p
       pick headDue e o = rw e (head-read n (rw e at o))
       pick (commandDue q) e o = e .1 ∙ run-turn (length s) p q (Refused n) (first-refused p q n (e .0) o)
-      pick (nothingDue q) e (inl o) = e ∙ ended-short p q (o .0) ∙ ap (λ k. refused k p) (sym (o .1))
+      pick (nothingDue q) e (inl o) = e ∙ ended-short p q (o .1) ∙ ap (λ k. refused k p) (sym (o .0))
       pick (nothingDue q) e (inr o) = absurd (o .1)
 
   -- ---- what others cite
@@ -617,3 +573,7 @@ module _ (s : List ℕ) where
   -- and with one first fault only
   pub one-fault : (n p m o : ℕ) → FirstFault s n p → FirstFault s m o → (n ≡ m) × (p ≡ o)
   one-fault n p m o h k = let e : refused n p ≡ refused m o = sym (fault-read n p h) ∙ fault-read m o k in (cc, cc)
+
+-- the worked string has two faults at one command, and is refused by the first
+pub nine-read : read bytes ≡ refused 9 4
+nine-read = refuses-iff bytes 9 4 .1 nine-first

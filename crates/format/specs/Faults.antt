@@ -117,7 +117,7 @@ NoneOf (f ∷ l) = (f .1 → ⊥) × NoneOf l
 -- the first of them that is so has the number n
 abbrev pub FirstOf : List (ℕ × Type 0) → ℕ → Type 0
 FirstOf [] n = ⊥
-FirstOf (f ∷ l) n = (f .1 × (n ≡ f .0)) ⊎ ((f .1 → ⊥) × FirstOf l n)
+FirstOf (f ∷ l) n = ((n ≡ f .0) × f .1) ⊎ ((f .1 → ⊥) × FirstOf l n)
 
 -- ---- from the left
 

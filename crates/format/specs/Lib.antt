@@ -1,5 +1,7 @@
 pub mod Format
 pub mod Faults
+pub mod AnnouncedLaws
+pub mod WorkedFaults
 pub mod Stored
 pub mod Worked
 pub mod Keeping
