@@ -16,7 +16,6 @@ use Rattle.format.specs.declared.Test.{Test}
 use Rattle.format.specs.declared.Shape.{Shape}
 use Rattle.format.specs.declared.Entry.{Entry}
 use Rattle.format.specs.declared.Entry.the-variants.{Known, Unknown}
-use Rattle.format.specs.declared.Command.{Command}
 use Rattle.format.specs.declared.Head.{Head}
 use Rattle.format.specs.declared.Head.the-variants.{Opens, Wrong}
 use Rattle.format.specs.declared.Step.{Step}
@@ -27,10 +26,9 @@ use Rattle.format.specs.Format.{termOf, names, variablesFor, termNamed, 
 use Rattle.format.specs.Format.{begun, fault, judged, ended, onward, turn, following, run, headFits, opened}
 use Rattle.format.specs.Format.{headOf, afterHead, read}
 use Rattle.format.specs.FormatLaws.{branch, term-small, named-defined, run-enough, head-fits}
-use Rattle.format.specs.Faults.{Announced, after, NoHead, NoByte, CutShort, UnknownByte, OutOfPlace, Unfit}
-use Rattle.format.specs.Faults.{UnfitHead, ConstantTooMany, ClauseTooMany, NamesNothing, ForeignClause}
-use Rattle.format.specs.Faults.{Due, headDue, commandDue, nothingDue, faultsAt, NoneOf, FirstOf, dueAfter}
-use Rattle.format.specs.Faults.{Reached, start, further, AcceptedAs, FirstFault}
+use Rattle.format.specs.Faults.{Announced, after, NoHead, OutOfPlace, Unfit, ConstantTooMany, ClauseTooMany}
+use Rattle.format.specs.Faults.{NamesNothing, ForeignClause, Due, headDue, commandDue, nothingDue, faultsAt}
+use Rattle.format.specs.Faults.{NoneOf, FirstOf, dueAfter, Reached, start, further, AcceptedAs, FirstFault}
 use Rattle.format.specs.AnnouncedLaws.{one-shape, byte-there, byte-known, not-cut, other, no-head, no-constant}
 use Rattle.format.specs.AnnouncedLaws.{in-place, no-foreign, no-clause, no-term}
 use Rattle.format.specs.WorkedFaults.{bytes, nine-first}
