@@ -1,4 +1,7 @@
 pub mod Format
+pub mod Faults
+pub mod AnnouncedLaws
+pub mod WorkedFaults
 pub mod Stored
 pub mod Worked
 pub mod Keeping
@@ -8,4 +11,5 @@ pub mod NameLaws
 pub mod KeepingLaws
 pub mod LeadLaws
 pub mod PrefixLaws
+pub mod FaultLaws
 pub mod Callers
