@@ -8,6 +8,7 @@ use Rattle.leaves.specs.Choices.{someChoice, Row, nil, cons, at, table, 
 use Rattle.leaves.specs.Problem.{Problem, plainAt, specialAt, solvable}
 use Rattle.leaves.specs.Second.{Second, meets, meetsWith}
 use Rattle.leaves.specs.Fixed.{leafOf, rankOf, heldAt, carriedAt, fixedAt, withUnmet, withMissed}
+use Rattle.leaves.specs.FixedWords.{noneBefore, oneBefore}
 
 -- the four choices: neither variable is full, one is, both are
 abbrev neither : Row Bool 2
@@ -57,6 +58,10 @@ first-shown = (refl, refl)
 unmet-shown : shown (withUnmet (least 1) second first) ≡ four v1 v1 v0 neither (four both v1 v1 v1 nil)
 unfolding firstBelow countBelow someChoice at pickRow table specialAt leafOf rankOf heldAt carriedAt fixedAt meets
 unmet-shown = refl
+
+-- that choice stands in one sub-leaf of leaf 0, and at leaf 1, as for a yes at every leaf, nothing stands before disequations
+before-counted : (oneBefore 0 0 ≡ 1) × (oneBefore 0 1 ≡ 0) × (noneBefore 0 ≡ 0)
+before-counted = (refl, refl, refl)
 
 -- reason 3: where neither is full the second's disequation can be met, so that choice does not count, and the idle sub-leaves of leaf 0 carry v1
 missed-shown : shown (withMissed (least 1) second first 0) ≡ four v1 v0 v1 v1 (four both v1 v1 v1 nil)

@@ -3,7 +3,7 @@ use mathlib.Core.Path.{_≡_, refl, sym, ap, _∙_, subst}
 use mathlib.Core.Logic.{_⊎_, inl, inr, _↔_}
 use mathlib.Core.Bool.{Bool, true, false, not, _&&_, Bool·beq, true≢false}
 use Prim.Native.Nat.{ℕ, zero, suc, _+_, _-_, _*_, _/_, _%_, _^_, _≤_, _<_, suc-le-suc, zero-le}
-use native.Mathlib.Nat.{le-of-suc-le-suc, not-suc-le-zero, add-zero, mod-lt}
+use native.Mathlib.Nat.{le-of-suc-le-suc, not-suc-le-zero, mod-lt}
 use native.Mathlib.Decide.{decLt}
 use native.Mathlib.Omega.{arith}
 use lib.Dec.{T, T-not, not-T, eqb, eqb→eq, eqb-refl, ltb, ltb→lt, lt→ltb}
@@ -13,15 +13,14 @@ use Rattle.shares.specs.Below.{countBelow, one}
 use Rattle.shares.specs.BelowLaws.{Below, some-or, first-least}
 use Rattle.shares.specs.Blocks.{blockOf}
 use Rattle.shares.specs.BlockLaws.{block-lt}
-use Rattle.leaves.specs.Choices.{Picker, someChoice, Row, nil, cons, at, pickRow, least}
-use Rattle.leaves.specs.ChoiceLaws.{choice-intro, choice-found, both-intro, both-found, row-path}
+use Rattle.leaves.specs.Choices.{someChoice, Row, nil, cons, at, pickRow, least}
+use Rattle.leaves.specs.ChoiceLaws.{both-intro, both-found, row-path}
 use Rattle.leaves.specs.Problem.{Problem, plainAt, specialAt, solvable}
-use Rattle.leaves.specs.Second.{Second, meets, meetsWith}
-use Rattle.leaves.specs.Fixed.{leafOf, rankOf, heldAt, carriedAt, fixedAt, withUnmet, withMissed}
-use Rattle.leaves.specs.FixedWords.{Leftmost, Less, Least, Together, Words, Unmet, UnmetFirst, Counts}
+use Rattle.leaves.specs.Fixed.{leafOf, rankOf, heldAt, carriedAt, fixedAt}
+use Rattle.leaves.specs.FixedWords.{Leftmost, Less, Least, Positive, noneBefore, Together, Words, PlainWords}
 use Rattle.leaves.specs.ProblemLaws.{plain-passes, leaf-passes, held-there, ranks-in-order, at-rank, rank-lt}
 
-and-iff : (a b : Bool) → T (a && b) ↔ (T a × T b)
+pub and-iff : (a b : Bool) → T (a && b) ↔ (T a × T b)
 and-iff a b = (λ t. (and-left a b t, and-right a b t), λ (s, t). and-intro a b s t)
 
 -- ---- one leftmost leaf at most, and one least choice
@@ -54,7 +53,16 @@ least-one {n} {x = x} {y = y} X Y =
     differ ne = less-once (X .least y (Y .passes) (λ e. ne (sym e))) (Y .least x (X .passes) ne)
 
 -- said in other words
-least-same : {n : ℕ} {M N : Row Bool n → Type 0} {x : Row Bool n} → ((y : Row Bool n) → M y ↔ N y) → Least M x → Least N x
+pub leftmost-same : {n h : ℕ} {M N : ℕ → Row Bool n → Type 0} {b : ℕ} → ((a : ℕ) (x : Row Bool n) → M a x ↔ N a x)
+    → Leftmost h M b → Leftmost h N b
+leftmost-same {b = b} e L = record {
+  within = L .within;
+  found = (L .found .0, e b (L .found .0) .0 (L .found .1));
+  none-left = λ a l x u. L .none-left a l x (e a x .1 u);
+}
+
+pub least-same : {n : ℕ} {M N : Row Bool n → Type 0} {x : Row Bool n} → ((y : Row Bool n) → M y ↔ N y)
+    → Least M x → Least N x
 least-same {x = x} e L = record { passes = e x .0 (L .passes); least = λ y t. L .least y (e y .1 t) }
 
 -- ---- what is picked is the least
@@ -132,7 +140,7 @@ module _ {n : ℕ} (h : ℕ) (P : Problem (Row Bool n)) where
   fixed-at W b r l = rw (high b (W - h) l, low b (W - h) l)
 
   module _ (t : T (solvable (least n) h P)) where
-    leaf-leftmost : (j : ℕ) → j < P .count → Leftmost h (Together P j) (itsLeaf j)
+    leaf-leftmost : (j : ℕ) → j < P .count → Leftmost h (Together P (Positive P) j) (itsLeaf j)
     unfolding leafOf specialAt
     leaf-leftmost j l =
         let (within, u) = leaf-passes (least n) h P t j l in
@@ -144,7 +152,7 @@ module _ {n : ℕ} (h : ℕ) (P : Problem (Row Bool n)) where
               (both-intro (least n) (P .pos a) (P .dis j a) x p d);
         }
 
-    pub fixed-words : (W : ℕ) → P .count ≤ 2 ^ (W - h) → Words h P W (fixedAt (least n) h P W)
+    pub fixed-words : (W : ℕ) → P .count ≤ 2 ^ (W - h) → PlainWords h P W (fixedAt (least n) h P W)
     unfolding carriedAt plainAt someChoice
     fixed-words W enough = record {
       leaf = itsLeaf;
@@ -152,7 +160,8 @@ module _ {n : ℕ} (h : ℕ) (P : Problem (Row Bool n)) where
       leftmost = leaf-leftmost;
       room = λ j l. rank-lt (least n) h P (W - h) j enough l;
       in-order = λ i j l _ e. ranks-in-order (least n) h P i j l e;
-      from-left = λ j r _ l. rank-left j r l;
+      behind = λ j _. zero-le;
+      from-left = λ j r _ _ l. rank-left j r l;
       carries = λ j l.
           let b = itsLeaf j in
           let (x, (p, d)) = leaf-leftmost j l .found in
@@ -162,22 +171,22 @@ module _ {n : ℕ} (h : ℕ) (P : Problem (Row Bool n)) where
             cond-passed (ltb j (P .count)) _ _ (lt→ltb j (P .count) l),
           )
           (least-same (λ y. and-iff (P .pos b y) (P .dis j b y)) (least-picked n _ x (and-intro (P .pos b x) _ p d)));
-      idle = λ b r l m none.
+      idle = λ b r l _ m none.
           rw (fixed-at W b r m, cond-failed (ltb (heldAt (least n) h P b r) (P .count)) _ _ (holds-none b r none))
           (least-picked n (P .pos b) _ (plain-passes (least n) h P t b l));
     }
 
--- ---- they say that every sub-leaf meets the positive clauses, and leave nothing undecided
+-- ---- they say that every sub-leaf carries a choice that counts, and leave nothing undecided
 
-module _ {n : ℕ} (h : ℕ) (P : Problem (Row Bool n)) (W : ℕ) where
+module _ {n : ℕ} (h : ℕ) (P : Problem (Row Bool n)) (W : ℕ) (counts : ℕ → Row Bool n → Type 0) where
   -- sub-leaf r of leaf b holds some disequation, or none
-  abbrev Held : {s : ℕ → Row Bool n} → Words h P W s → ℕ → ℕ → Type 0
+  abbrev Held : {s : ℕ → Row Bool n} → Words h P W s counts noneBefore → ℕ → ℕ → Type 0
   Held A b r = (j : ℕ) × (j < P .count) × (A .leaf j ≡ b) × (A .rank j ≡ r)
 
-  abbrev Idle : {s : ℕ → Row Bool n} → Words h P W s → ℕ → ℕ → Type 0
+  abbrev Idle : {s : ℕ → Row Bool n} → Words h P W s counts noneBefore → ℕ → ℕ → Type 0
   Idle A b r = (j : ℕ) → j < P .count → A .leaf j ≡ b → ¬ (A .rank j ≡ r)
 
-  holds-or : {s : ℕ → Row Bool n} (A : Words h P W s) (b r : ℕ) → Held A b r ⊎ Idle A b r
+  holds-or : {s : ℕ → Row Bool n} (A : Words h P W s counts noneBefore) (b r : ℕ) → Held A b r ⊎ Idle A b r
   holds-or A b r = go (some-or (P .count) p)
     where
       p : ℕ → Bool
@@ -187,9 +196,9 @@ module _ {n : ℕ} (h : ℕ) (P : Problem (Row Bool n)) (W : ℕ) where
       go (inl (j, l, v)) = inl (j, l, eqb→eq (A .leaf j) b (and-left (eqb (A .leaf j) b) _ v), eqb→eq (A .rank j) r (and-right (eqb (A .leaf j) b) _ v))
       go (inr none) = inr (λ j l e f. T-not (p j) (none j l) (and-intro (eqb (A .leaf j) b) _ (rw e (eqb-refl b)) (rw f (eqb-refl r))))
 
-  -- every sub-leaf meets the positive clauses
-  pub words-positive : {s : ℕ → Row Bool n} → Words h P W s → h ≤ W → (i : ℕ) → i < 2 ^ W → T (P .pos (blockOf h W i) (s i))
-  words-positive {s} A tall i l = subst (λ k. T (P .pos b (s k))) (split i (W - h)) (go (holds-or A b r))
+  pub words-count : {s : ℕ → Row Bool n} → Words h P W s counts noneBefore → h ≤ W → (i : ℕ) → i < 2 ^ W
+      → counts (blockOf h W i) (s i)
+  words-count {s} A tall i l = subst (λ k. counts b (s k)) (split i (W - h)) (go (holds-or A b r))
     where
       b : ℕ
       b = i / 2 ^ (W - h)
@@ -197,21 +206,21 @@ module _ {n : ℕ} (h : ℕ) (P : Problem (Row Bool n)) (W : ℕ) where
       r : ℕ
       r = i % 2 ^ (W - h)
 
-      go : Held A b r ⊎ Idle A b r → T (P .pos b (s (b * 2 ^ (W - h) + r)))
+      go : Held A b r ⊎ Idle A b r → counts b (s (b * 2 ^ (W - h) + r))
       go (inl (j, k, e, f)) = (rw (e, f) at (A .carries j k .passes)) .0
-      go (inr none) = A .idle b r (block-lt tall l) (mod-lt i (pow-pos (W - h))) none .passes
+      go (inr none) = A .idle b r (block-lt tall l) zero-le (mod-lt i (pow-pos (W - h))) none .passes
 
-  module _ {s t : ℕ → Row Bool n} (A : Words h P W s) (B : Words h P W t) where
+  module _ {s t : ℕ → Row Bool n} (A : Words h P W s counts noneBefore) (B : Words h P W t counts noneBefore) where
     leaf-one : (j : ℕ) → j < P .count → A .leaf j ≡ B .leaf j
     leaf-one j l = leftmost-one (A .leftmost j l) (B .leftmost j l)
 
     -- a disequation does not stand further left, where those before it stand at the same places
     rank-least : (j : ℕ) → j < P .count → ((i : ℕ) → i < j → A .rank i ≡ B .rank i) → ¬ (A .rank j < B .rank j)
     rank-least j l ih m =
-        let (i, k, e, f) = B .from-left j (A .rank j) l m in
+        let (i, k, e, f) = B .from-left j (A .rank j) l zero-le m in
         omega (arith, A .in-order i j k l (leaf-one i (omega arith) ∙ e ∙ sym (leaf-one j l)), ih i k)
 
-  module _ {s t : ℕ → Row Bool n} (A : Words h P W s) (B : Words h P W t) where
+  module _ {s t : ℕ → Row Bool n} (A : Words h P W s counts noneBefore) (B : Words h P W t counts noneBefore) where
     ranks-below : (k j : ℕ) → j < k → j < P .count → A .rank j ≡ B .rank j
     ranks-below zero j m l = absurd (not-suc-le-zero m)
     ranks-below (suc k) j m l =
@@ -226,62 +235,13 @@ module _ {n : ℕ} (h : ℕ) (P : Problem (Row Bool n)) (W : ℕ) where
       where
         go : Held A b r ⊎ Idle A b r → s (b * 2 ^ (W - h) + r) ≡ t (b * 2 ^ (W - h) + r)
         go (inl (j, k, e, f)) =
-            least-one {M = Together P j b} (rw (e, f) at (A .carries j k)) (rw (← (leaf-one A B j k), ← (rank-one j k), e, f) at (B .carries j k))
+            least-one {M = Together P counts j b} (rw (e, f) at (A .carries j k))
+            (rw (← (leaf-one A B j k), ← (rank-one j k), e, f) at (B .carries j k))
         go (inr none) =
-            least-one (A .idle b r l m none) (B .idle b r l m (λ j k e f. none j k (leaf-one A B j k ∙ e) (rank-one j k ∙ f)))
+            least-one (A .idle b r l zero-le m none)
+            (B .idle b r l zero-le m (λ j k e f. none j k (leaf-one A B j k ∙ e) (rank-one j k ∙ f)))
 
     pub words-one : h ≤ W → (i : ℕ) → i < 2 ^ W → s i ≡ t i
     words-one tall i l =
         subst (λ i. s i ≡ t i) (split i (W - h))
         (choice-one (i / 2 ^ (W - h)) (i % 2 ^ (W - h)) (block-lt tall l) (mod-lt i (pow-pos (W - h))))
-
--- ---- reasons 2 and 3
-
--- no own choice passes
-none-passes : {Y : Type 0} (D : Picker Y) (p : Y → Bool) → T (not (someChoice D p)) ↔ ((y : Y) → ¬ T (p y))
-none-passes D p = (
-  λ t y u. T-not (someChoice D p) t (choice-intro D p y u),
-  λ f. not-T (someChoice D p) (λ u. f (D .pick p) (choice-found D p u)),
-)
-
-module _ {n : ℕ} {Y : Type 0} (D : Picker Y) (h : ℕ) (P : Problem (Row Bool n)) (Q : Second (Row Bool n) Y) where
-  -- the one disequation more of reason 2 says: the second system's positive clauses are left unmet
-  pub unmet-means : (b : ℕ) (x : Row Bool n) → Together (withUnmet D Q P) 0 b x ↔ Unmet P Q b x
-  unfolding meets
-  unmet-means b x =
-      let N = none-passes D (Q .pos b x) in
-      (λ (p, t). (p, N .0 t), λ (p, f). (p, N .1 f))
-
-  -- it stands first in its leaf
-  pub unmet-before : (W : ℕ) (s : ℕ → Row Bool n) (A : Words h (withUnmet D Q P) W s) → A .rank 0 ≡ 0
-  unmet-before W s A = go (A .rank 0) (A .from-left 0 0 (suc-le-suc zero-le))
-    where
-      go : (r : ℕ) → (0 < r → (i : ℕ) × (i < 0) × (A .leaf i ≡ A .leaf 0) × (A .rank i ≡ 0)) → r ≡ 0
-      go zero f = refl
-      go (suc r) f = absurd (not-suc-le-zero (f (suc-le-suc zero-le) .1))
-
-  pub unmet-words : (W : ℕ) (s : ℕ → Row Bool n) → Words h (withUnmet D Q P) W s → UnmetFirst h P Q W s
-  unmet-words W s A =
-      let L = A .leftmost 0 (suc-le-suc zero-le) in
-      record {
-        leaf = A .leaf 0;
-        leftmost = record {
-          within = L .within;
-          found = (L .found .0, unmet-means (A .leaf 0) (L .found .0) .0 (L .found .1));
-          none-left = λ a l x u. L .none-left a l x (unmet-means a x .1 u);
-        };
-        carries = least-same (unmet-means (A .leaf 0)) (rw (unmet-before W s A, add-zero) at (A .carries 0 (suc-le-suc zero-le)));
-      }
-
-  -- and the disequations keep their leaves
-  pub unmet-keeps : (j b : ℕ) → Leftmost h (Together (withUnmet D Q P) (suc j)) b → Leftmost h (Together P j) b
-  unmet-keeps j b L = L
-
-  -- with reason 3 only choices count beside which no own values meet the second system's positive clauses and disequation j together
-  pub missed-means : (j b : ℕ) (x : Row Bool n) → T (withMissed D Q P j .pos b x) ↔ Counts P Q j b x
-  unfolding meetsWith
-  missed-means j b x =
-      let N = none-passes D (λ y. Q .pos b x y && Q .dis j b x y) in (
-        λ t. (and-left (P .pos b x) _ t, λ y (p, d). N .0 (and-right (P .pos b x) _ t) y (and-intro (Q .pos b x y) _ p d)),
-        λ (p, f). and-intro (P .pos b x) _ p (N .1 (λ y t. f y (and-iff (Q .pos b x y) _ .0 t))),
-      )

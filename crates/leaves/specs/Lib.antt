@@ -13,6 +13,7 @@ pub mod Entailment
 pub mod LeafSolutions
 pub mod ProblemLaws
 pub mod FixedLaws
+pub mod ReasonLaws
 pub mod Numbers
 pub mod SameLaws
 pub mod LeafExtensions

@@ -1,6 +1,7 @@
 -- The solution that is shown: its trees past the free variables are empty, none is taller than the height given, and it is the one solution
 -- that the words fix. Assumes nothing.
 use mathlib.Core.Path.{_≡_, refl, sym, ap, _∙_}
+use mathlib.Core.Logic.{_↔_}
 use mathlib.Core.Bool.{Bool, false}
 use mathlib.Core.List.{[], _∷_}
 use Prim.Native.Nat.{ℕ, _+_, _-_, _^_, _≤_, _<_}
@@ -10,6 +11,7 @@ use lib.Dec.{T, ltb, ltb→lt}
 use Rattle.shares.specs.Test.{cond-law}
 use Rattle.shares.specs.Below.{firstBelow}
 use Rattle.shares.specs.BelowLaws.{first-below}
+use Rattle.shares.specs.Blocks.{blockOf}
 use Rattle.shares.specs.Tree.{leaf, height}
 use Rattle.shares.specs.TreeLaws.{share-path, treeOf-ext, treeOf-leaf, treeOf-height, leafAt-treeOf, equal-iff}
 use Rattle.leaves.specs.Heights.{c}
@@ -18,8 +20,9 @@ use Rattle.leaves.specs.Choices.{Row, at, least}
 use Rattle.leaves.specs.ChoiceLaws.{at-past}
 use Rattle.leaves.specs.Problem.{solvable}
 use Rattle.leaves.specs.Fixed.{fixedAt}
-use Rattle.leaves.specs.FixedWords.{Words}
-use Rattle.leaves.specs.FixedLaws.{fixed-words, words-positive, words-one, unmet-words, missed-means}
+use Rattle.leaves.specs.FixedWords.{Positive, Counts, PlainWords}
+use Rattle.leaves.specs.FixedLaws.{fixed-words, words-count, words-one}
+use Rattle.leaves.specs.ReasonLaws.{unmet-words, missed-words}
 use Rattle.leaves.specs.Entailment.{canBeMissed, firstMissed}
 use Rattle.leaves.specs.SecondLaws.{unmet-solvable}
 use Rattle.systems.specs.Clauses.{variable, equal, negated, Assignment, disequations}
@@ -27,7 +30,7 @@ use Rattle.systems.specs.Questions.{Kind, satisfiability, entailment, Qu
 use Rattle.systems.specs.Answers.{Answer, satisfied, unsatisfied, vacuous, entailed, unmet, missed, shows, heightGiven}
 use Rattle.systems.specs.AtLeaves.{firstAt, secondAt}
 use Rattle.systems.specs.Decide.{canSolve, someUnmet, lowestMissed, decideKind, decideAt, sharesOf, askedFor, shownWith, shownAt}
-use Rattle.systems.specs.ShownWords.{ReasonWords, ShownFixed}
+use Rattle.systems.specs.ShownWords.{WordsWith, ShownFixed}
 
 -- ---- an example, computed: with two disequations and h = 2, each leaf has two sub-leaves for a solution, and four for a no
 
@@ -114,36 +117,52 @@ module _ (h : ℕ) (q : Question) where
 
   -- ---- it is the solution that the words fix
 
-  -- with a no, what they say of its reason
-  reason-words : (a : Answer) → T (shows a) → (s : ℕ → Row Bool (q .free)) → Words h (askedFor h q a) (heightGiven h q a) s
-      → ReasonWords h q a (heightGiven h q a) s
-  reason-words satisfied t s A = tt
-  reason-words unsatisfied t s A = tt
-  reason-words vacuous t s A = tt
-  reason-words entailed t s A = tt
-  reason-words unmet t s A = unmet-words (least (q .own)) h (firstAt h q) (secondAt h q) (heightGiven h q unmet) s A
-  reason-words (missed j) t s A = λ i l.
-      missed-means (least (q .own)) h (firstAt h q) (secondAt h q) j _ (s i) .0
-      (words-positive h (askedFor h q (missed j)) (heightGiven h q (missed j)) A (given-tall (missed j) tt) i l)
+  -- with each answer the words are the plain ones of what is asked at the leaves of the solution that is shown
+  pub asked-words : (a : Answer) (W : ℕ) (s : ℕ → Row Bool (q .free))
+      → WordsWith h q a W s ↔ PlainWords h (askedFor h q a) W s
+  asked-words satisfied W s = (λ A. A, λ A. A)
+  asked-words unsatisfied W s = (λ A. A, λ A. A)
+  asked-words vacuous W s = (λ A. A, λ A. A)
+  asked-words entailed W s = (λ A. A, λ A. A)
+  asked-words unmet W s = unmet-words (least (q .own)) h (firstAt h q) (secondAt h q) W s
+  asked-words (missed j) W s = missed-words (least (q .own)) h (firstAt h q) (secondAt h q) W s j
+
+  -- every sub-leaf meets the first system's positive clauses, and for reason 3 its choice counts
+  module _ (W : ℕ) (tall : h ≤ W) (s : ℕ → Row Bool (q .free)) where
+    pub every-counts : (j : ℕ) → WordsWith h q (missed j) W s → (i : ℕ) → i < 2 ^ W
+        → Counts (firstAt h q) (secondAt h q) j (blockOf h W i) (s i)
+    every-counts j A i l = words-count h (firstAt h q) W (Counts (firstAt h q) (secondAt h q) j) A tall i l
+
+    pub every-positive : (a : Answer) → WordsWith h q a W s → (i : ℕ) → i < 2 ^ W
+        → Positive (firstAt h q) (blockOf h W i) (s i)
+    every-positive satisfied A i l = words-count h (firstAt h q) W (Positive (firstAt h q)) A tall i l
+    every-positive unsatisfied A i l = words-count h (firstAt h q) W (Positive (firstAt h q)) A tall i l
+    every-positive vacuous A i l = words-count h (firstAt h q) W (Positive (firstAt h q)) A tall i l
+    every-positive entailed A i l = words-count h (firstAt h q) W (Positive (firstAt h q)) A tall i l
+    every-positive unmet A i l =
+        words-count h (askedFor h q unmet) W (Positive (firstAt h q)) (asked-words unmet W s .0 A) tall i l
+    every-positive (missed j) A i l = every-counts j A i l .0
 
   pub shown-fixed : T (shows (decideAt h q)) → ShownFixed h q (decideAt h q) (shownAt h q)
   unfolding sharesOf
   shown-fixed t =
       let a = decideAt h q in
-      let A = fixed-words h (askedFor h q a) (asked-solvable t) (heightGiven h q a) (given-room a t) in
+      let W = heightGiven h q a in
+      let s = fixedAt (least (q .free)) h (askedFor h q a) W in
       record {
-        values = fixedAt (least (q .free)) h (askedFor h q a) (heightGiven h q a);
-        words = A;
-        reason = reason-words a t _ A;
-        leaves = λ v _ i l. leafAt-treeOf (heightGiven h q a) _ i l;
+        values = s;
+        words = asked-words a W s .1 (fixed-words h (askedFor h q a) (asked-solvable t) W (given-room a t));
+        leaves = λ v _ i l. leafAt-treeOf W _ i l;
         low = λ v _. shown-low h q v a t;
       }
 
   -- there is no other
   pub one-shown : (a : Answer) → T (shows a) → (σ τ : Assignment) → ShownFixed h q a σ → ShownFixed h q a τ → (v : ℕ) → v < q .free → σ v ≡ τ v
   one-shown a t σ τ S R v l =
+      let W = heightGiven h q a in
+      let same : (i : ℕ) → i < 2 ^ W → S .values i ≡ R .values i =
+      words-one h (askedFor h q a) W (Positive (askedFor h q a)) (asked-words a W (S .values) .0 (S .words))
+      (asked-words a W (R .values) .0 (R .words)) (given-tall a t) in
       share-path (σ v) (τ v)
-      (equal-iff (heightGiven h q a) (σ v .tree) (τ v .tree) (σ v .folded) (τ v .folded) (S .low v l) (R .low v l) .1 (λ i m.
-      S .leaves v l i m
-      ∙ ap (λ r. at false r v) (words-one h (askedFor h q a) (heightGiven h q a) (S .words) (R .words) (given-tall a t) i m)
-      ∙ sym (R .leaves v l i m)))
+      (equal-iff W (σ v .tree) (τ v .tree) (σ v .folded) (τ v .folded) (S .low v l) (R .low v l) .1 (λ i m.
+      S .leaves v l i m ∙ ap (λ r. at false r v) (same i m) ∙ sym (R .leaves v l i m)))
