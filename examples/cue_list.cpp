@@ -56,9 +56,10 @@ void report(const char* asked, const Question& question, zimorgal::Workspace& wo
     const auto [result, solution] = ask(question, workspace);
     std::cout << asked << '\n' << "  " << describe(result.verdict);
     if (result.reason != zimorgal::Reason::none) std::cout << ": " << describe(result.reason);
+    if (result.reason == zimorgal::Reason::disequation_unmet) std::cout << ", here: " << text_of(question, result);
     std::cout << '\n';
     if (!solution) return;
-    std::cout << "  for instance, no taller than " << unsigned{result.height} << ":\n";
+    std::cout << "  for instance, no taller than " << result.height << ":\n";
     for (std::size_t i = 0; i < solution.variables(); ++i)
         std::cout << "    " << std::left << std::setw(10) << names[i] << solution.text(Free{i}) << '\n';
 }

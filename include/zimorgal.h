@@ -81,6 +81,13 @@
 #define ZIMORGAL_INLINE inline
 #endif
 
+/* A number that fits a size_t, also one of 32 bits, which some compilers do not see. */
+#ifdef __cplusplus
+#define ZIMORGAL_SIZE(number) static_cast<size_t>(number)
+#else
+#define ZIMORGAL_SIZE(number) ((size_t)(number))
+#endif
+
 #ifdef __cplusplus
 extern "C" {
 #endif
@@ -117,12 +124,12 @@ enum zimorgal_refusal {
     ZIMORGAL_ROW_NOT_ZERO = 19 /* a bit set in a row of no free variable */
 };
 
-/* Why an entailment is answered yes or no. A satisfiability question has reason 0. */
+/* Why an entailment is answered yes or no. A satisfiability has reason 0, yes or no, and so has a refusal. */
 enum zimorgal_reason {
-    ZIMORGAL_NO_REASON = 0,        /* yes, and the first system has a solution */
+    ZIMORGAL_NO_REASON = 0,        /* of an entailment any yes but reason 1: the first has a solution, all extend */
     ZIMORGAL_FIRST_UNSOLVABLE = 1, /* yes, because the first system has no solution */
     ZIMORGAL_POSITIVES_UNMET = 2,  /* no: some solution of the first cannot even meet the second's positive clauses */
-    ZIMORGAL_DISEQUATION_UNMET = 3 /* no: some solution of the first cannot have the numbered disequation beside them */
+    ZIMORGAL_DISEQUATION_UNMET = 3 /* no: each can meet them; some cannot have the numbered disequation beside them */
 };
 
 /* What comes of judging rows. The last two reject them. */
@@ -160,7 +167,8 @@ enum zimorgal_way {
                        named, d counts the disequations of the first system and c(n) is the least k with n <= 2^k. The
                        solution is no taller; it may be lower. 0 if none is shown
        bits 40 to 47   reason
-       bits 48 to 55   disequation number, for reason 3: which disequation of the second system, in order, from 0
+       bits 48 to 55   disequation number, for reason 3: which disequation of the second system, in order, from 0.
+                       Positive clauses are not counted, as they are in the clause number of zimorgal_judge
        bits 56 to 63   0
 
    A solution is shown for a satisfiability that is yes, and for an entailment that is no: one of the first system that
@@ -248,11 +256,11 @@ ZIMORGAL_INLINE int zimorgal_shows(uint64_t result, int kind) {
 ZIMORGAL_INLINE int zimorgal_judgement(uint64_t judged) { return judged & 0xFF; } /* enum zimorgal_judgement */
 ZIMORGAL_INLINE unsigned zimorgal_broken_clause(uint64_t judged) { return judged >> 32 & 0xFF; }
 ZIMORGAL_INLINE int zimorgal_broken_way(uint64_t judged) { return judged >> 40 & 0xFF; } /* enum zimorgal_way */
-ZIMORGAL_INLINE size_t zimorgal_broken_leaf(uint64_t judged) { return judged >> 48; }
+ZIMORGAL_INLINE size_t zimorgal_broken_leaf(uint64_t judged) { return ZIMORGAL_SIZE(judged >> 48); }
 
 /* The fields of what zimorgal_row gives. */
 ZIMORGAL_INLINE size_t zimorgal_row_offset(uint64_t part) { return part & 0xFFFFFFFF; }
-ZIMORGAL_INLINE size_t zimorgal_row_length(uint64_t part) { return part >> 32; }
+ZIMORGAL_INLINE size_t zimorgal_row_length(uint64_t part) { return ZIMORGAL_SIZE(part >> 32); }
 
 /* The fields of what zimorgal_text gives. */
 ZIMORGAL_INLINE size_t zimorgal_text_length(uint64_t written) { return written & 0xFFFFFFFF; }
@@ -337,6 +345,34 @@ ZIMORGAL_INLINE const char *zimorgal_describe_way(int way) {
 
 #ifdef __cplusplus
 }
+#endif
+
+/* -------- Under MemorySanitizer -------- */
+
+/* The library is not compiled with it, so that it takes bytes that the library has written for bytes that nobody has.
+   There, and only there, the two calls that write go through functions that tell it which bytes they are. */
+#if defined(__has_feature)
+#if __has_feature(memory_sanitizer)
+#include <sanitizer/msan_interface.h>
+
+static inline uint64_t zimorgal_ask_told(const uint8_t *question, size_t question_length, uint8_t *answer,
+                                         size_t answer_length, uint8_t *work, size_t work_length) {
+    const uint64_t result = zimorgal_ask(question, question_length, answer, answer_length, work, work_length);
+    if (zimorgal_verdict(result) == ZIMORGAL_REFUSED) return result;
+    __msan_unpoison(work, ZIMORGAL_WORK_BYTES);
+    if (zimorgal_shows(result, question[1])) __msan_unpoison(answer, ZIMORGAL_ANSWER_BYTES);
+    return result;
+}
+
+static inline uint64_t zimorgal_text_told(const uint8_t *row, size_t row_length, uint8_t *text, size_t text_length) {
+    const uint64_t written = zimorgal_text(row, row_length, text, text_length);
+    __msan_unpoison(text, zimorgal_text_length(written));
+    return written;
+}
+
+#define zimorgal_ask zimorgal_ask_told
+#define zimorgal_text zimorgal_text_told
+#endif
 #endif
 
 #endif

@@ -206,6 +206,44 @@ struct FirstClause : Clause {};
 
 namespace detail {
 
+// The number of a thing among those that are counted with it, from 0. It converts neither into the number of another
+// thing nor into a plain one, which is its member. What fits no unsigned becomes the greatest, which names nothing.
+template <class Thing>
+struct Counted {
+    constexpr Counted() noexcept = default;
+    template <class Number, IfNumber<Number> = 0>
+    constexpr explicit Counted(Number given) noexcept : number(fitting(static_cast<long long>(given))) {}
+
+    unsigned number = 0;
+
+    friend constexpr bool operator==(Counted a, Counted b) noexcept { return a.number == b.number; }
+    friend constexpr bool operator!=(Counted a, Counted b) noexcept { return a.number != b.number; }
+
+  private:
+    static constexpr unsigned fitting(long long given) noexcept {
+        constexpr unsigned greatest = 0xFFFFFFFF;
+        return given >= 0 && given < greatest ? static_cast<unsigned>(given) : greatest;
+    }
+};
+
+template <class Traits, class Thing>
+std::basic_ostream<char, Traits>& operator<<(std::basic_ostream<char, Traits>& out, Counted<Thing> counted) {
+    return out << counted.number;
+}
+
+struct Disequation;
+
+}  // namespace detail
+
+// Which clause of a system, positive ones and disequations counted together, in the order in which they were added.
+// Judging names a clause so.
+using ClauseNumber = detail::Counted<Clause>;
+
+// Which disequation of a system, the positive clauses not counted. Asking names a disequation so.
+using DisequationNumber = detail::Counted<detail::Disequation>;
+
+namespace detail {
+
 // A sort of clause: how a relation is written and counted.
 struct ClauseSort {
     std::uint8_t command[2];  // its byte, by system
@@ -350,14 +388,28 @@ struct TwoTexts {
     TwoTexts(std::string_view, std::string_view) noexcept {}
 };
 
+// A text as a step takes it: what converts to std::string_view. A null pointer, which does too, and of which the length
+// would be asked, is the empty text: no tree text.
+struct AnyText {
+    template <class Given, std::enable_if_t<std::is_convertible_v<const Given&, std::string_view> &&
+                                                !std::is_pointer_v<std::decay_t<Given> >,
+                                            int> = 0>
+    AnyText(const Given& given) noexcept(noexcept(std::string_view(given))) : view(given) {}
+    AnyText(const char* given) noexcept : view(given == nullptr ? std::string_view() : given) {}
+    AnyText(const char* given, std::size_t size) noexcept : view(given, size) {}
+
+    std::string_view view;
+};
+
 }  // namespace detail
 
 // The share that a tree text stands for: o empty, * full, ( left right ) a pair, folded, at most five pairs deep, no
 // spaces. The library reads it. Of several faults not the first from the left decides: not_tree_text comes before
 // not_folded, and that before too_tall. The place is that of the first character that cannot stand there (the length if
 // the text ends too soon, and at most 94, where nothing can stand), of the first pair that must be folded, or of the first
-// pair that is one too deep.
-[[nodiscard]] inline Parsed from_text(std::string_view text) noexcept {
+// pair that is one too deep. A null pointer is no tree text.
+[[nodiscard]] inline Parsed from_text(detail::AnyText given) noexcept {
+    const std::string_view text = given.view;
     const std::uint64_t number = zimorgal_constant(reinterpret_cast<const std::uint8_t*>(text.data()), text.size());
     const Error error = detail::error_of(zimorgal_constant_refusal(number));
     if (error != Error::none) return {error, 0, detail::place_of_fault(error, text)};
@@ -455,7 +507,7 @@ class Question {
         if (number == constants_) put_constant(leaves);
         return {Error::none, Constant(identity_, number, leaves), 0};
     }
-    [[nodiscard]] NewConstant constant(std::string_view text) noexcept {
+    [[nodiscard]] NewConstant constant(detail::AnyText text) noexcept {
         const Parsed parsed = from_text(text);
         if (parsed.error != Error::none) return {parsed.error, {}, parsed.place};
         return constant(parsed.leaves);
@@ -506,8 +558,7 @@ class Question {
     std::size_t own_variables() const noexcept { return bytes_[3]; }
     std::size_t constants() const noexcept { return constants_; }
 
-    // How many clauses a system has, positive ones and disequations together. The next one has this number: judging
-    // counts the clauses of the first system so, in the order in which they were added.
+    // How many clauses a system has, positive ones and disequations together. It is the ClauseNumber of the next one.
     std::size_t clauses(System system) const noexcept {
         if (system > System::second) return 0;
         const std::uint8_t* const counts = clauses_[static_cast<std::size_t>(system)];
@@ -574,13 +625,17 @@ class Question {
     std::uint64_t identity_ = 0;       // what its constants carry; 0 before the first of them
 };
 
-// A question in the making, without a test after each step. Once a step has an error no further step is taken.
+// A question in the making, without a test after each step. Once a step has an error no further step is taken, until
+// the draft is started anew.
 class Draft {
   public:
+    // Both throw away what is there, an error too, and start anew. They are step 0.
     Draft& start_satisfiability(std::size_t free) noexcept {
+        *this = Draft();
         return take([&] { return question_.start_satisfiability(free); });
     }
     Draft& start_entailment(std::size_t free, std::size_t own) noexcept {
+        *this = Draft();
         return take([&] { return question_.start_entailment(free, own); });
     }
 
@@ -598,7 +653,7 @@ class Draft {
 
     // A constant, also of the finished question. It names nothing if there is an error.
     [[nodiscard]] Constant constant(Leaves leaves) noexcept { return make(leaves); }
-    [[nodiscard]] Constant constant(std::string_view text) noexcept { return make(text); }
+    [[nodiscard]] Constant constant(detail::AnyText text) noexcept { return make(text); }
     [[nodiscard]] Constant constant(std::optional<Leaves> joined) noexcept { return make(joined); }
     template <class Other, detail::IfNoShare<Other> = 0>
     Constant constant(const Other&) = delete;  // a constant is made of Leaves (std::uint32_t), a tree text or a join
@@ -606,12 +661,12 @@ class Draft {
     Constant constant(std::initializer_list<Other>) = delete;  // in braces too
     Constant constant(detail::TwoTexts) = delete;
 
-    // The first error, which step had it, from 0, and the place of a fault in a tree text.
+    // The first error since the start, which step had it, from 0, and the place of a fault in a tree text.
     Error error() const noexcept { return error_; }
     std::size_t step() const noexcept { return steps_; }
     std::size_t place() const noexcept { return place_; }
 
-    // How many clauses a system has so far: the number of the next one.
+    // How many clauses a system has so far: the ClauseNumber of the next one.
     std::size_t clauses(System system) const noexcept { return question_.clauses(system); }
 
     // Gives the question if every step was taken. Otherwise it says the first error and leaves `question` as it was.
@@ -694,18 +749,20 @@ constexpr std::string_view describe(Reason reason) noexcept {
 struct Result {
     Verdict verdict;
     Refusal refusal;
-    std::uint16_t place;  // of a refusal: the offset in the question
-    std::uint8_t height;  // given with a shown solution, which is no taller; it goes by the constants that clauses name
+    unsigned place;   // of a refusal: the offset in the question
+    unsigned height;  // given with a shown solution, which is no taller; it goes by the constants that clauses name
     Reason reason;
-    std::uint8_t disequation;  // for Reason::disequation_unmet: of the second system, in order, from 0
+    DisequationNumber disequation;  // of the second system, for Reason::disequation_unmet: text_of(question, result)
 };
 
 // The fields of what zimorgal_ask gives.
 constexpr Result decode(std::uint64_t number) noexcept {
-    return {
-        static_cast<Verdict>(zimorgal_verdict(number)),     static_cast<Refusal>(zimorgal_refusal(number)),
-        static_cast<std::uint16_t>(zimorgal_place(number)), static_cast<std::uint8_t>(zimorgal_height_given(number)),
-        static_cast<Reason>(zimorgal_reason(number)),       static_cast<std::uint8_t>(zimorgal_disequation(number))};
+    return {static_cast<Verdict>(zimorgal_verdict(number)),
+            static_cast<Refusal>(zimorgal_refusal(number)),
+            zimorgal_place(number),
+            zimorgal_height_given(number),
+            static_cast<Reason>(zimorgal_reason(number)),
+            DisequationNumber{zimorgal_disequation(number)}};
 }
 
 // ---------------------------------------------------------------- Texts
@@ -884,12 +941,18 @@ std::basic_ostream<char, Traits>& operator<<(std::basic_ostream<char, Traits>& o
 
 namespace detail {
 
-// Where a clause starts, by its number in its system, from 0; nullptr if the system has no such clause.
-inline const std::uint8_t* find_clause(const Question& question, System system, std::size_t number) noexcept {
-    if (number >= question.clauses(system)) return nullptr;
+// Whether a clause of this sort is counted by such a number.
+constexpr bool counts(const ClauseSort&, ClauseNumber) noexcept { return true; }
+constexpr bool counts(const ClauseSort& sort, DisequationNumber) noexcept { return sort.disequation; }
+
+// Where a clause starts, by its number in its system; nullptr if the system has no such clause.
+template <class Thing>
+const std::uint8_t* find_clause(const Question& question, System system, Counted<Thing> number) noexcept {
+    unsigned before = number.number;
     const std::uint8_t* at = question.bytes().begin() + 4 + 5 * question.constants();
-    while (system_of(*at) != system || number-- > 0) at += 1 + sort_of(*at).terms;
-    return at;
+    for (; *at != 0x00; at += 1 + sort_of(*at).terms)
+        if (system_of(*at) == system && counts(sort_of(*at), number) && before-- == 0) return at;
+    return nullptr;
 }
 
 // The leaves of the constant that a term is.
@@ -902,12 +965,13 @@ inline Leaves constant_of(const Question& question, std::uint8_t term) noexcept 
 // No clause is longer as text: a negated join of three constants of 94 characters.
 inline constexpr std::size_t most_clause_text = 296;
 
-// One clause of a question as text, by its number in its system, from 0: the clause that judging names as broken.
-// Variables are named as in the text of the question, constants are tree texts. It is empty if the system has no such
-// clause.
+// One clause of a question as text, by its number in its system. Variables are named as in the text of the question,
+// constants are tree texts. It is empty if the system has no such clause.
 class ClauseText : public detail::PutText<most_clause_text> {
   public:
-    ClauseText(const Question& question, System system, std::size_t number) noexcept {
+    ClauseText() noexcept = default;
+    template <class Thing>
+    ClauseText(const Question& question, System system, detail::Counted<Thing> number) noexcept {
         const std::uint8_t* const at = detail::find_clause(question, system, number);
         if (at != nullptr) put_clause(at, [&](std::uint8_t term) { put_term(question, term); });
     }
@@ -923,8 +987,18 @@ class ClauseText : public detail::PutText<most_clause_text> {
     }
 };
 
-[[nodiscard]] inline ClauseText text_of(const Question& question, System system, std::size_t number) noexcept {
+[[nodiscard]] inline ClauseText text_of(const Question& question, System system, ClauseNumber number) noexcept {
     return ClauseText(question, system, number);
+}
+[[nodiscard]] inline ClauseText text_of(const Question& question, System system, DisequationNumber number) noexcept {
+    return ClauseText(question, system, number);
+}
+
+// The clause that a result of this question names: the disequation of the second system that cannot always be had, for
+// Reason::disequation_unmet. Every other result names none, and the text is empty.
+[[nodiscard]] inline ClauseText text_of(const Question& question, const Result& result) noexcept {
+    if (result.reason != Reason::disequation_unmet) return {};
+    return text_of(question, System::second, result.disequation);
 }
 
 // ---------------------------------------------------------------- Asking
@@ -1032,10 +1106,10 @@ class Rows {
         const auto row = detail::row_of(leaves);
         return set(variable, Bytes{row.data(), row.size()});
     }
-    [[nodiscard]] SetShare set(Free variable, std::string_view text) noexcept {
+    [[nodiscard]] SetShare set(Free variable, detail::AnyText text) noexcept {
         if (variable.number >= most_variables) return {Error::names_nothing, 0};
-        if (const SetShare fault = detail::fault_of_row_text(text); fault.error != Error::none) return fault;
-        put_tree(start_of(variable), text);
+        if (const SetShare fault = detail::fault_of_row_text(text.view); fault.error != Error::none) return fault;
+        put_tree(start_of(variable), text.view);
         return {Error::none, 0};
     }
     [[nodiscard]] SetShare set(Free variable, std::optional<Leaves> joined) noexcept {
@@ -1129,10 +1203,9 @@ struct Failing {
 struct Judged {
     Judgement judgement;
     Refusal refusal;
-    std::uint16_t place;  // of a refusal: the offset in the question
-    // For Judgement::broken: the lowest clause of the first system that does not hold, counted as Question::clauses
-    // counts.
-    std::optional<std::size_t> clause;
+    unsigned place;  // of a refusal: the offset in the question
+    // For Judgement::broken: the lowest clause of the first system that does not hold.
+    std::optional<ClauseNumber> clause;
     // Of that clause if it is a positive one. A disequation fails because what it negates holds at every leaf.
     std::optional<Failing> failing = std::nullopt;
 };
@@ -1141,12 +1214,11 @@ struct Judged {
 constexpr Judged decode_judged(std::uint64_t number) noexcept {
     const auto judgement = static_cast<Judgement>(zimorgal_judgement(number));
     const bool broken = judgement == Judgement::broken;
-    const std::optional<std::size_t> clause = zimorgal_broken_clause(number);
+    const std::optional<ClauseNumber> clause = ClauseNumber{zimorgal_broken_clause(number)};
     const auto way = static_cast<Way>(zimorgal_broken_way(number));
     const std::optional<Failing> failing = Failing{way, zimorgal_broken_leaf(number)};
-    return {judgement, static_cast<Refusal>(zimorgal_refusal(number)),
-            static_cast<std::uint16_t>(zimorgal_place(number)), broken ? clause : std::nullopt,
-            broken && way != Way::holds ? failing : std::nullopt};
+    return {judgement, static_cast<Refusal>(zimorgal_refusal(number)), zimorgal_place(number),
+            broken ? clause : std::nullopt, broken && way != Way::holds ? failing : std::nullopt};
 }
 
 // Judges rows as a solution of a question: bytes from wherever they come, rows that were put together, or a shown
@@ -1224,15 +1296,15 @@ class JudgedText : public detail::PutText<most_judged_text> {
     }
 
   private:
-    void put_broken(const Question& question, std::size_t number) noexcept {
+    void put_broken(const Question& question, ClauseNumber number) noexcept {
         const ClauseText clause = text_of(question, System::first, number);
         put(", number ");
-        put_number(number);
+        put_number(number.number);
         put(": ");
         put(clause.view());
     }
 
-    void put_failing(const Question& question, Bytes rows, std::size_t number, const Failing& failing) noexcept {
+    void put_failing(const Question& question, Bytes rows, ClauseNumber number, const Failing& failing) noexcept {
         const PathText path = path_of(failing);
         put("; ");
         put(describe(failing.way));

@@ -136,18 +136,18 @@ static_assert(judged_without_throwing<Bytes, Bytes> && judged_without_throwing<B
               judged_without_throwing<Bytes, const Solution&> && judged_without_throwing<const Question&, Bytes> &&
               judged_without_throwing<const Question&, const Rows&> &&
               judged_without_throwing<const Question&, const Solution&>);
-static_assert(noexcept(Rows().set(v0, "*")) && noexcept(text_of(Question(), System::first, 0)));
-static_assert(decode_judged(0x200000002).clause == 2u && !decode_judged(3).clause &&
+static_assert(noexcept(Rows().set(v0, "*")) && noexcept(text_of(Question(), System::first, ClauseNumber{0})));
+static_assert(decode_judged(0x200000002).clause == ClauseNumber{2} && !decode_judged(3).clause &&
               describe(Judgement::accepted) == "accepted");
 constexpr Judged surplus_at_1022 = decode_judged(0x03FE'02'07'0000'00'02), disequation_broken = decode_judged(2);
-static_assert(surplus_at_1022.clause == 7u && surplus_at_1022.failing && surplus_at_1022.failing->leaf == 1022 &&
-              surplus_at_1022.failing->way == Way::surplus && disequation_broken.clause == 0u &&
-              !disequation_broken.failing);
+static_assert(surplus_at_1022.clause == ClauseNumber{7} && surplus_at_1022.failing &&
+              surplus_at_1022.failing->leaf == 1022 && surplus_at_1022.failing->way == Way::surplus &&
+              disequation_broken.clause == ClauseNumber{0} && !disequation_broken.failing);
 static_assert(describe(Way::holds) == "holds" && describe(Way::overlap) == "overlap: both parts are full" &&
               describe(Way::surplus) == "surplus: just one part is full and the sum is empty" &&
               describe(Way::shortfall) == "shortfall: both parts are empty and the sum is full");
-constexpr Judged of_four{Judgement::broken, Refusal::none, 0, 3u};
-static_assert(of_four.clause == 3u && !of_four.failing, "as programs wrote it before there was a failing");
+constexpr Judged of_four{Judgement::broken, Refusal::none, 0, ClauseNumber{3}};
+static_assert(of_four.clause == ClauseNumber{3} && !of_four.failing, "as programs wrote it before there was a failing");
 constexpr std::uint8_t row_of_leaf_10[128] = {0x00, 0x04};
 static_assert(full_at(Bytes{row_of_leaf_10, 128}, 10) && !full_at(Bytes{row_of_leaf_10, 128}, 9) &&
               full_at(Leaves{4}, 64) && !full_at(Leaves{4}, 63));
@@ -157,6 +157,15 @@ constexpr bool told_without_throwing = noexcept(text_of(std::declval<const Quest
 static_assert(told_without_throwing<Bytes> && told_without_throwing<const Rows&> &&
               told_without_throwing<const Solution&>&& noexcept(path_of(Failing{})) && noexcept(
                   full_at(Bytes{}, 0)) && noexcept(full_at(1u, 0)));
+static_assert(!std::is_convertible_v<ClauseNumber, DisequationNumber> &&
+              !std::is_constructible_v<ClauseNumber, DisequationNumber> &&
+              !std::is_constructible_v<DisequationNumber, ClauseNumber> &&
+              !std::is_convertible_v<DisequationNumber, std::size_t> && !std::is_convertible_v<int, ClauseNumber>);
+static_assert(ClauseNumber{}.number == 0 && ClauseNumber{-1}.number == 0xFFFFFFFF &&
+              DisequationNumber{0x100000000u}.number == 0xFFFFFFFF && ClauseNumber{94} != ClauseNumber{93});
+static_assert(std::is_same_v<decltype(Result::height), unsigned> && std::is_same_v<decltype(Result::place), unsigned> &&
+              std::is_same_v<decltype(ClauseNumber::number), unsigned> && std::is_aggregate_v<Result>);
+static_assert(noexcept(text_of(std::declval<const Question&>(), std::declval<const Result&>())));
 static_assert(describe(Verdict::no) == "no" && decode(2).verdict == Verdict::no, "at compile time too");
 
 // Variables from any integer; one out of range names nothing, and is no undefined behaviour.
@@ -584,7 +593,7 @@ void drafts() {
     Draft wrong;
     wrong.start_satisfiability(2);
     const Constant none = wrong.constant("(*(oo))");
-    wrong.first(equal(v0, none)).second(equal(v0, v1)).start_satisfiability(1);
+    wrong.first(equal(v0, none)).second(equal(v0, v1)).add(System::first, equal(v0, v1));
     check(wrong.constant("*").leaves() == 0, "no constant after an error");
     check(wrong.error() == Error::not_folded && wrong.step() == 1 && wrong.place() == 2, "the first error of a draft");
     check(wrong.finish(question) == Error::not_folded && copy(question) == before,
@@ -597,6 +606,57 @@ void drafts() {
     Question longer;
     check(draft.finish(longer) == Error::none && copy(longer) == copy(question), "a draft goes on");
     check(Draft().finish(question) == Error::none && copy(question) == copy(Question()), "an empty draft");
+}
+
+// Each start throws away what a draft has, an error too, and is step 0.
+void drafts_started_anew() {
+    Draft draft;
+    draft.start_satisfiability(2);
+    const Constant before = draft.constant("(*o)"), wrong = draft.constant("(*(oo))");
+    check(draft.error() == Error::not_folded && draft.step() == 2 && draft.place() == 2 && wrong.leaves() == 0,
+          "a draft with an error");
+    draft.start_entailment(1, 1);
+    check(draft.error() == Error::none && draft.step() == 1 && draft.place() == 0 && draft.clauses(System::first) == 0,
+          "a draft with an error is started anew");
+    draft.second(together(v0, own0)).first(may_read(v0));
+    Question question;
+    check(draft.finish(question) == Error::none && draft.step() == 3, "and given");
+    check(copy(question) == String{0x01, 0x01, 0x01, 0x01, 0x3A, 0x00, 0x01, 0x31, 0x00, 0x00}, "its bytes");
+    check(draft.first(equal(v0, before)).error() == Error::foreign_constant && draft.step() == 3,
+          "a constant from before is none of it");
+
+    // A start that is not taken leaves nothing of the draft before it either.
+    draft.start_satisfiability(1).first(may_write(v0)).start_satisfiability(13).first(may_read(v0));
+    check(draft.error() == Error::too_many_variables && draft.step() == 0 && draft.clauses(System::first) == 0 &&
+              draft.finish(question) == Error::too_many_variables && question.clauses(System::first) == 1,
+          "a start with an error");
+    draft.start_satisfiability(12);
+    check(draft.finish(question) == Error::none && question.free_variables() == 12 && draft.step() == 1,
+          "a start after a start with an error");
+}
+
+// A null pointer is known only at run time: it is no tree text, and no more is done with it.
+void null_texts() {
+    const char* const none = nullptr;
+    char* const writable = nullptr;
+    const Parsed parsed = from_text(none);
+    check(parsed.error == Error::not_tree_text && parsed.leaves == 0 && parsed.place == 0, "no text is read");
+    check(from_text(writable).error == Error::not_tree_text, "nor one that could be written");
+    Question question = satisfiability(1);
+    const String before = copy(question);
+    const auto [error, constant, place] = question.constant(none);
+    check(error == Error::not_tree_text && constant.leaves() == 0 && place == 0 && copy(question) == before,
+          "no text is no constant of a question");
+    check(question.constant({none}).error == Error::not_tree_text, "in braces neither");
+    Draft draft;
+    draft.start_satisfiability(1);
+    check(draft.constant(none).leaves() == 0 && draft.error() == Error::not_tree_text && draft.step() == 1,
+          "no text is no constant of a draft");
+    Rows rows;
+    check(rows.set(v0, "(*o)").error == Error::none, "a row");
+    const SetShare set = rows.set(v0, none);
+    check(set.error == Error::not_row_text && set.place == 0 && rows.text(v0).str() == "(*o)", "no text is no row");
+    check(rows.set(Free{12}, none).error == Error::names_nothing, "the variable comes first");
 }
 
 void drafts_with_joins() {
@@ -642,26 +702,26 @@ void answers(const char* what, const Question& question, Result expected, const 
 // Of the worked questions of SPEC 12 one of each kind of result. Where a solution is shown it is the only one, or the
 // one that the examples of tests/cli have.
 void results() {
-    answers("nothing asked", Question(), {Verdict::yes, Refusal::none, 0, 0, Reason::none, 0}, {}, true);
+    answers("nothing asked", Question(), {Verdict::yes, Refusal::none, 0, 0, Reason::none, {}}, {}, true);
 
     Question question = satisfiability(1);
     Constant whole = take(question.constant(full_share));
     take(question.first(join(v0, v0, whole)));
-    answers("not satisfiable", question, {Verdict::no, Refusal::none, 0, 0, Reason::none, 0}, {}, false);
+    answers("not satisfiable", question, {Verdict::no, Refusal::none, 0, 0, Reason::none, {}}, {}, false);
 
     question = satisfiability(2);
     Constant left = take(question.constant("(*o)"));
     whole = take(question.constant("*"));
     take(question.first(join(v0, left, whole)));
     take(question.first(equal(v1, left)));
-    answers("satisfiable", question, {Verdict::yes, Refusal::none, 0, 1, Reason::none, 0}, {"(o*)", "(*o)"}, true);
+    answers("satisfiable", question, {Verdict::yes, Refusal::none, 0, 1, Reason::none, {}}, {"(o*)", "(*o)"}, true);
 
     question = entailment(1, 0);
     whole = take(question.constant("*"));
     Constant empty = take(question.constant("o"));
     take(question.first(join(v0, v0, whole)));
     take(question.second(equal(v0, empty)));
-    answers("reason 1", question, {Verdict::yes, Refusal::none, 0, 0, Reason::first_unsolvable, 0}, {}, false);
+    answers("reason 1", question, {Verdict::yes, Refusal::none, 0, 0, Reason::first_unsolvable, {}}, {}, false);
 
     question = entailment(1, 2);
     empty = take(question.constant(empty_share));
@@ -669,7 +729,7 @@ void results() {
     take(question.second(join(own0, own1, v0)));
     take(question.second(not_equal(own0, empty)));
     take(question.second(not_equal(own1, empty)));
-    answers("yes, reason 0", question, {Verdict::yes, Refusal::none, 0, 0, Reason::none, 0}, {}, false);
+    answers("yes, reason 0", question, {Verdict::yes, Refusal::none, 0, 0, Reason::none, {}}, {}, false);
 
     question = entailment(2, 1);
     left = take(question.constant("(*o)"));
@@ -678,7 +738,7 @@ void results() {
     take(question.first(not_equal(v0, empty)));
     take(question.first(equal(v1, right)));
     take(question.second(join(left, own0, v0)));
-    answers("reason 2", question, {Verdict::no, Refusal::none, 0, 2, Reason::positives_unmet, 0}, {"((o*)o)", "(o*)"},
+    answers("reason 2", question, {Verdict::no, Refusal::none, 0, 2, Reason::positives_unmet, {}}, {"((o*)o)", "(o*)"},
             true);
 
     question = entailment(2, 0);
@@ -687,8 +747,8 @@ void results() {
     take(question.first(join(v0, v1, whole)));
     take(question.second(not_equal(empty, whole)));
     take(question.second(not_equal(v0, empty)));
-    answers("reason 3 with 1", question, {Verdict::no, Refusal::none, 0, 0, Reason::disequation_unmet, 1}, {"o", "*"},
-            true);
+    answers("reason 3 with 1", question,
+            {Verdict::no, Refusal::none, 0, 0, Reason::disequation_unmet, DisequationNumber{1}}, {"o", "*"}, true);
 
     Workspace workspace;
     String late = copy(question);
@@ -702,7 +762,7 @@ void results() {
     // Every byte of the number, each value unlike the others.
     const Result fields = decode(0x001E'03'0A'039D'08'02);
     check(fields.verdict == Verdict::no && fields.refusal == Refusal::bad_term && fields.place == 925 &&
-              fields.height == 10 && fields.reason == Reason::disequation_unmet && fields.disequation == 30,
+              fields.height == 10 && fields.reason == Reason::disequation_unmet && fields.disequation.number == 30,
           "each field where SPEC 4.2 has it");
     check(decode(1).verdict == Verdict::yes && decode(0).verdict == Verdict::refused, "verdicts");
 
@@ -720,7 +780,70 @@ void results() {
               describe(static_cast<Reason>(4)) == "unknown reason",
           "texts for what has no meaning");
     const Result wild = decode(0xFFFFFFFFFFFFFFFF);
-    check(wild.place == 0xFFFF && wild.height == 0xFF && wild.disequation == 0xFF, "every number is decoded");
+    check(wild.place == 0xFFFF && wild.height == 0xFF && wild.disequation.number == 0xFF, "every number is decoded");
+}
+
+// Whether the result of a question names this clause and no other.
+void names(const Question& question, const std::string& clause) {
+    Workspace workspace;
+    const Result result = ask(question, workspace).result;
+    check(text_of(question, result).str() == clause, "the clause of a result: " + clause);
+    if (!clause.empty())
+        check(text_of(question, System::second, result.disequation).str() == clause, "by its number: " + clause);
+}
+
+// In the second system stand two positive clauses before disequation 0 and one before disequation 1, in the first some
+// of both between them: neither is counted.
+void clauses_of_results() {
+    Question question = entailment(2, 1);
+    const Constant left = take(question.constant("(*o)"));
+    take(question.second(join(v0, own0, v1)));
+    take(question.first(join(v0, left, v1)));
+    take(question.first(may_read(v1)));
+    take(question.second(together(v0, own0)));
+    take(question.second(may_read(v1)));
+    names(question, "");
+    take(question.second(equal(own0, left)));
+    take(question.second(not_equal(v0, v1)));
+    take(question.second(not_join(left, left, left)));
+    names(question, "");
+    take(question.second(not_equal(own0, left)));
+    take(question.second(may_read(v0)));
+    names(question, "v02 is not (*o)");
+    Workspace workspace;
+    const Result result = ask(question, workspace).result;
+    check(result.reason == Reason::disequation_unmet && result.disequation == DisequationNumber{3}, "disequation 3");
+    check(text_of(question, System::second, ClauseNumber{3}).str() == "v02 is (*o)" &&
+              text_of(question, System::second, ClauseNumber{6}).str() == "v02 is not (*o)",
+          "which is clause 6");
+    std::ostringstream out;
+    out << text_of(question, result) << ' ' << result.disequation << ' ' << result.height << ' ' << result.place << ' '
+        << ClauseNumber{6} << ' ' << *decode_judged(0x900000002).clause;
+    check(out.str() == "v02 is not (*o) 3 2 0 6 9", "numbers are written as numbers");
+}
+
+// A result that names no clause, and one of another question.
+void results_without_a_clause() {
+    Question question = entailment(1, 0);
+    take(question.first(may_write(v0)));
+    take(question.second(not_equal(v0, v0)));
+    names(question, "v00 is not v00");
+    for (const Reason reason : {Reason::none, Reason::first_unsolvable, Reason::positives_unmet, Reason{4}})
+        check(text_of(question, {Verdict::no, Refusal::none, 0, 0, reason, DisequationNumber{0}}).str().empty(),
+              "a result that names no clause");
+    for (const unsigned i : {1u, 31u, 0xFFu, 0xFFFFFFFFu})
+        check(text_of(question, {Verdict::no, Refusal::none, 0, 0, Reason::disequation_unmet, DisequationNumber{i}})
+                  .str()
+                  .empty(),
+              "a disequation that is not there");
+    Question other = entailment(1, 0);
+    take(other.second(may_read(v0)));
+    names(other, "v00 may read");
+    take(other.second(may_write(v0)));
+    names(other, "");
+    other = satisfiability(1);
+    take(other.first(may_read(v0)));
+    names(other, "");
 }
 
 // Constants that no clause names do not count for the height given.
@@ -729,24 +852,26 @@ void unnamed_constants() {
     for (Leaves i = 0; i < 30; ++i) take(question.constant(Leaves{1} << i));
     const Constant left = take(question.constant("(*o)")), whole = take(question.constant("*"));
     take(question.first(join(v0, left, whole)));
-    answers("two of 32 constants named", question, {Verdict::yes, Refusal::none, 0, 1, Reason::none, 0}, {"(o*)"},
+    answers("two of 32 constants named", question, {Verdict::yes, Refusal::none, 0, 1, Reason::none, {}}, {"(o*)"},
             true);
 
     question = satisfiability(1);
     const Constant one = take(question.constant("(*(*o))")), other = take(question.constant("(o(o*))"));
     take(question.first(equal(v0, take(question.constant(join(one.leaves(), other.leaves()))))));
-    answers("a join named, its parts not", question, {Verdict::yes, Refusal::none, 0, 0, Reason::none, 0}, {"*"}, true);
+    answers("a join named, its parts not", question, {Verdict::yes, Refusal::none, 0, 0, Reason::none, {}}, {"*"},
+            true);
 
     question = entailment(1, 0);
     take(question.constant(1u));
     take(question.second(equal(v0, take(question.constant("(o*)")))));
-    answers("a tall one that is not named", question, {Verdict::no, Refusal::none, 0, 1, Reason::positives_unmet, 0},
+    answers("a tall one that is not named", question, {Verdict::no, Refusal::none, 0, 1, Reason::positives_unmet, {}},
             {"(*o)"}, true);
 
     question = entailment(1, 0);
     take(question.second(not_equal(v0, take(question.constant(1u)))));
     answers("a tall one that the second system names", question,
-            {Verdict::no, Refusal::none, 0, 5, Reason::disequation_unmet, 0}, {"(((((*o)o)o)o)o)"}, true);
+            {Verdict::no, Refusal::none, 0, 5, Reason::disequation_unmet, DisequationNumber{0}}, {"(((((*o)o)o)o)o)"},
+            true);
 }
 
 // One that may write and one that may read, held together.
@@ -759,27 +884,27 @@ Question writer_and_reader(Question question, Free writer, Free reader) {
 
 // What may write, what may read and what may be held together, in both systems.
 void policies() {
-    const Result never{Verdict::no, Refusal::none, 0, 0, Reason::none, 0};
+    const Result never{Verdict::no, Refusal::none, 0, 0, Reason::none, {}};
     answers("a writer and a reader", writer_and_reader(satisfiability(2), v0, v1), never, {}, false);
     answers("who does both", writer_and_reader(satisfiability(1), v0, v0), never, {}, false);
     answers("from which all follows", writer_and_reader(entailment(2, 0), v1, v0),
-            {Verdict::yes, Refusal::none, 0, 0, Reason::first_unsolvable, 0}, {}, false);
+            {Verdict::yes, Refusal::none, 0, 0, Reason::first_unsolvable, {}}, {}, false);
 
     Question question = satisfiability(2);
     take(question.first(may_read(v0)));
     take(question.first(may_read(v1)));
     take(question.first(together(v0, v1)));
-    answers("two readers", question, {Verdict::yes, Refusal::none, 0, 1, Reason::none, 0}, {"(*o)", "(o*)"}, true);
+    answers("two readers", question, {Verdict::yes, Refusal::none, 0, 1, Reason::none, {}}, {"(*o)", "(o*)"}, true);
 
     question = entailment(1, 0);
     take(question.first(may_write(v0)));
     take(question.second(may_read(v0)));
-    answers("a writer may read", question, {Verdict::yes, Refusal::none, 0, 0, Reason::none, 0}, {}, false);
+    answers("a writer may read", question, {Verdict::yes, Refusal::none, 0, 0, Reason::none, {}}, {}, false);
 
     question = entailment(1, 0);
     take(question.first(may_read(v0)));
     take(question.second(may_write(v0)));
-    answers("a reader may write", question, {Verdict::no, Refusal::none, 0, 1, Reason::positives_unmet, 0}, {"(o*)"},
+    answers("a reader may write", question, {Verdict::no, Refusal::none, 0, 1, Reason::positives_unmet, {}}, {"(o*)"},
             true);
 
     question = entailment(1, 1);
@@ -787,8 +912,8 @@ void policies() {
     take(question.second(together(v0, own0)));
     take(question.second(may_read(own0)));
     take(question.first(may_read(v0)));
-    answers("a part is left for a reader", question, {Verdict::no, Refusal::none, 0, 1, Reason::disequation_unmet, 1},
-            {"*"}, true);
+    answers("a part is left for a reader", question,
+            {Verdict::no, Refusal::none, 0, 1, Reason::disequation_unmet, DisequationNumber{1}}, {"*"}, true);
 }
 
 // ---------------------------------------------------------------- Tree text
@@ -1092,16 +1217,19 @@ void clauses_by_number() {
           "a clause that is not taken is not counted");
     const char* const first[] = {"v00 may read", "not (*o) join v01 is ((*o)o)", "v00 with v01", ""};
     const char* const second[] = {"v00 join v02 is v01", "v02 is not (*o)", ""};
-    for (std::size_t i = 0; i < 4; ++i) check(text_of(question, System::first, i).str() == first[i], first[i]);
-    for (std::size_t i = 0; i < 3; ++i) check(text_of(question, System::second, i).str() == second[i], second[i]);
+    for (std::size_t i = 0; i < 4; ++i)
+        check(text_of(question, System::first, ClauseNumber{i}).str() == first[i], first[i]);
+    for (std::size_t i = 0; i < 3; ++i)
+        check(text_of(question, System::second, ClauseNumber{i}).str() == second[i], second[i]);
     for (unsigned i = 2; i < 256; ++i) {
         const auto other = static_cast<System>(i);
-        if (question.clauses(other) != 0 || !text_of(question, other, 0).str().empty())
+        if (question.clauses(other) != 0 || !text_of(question, other, ClauseNumber{0}).str().empty())
             check(false, "there is no system " + std::to_string(i));
     }
-    check(text_of(question, System::first, static_cast<std::size_t>(-1)).str().empty(), "a number past all");
+    check(text_of(question, System::first, ClauseNumber{static_cast<std::size_t>(-1)}).str().empty(),
+          "a number past all");
     std::ostringstream out;
-    out << text_of(question, System::first, 2);
+    out << text_of(question, System::first, ClauseNumber{2});
     check(out.str() == "v00 with v01", "a clause written to a stream");
 
     // The longest text, the last of as many clauses as there can be.
@@ -1109,7 +1237,7 @@ void clauses_by_number() {
     const Constant tall = take(longest.constant(0x55555555u));
     for (int i = 0; i < 64; ++i) take(longest.first(may_write(v0)));
     for (int i = 0; i < 31; ++i) take(longest.first(not_join(tall, tall, tall)));
-    const ClauseText text = text_of(longest, System::first, 94);
+    const ClauseText text = text_of(longest, System::first, ClauseNumber{94});
     const std::string tree = text_of(tall.leaves()).str();
     check(text.view() == "not " + tree + " join " + tree + " is " + tree && text.view().size() == most_clause_text,
           "the longest clause just fits");
@@ -1297,10 +1425,14 @@ bool same(const std::optional<Failing>& a, const std::optional<Failing>& b) {
     return a.has_value() == b.has_value() && (!a || (a->way == b->way && a->leaf == b->leaf));
 }
 
+bool same(const std::optional<ClauseNumber>& a, const std::optional<unsigned>& b) {
+    return a == (b ? std::optional(ClauseNumber{*b}) : std::nullopt);
+}
+
 void judges(const char* what, const Question& question, const std::vector<const char*>& shares, Judgement due,
-            std::optional<std::size_t> clause = std::nullopt, std::optional<Failing> failing = std::nullopt) {
+            std::optional<unsigned> clause = std::nullopt, std::optional<Failing> failing = std::nullopt) {
     const Judged judged = judge_texts(question, shares);
-    check(judged.judgement == due && judged.clause == clause && same(judged.failing, failing) &&
+    check(judged.judgement == due && same(judged.clause, clause) && same(judged.failing, failing) &&
               judged.refusal == Refusal::none && judged.place == 0,
           std::string("judged: ") + what);
 }
@@ -1474,7 +1606,7 @@ void judged_fields() {
     // Every byte of the number, each value unlike the others.
     const Judged fields = decode_judged(0x03FE'01'5E'A39D'08'02);
     check(fields.judgement == Judgement::broken && fields.refusal == Refusal::bad_term && fields.place == 0xA39D &&
-              fields.clause == 94u && same(fields.failing, Failing{Way::overlap, 1022}),
+              fields.clause == ClauseNumber{94} && same(fields.failing, Failing{Way::overlap, 1022}),
           "each field of a judgement");
     for (const std::uint64_t number : {0u, 1u, 3u}) {
         const Judged other = decode_judged(number | 0x0101'02'07'0000'00'00);
@@ -1486,7 +1618,8 @@ void judged_fields() {
         if (!same(failing, Failing{static_cast<Way>(i), 0})) check(false, "way " + std::to_string(i) + " is decoded");
     }
     const Judged wild = decode_judged(0xFFFFFFFFFFFFFF02);
-    check(wild.clause == 255u && same(wild.failing, Failing{static_cast<Way>(255), 0xFFFF}), "every number is decoded");
+    check(wild.clause == ClauseNumber{255} && same(wild.failing, Failing{static_cast<Way>(255), 0xFFFF}),
+          "every number is decoded");
     for (unsigned i = 0; i < 4; ++i) {
         check(describe(static_cast<Judgement>(i)) != "unknown judgement", "a text for judgement " + std::to_string(i));
         check(describe(static_cast<Way>(i)) == zimorgal_describe_way(static_cast<int>(i)), "way " + std::to_string(i));
@@ -1533,8 +1666,8 @@ void each_way() {
                 const std::optional<Failing> failing = Failing{ways[values], from};
                 check(judged.judgement == (holds ? Judgement::accepted : Judgement::broken) &&
                           same(judged.failing, holds ? std::nullopt : failing),
-                      text_of(question, System::first, 1).str() + ", values " + std::to_string(values) + " from " +
-                          std::to_string(from));
+                      text_of(question, System::first, ClauseNumber{1}).str() + ", values " + std::to_string(values) +
+                          " from " + std::to_string(from));
             }
     }
 }
@@ -1545,8 +1678,8 @@ void disequations_broken() {
         Question question = satisfiability(3);
         take(question.first(clause));
         const Judged judged = judge(question, Rows());
-        check(judged.judgement == Judgement::broken && judged.clause == 0u && !judged.failing,
-              text_of(question, System::first, 0).str());
+        check(judged.judgement == Judgement::broken && judged.clause == ClauseNumber{0} && !judged.failing,
+              text_of(question, System::first, ClauseNumber{0}).str());
     }
 }
 
@@ -1656,11 +1789,11 @@ void judged_as_text_from_elsewhere() {
     check(text_of(question, Bytes{nullptr, 0}, judged).str() == line + "o is o",
           "without the rows no variable is full");
 
-    const Judged elsewhere{Judgement::broken, Refusal::none, 0, 7u, Failing{static_cast<Way>(9), 5000}};
+    const Judged elsewhere{Judgement::broken, Refusal::none, 0, ClauseNumber{7}, Failing{static_cast<Way>(9), 5000}};
     check(text_of(question, solution, elsewhere).str() == broken + "7: ; unknown way, at leaf 5000, : ",
           "a clause and a leaf that are not there");
-    const Judged far{Judgement::broken, Refusal::none, 0, static_cast<std::size_t>(-1), std::nullopt};
-    check(text_of(question, solution, far).str() == broken + "18446744073709551615: ", "the greatest number");
+    const Judged far{Judgement::broken, Refusal::none, 0, ClauseNumber{static_cast<std::size_t>(-1)}, std::nullopt};
+    check(text_of(question, solution, far).str() == broken + "4294967295: ", "the greatest number");
 }
 
 // The longest line just fits, and one that would be longer is cut.
@@ -1670,17 +1803,18 @@ void longest_judged() {
     for (int i = 0; i < 63; ++i) take(question.first(equal(v0, v0)));
     take(question.first(join(tall, other, tall)));
     const Judged judged = judge(question, Rows());
-    check(judged.clause == 63u && same(judged.failing, Failing{Way::surplus, 32}), "a join of three tall constants");
+    check(judged.clause == ClauseNumber{63} && same(judged.failing, Failing{Way::surplus, 32}),
+          "a join of three tall constants");
     const std::string first = text_of(tall.leaves()).str(), second = text_of(other.leaves()).str();
     const std::string clause = first + " join " + second + " is " + first;
     const std::string head = broken + "63: " + clause;
     tells(question, {}, head + surplus + "32, LLLLRLLLLL: o join * is o");
 
-    const Judged longest{Judgement::broken, Refusal::none, 0, 63u, Failing{Way::shortfall, 1023}};
+    const Judged longest{Judgement::broken, Refusal::none, 0, ClauseNumber{63}, Failing{Way::shortfall, 1023}};
     const std::string line = head + shortfall + "1023, RRRRRRRRRR: o join * is o";
     check(text_of(question, Rows(), longest).str() == line && line.size() == most_judged_text,
           "the longest line just fits");
-    const Judged longer{Judgement::broken, Refusal::none, 0, 63u,
+    const Judged longer{Judgement::broken, Refusal::none, 0, ClauseNumber{63},
                         Failing{Way::shortfall, static_cast<std::size_t>(-1)}};
     const std::string whole = head + shortfall + "18446744073709551615, : o join o is o";
     check(
@@ -1727,7 +1861,7 @@ void no_heap() {
     fine = fine && rows.set(v0, text.view()).error == Error::none && rows.set(v1, "((oo)*)").place == 1 &&
            judge(question, solution).judgement == Judgement::accepted;
     const Judged judged = judge(question, rows);
-    const ClauseText clause = text_of(question, System::first, judged.clause.value_or(99));
+    const ClauseText clause = text_of(question, System::first, judged.clause.value_or(ClauseNumber{99}));
     const PathText path = path_of(judged.failing.value_or(Failing{Way::holds, 1024}));
     const JudgedText line = text_of(question, rows, judged);
     fine = fine && path.view() == "LLLLLLLLLL" && line.view().substr(line.view().size() - 13) == "o join * is o";
@@ -1749,8 +1883,12 @@ int main() {
     every_enum_value();
     whose_constant();
     drafts();
+    drafts_started_anew();
+    null_texts();
     drafts_with_joins();
     results();
+    clauses_of_results();
+    results_without_a_clause();
     unnamed_constants();
     policies();
     right_texts();

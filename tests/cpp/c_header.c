@@ -32,6 +32,26 @@ static void calls(void) {
           "what is shown of the example is accepted");
 }
 
+static int reason_of(const uint8_t *question, size_t length) {
+    return zimorgal_reason(zimorgal_ask(question, length, answer, sizeof answer, work, sizeof work));
+}
+
+/* Reason 0: of a satisfiability yes and no, of a refusal, and of every yes of an entailment but that of reason 1. */
+static void reasons(void) {
+    static const uint8_t full_and_empty[] = {0x01, 0x00, 0x01, 0x00, 0x03, 0x00, 0x00, 0x00,
+                                             0x00, 0x30, 0x00, 0x12, 0x00, 0x20, 0x00};
+    static const uint8_t writer_reads[] = {0x01, 0x01, 0x01, 0x00, 0x30, 0x00, 0x39, 0x00, 0x00};
+    static const uint8_t nobody_writes[] = {0x01, 0x01, 0x01, 0x00, 0x30, 0x00, 0x13, 0x00, 0x00, 0x38, 0x00, 0x00};
+    check(reason_of(example, sizeof example) == ZIMORGAL_NO_REASON, "satisfiable");
+    check(zimorgal_verdict(zimorgal_ask(full_and_empty, sizeof full_and_empty, answer, sizeof answer, work,
+                                        sizeof work)) == ZIMORGAL_NO &&
+              reason_of(full_and_empty, sizeof full_and_empty) == ZIMORGAL_NO_REASON,
+          "not satisfiable");
+    check(reason_of(example, 1) == ZIMORGAL_NO_REASON, "refused");
+    check(reason_of(writer_reads, sizeof writer_reads) == ZIMORGAL_NO_REASON, "entailed");
+    check(reason_of(nobody_writes, sizeof nobody_writes) == ZIMORGAL_FIRST_UNSOLVABLE, "nothing to extend");
+}
+
 /* Judges all rows, of which the first two are repeated bytes. */
 static uint64_t judge_repeated(const uint8_t *question, size_t length, int first, int second) {
     memset(rows, 0, sizeof rows);
@@ -297,6 +317,7 @@ static void nothing_lent(void) {
 
 int main(void) {
     calls();
+    reasons();
     judged_satisfiability();
     each_way();
     leftmost_leaf();

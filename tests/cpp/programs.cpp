@@ -99,6 +99,7 @@ struct Step {
 struct Seen {
     std::array<long, static_cast<std::size_t>(Error::undefined_join) + 1> errors{};
     std::array<long, 4> judgements{}, ways{};
+    long started_anew = 0;  // drafts, after an error
 };
 
 Error due_term(const Model& model, bool second, const Put& put, reader::Term& means) {
@@ -394,7 +395,7 @@ bool Program::take_step(std::size_t which, Seen& seen) {
            keep(next, models_[which], error, constant);
 }
 
-// A whole question by a draft, put in the place of another one if there was no error.
+// A whole question by a draft, put in the place of another one if there was no error. A start throws away all before it.
 bool Program::take_draft(std::size_t which, Seen& seen) {
     Draft draft;
     Model model;
@@ -405,6 +406,11 @@ bool Program::take_draft(std::size_t which, Seen& seen) {
         const Step next = step(model);
         Constant constant;
         take(draft, next, constant);
+        if (next.sort == Step::Sort::satisfiability || next.sort == Step::Sort::entailment) {
+            seen.started_anew += first != Error::none;
+            first = Error::none;
+            taken = 0;
+        }
         if (first != Error::none) {
             right = right && constant.leaves() == 0;
             continue;
@@ -474,18 +480,23 @@ std::string clause_text(const reader::Question& question, const reader::Clause& 
     return clause_with(clause, terms);
 }
 
-// Each clause is found by its number in its system, and no other.
+// Each clause is found by its number in its system, a disequation also by its number among the disequations, and no other.
 bool Program::finds_its_clauses(std::size_t which) const {
     const Question& question = questions_[which];
-    std::size_t counts[2] = {};
+    std::size_t counts[2] = {}, disequations[2] = {};
     bool right = true;
     for (const reader::Clause& clause : models_[which].question.clauses) {
-        const ClauseText text = text_of(question, static_cast<System>(clause.second), counts[clause.second]++);
-        right = right && text.view() == clause_text(models_[which].question, clause);
+        const auto system = static_cast<System>(clause.second);
+        const std::string due = clause_text(models_[which].question, clause);
+        right = right && text_of(question, system, ClauseNumber{counts[clause.second]++}).str() == due;
+        if (clause.negated)
+            right = right && text_of(question, system, DisequationNumber{disequations[clause.second]++}).str() == due;
     }
     for (const System system : {System::first, System::second}) {
-        const std::size_t count = counts[static_cast<std::size_t>(system)];
-        right = right && question.clauses(system) == count && text_of(question, system, count).str().empty();
+        const ClauseNumber count{counts[static_cast<std::size_t>(system)]};
+        const DisequationNumber none{disequations[static_cast<std::size_t>(system)]};
+        right = right && question.clauses(system) == count.number && text_of(question, system, count).str().empty() &&
+                text_of(question, system, none).str().empty();
     }
     return right;
 }
@@ -556,7 +567,7 @@ bool has_fields(const Judged& judged, std::uint64_t due) {
     const bool broken = (due & 0xFF) == 2, positive = broken && (due >> 40 & 0xFF) != 0;
     return static_cast<std::uint64_t>(judged.judgement) == (due & 0xFF) &&
            static_cast<std::uint64_t>(judged.refusal) == (due >> 8 & 0xFF) && judged.place == 0 &&
-           judged.clause == (broken ? std::optional<std::size_t>(due >> 32 & 0xFF) : std::nullopt) &&
+           judged.clause == (broken ? std::optional(ClauseNumber{due >> 32 & 0xFF}) : std::nullopt) &&
            judged.failing.has_value() == positive &&
            (!positive || (static_cast<std::uint64_t>(judged.failing->way) == (due >> 40 & 0xFF) &&
                           judged.failing->leaf == due >> 48));
@@ -663,6 +674,7 @@ int main(int count, char** words) {
     }
     for (unsigned i = 0; i < seen.errors.size() && programs >= enough; ++i)
         check(seen.errors[i] > 20, "the programs meet: " + std::string(describe(static_cast<Error>(i))));
+    if (programs >= enough) check(seen.started_anew > 200, "drafts are started anew after an error");
     for (unsigned i = 0; i < seen.judgements.size() && programs >= enough; ++i)
         check(seen.judgements[i] > 200, "rows are: " + std::string(describe(static_cast<Judgement>(i))));
     for (unsigned i = 0; i < seen.ways.size() && programs >= enough; ++i)

@@ -175,7 +175,7 @@ void* judge_with_all(void* argument) {
         if (rows.set(Free{i}, text.view()).error != Error::none) return nullptr;
     }
     run.judged = judge(question, rows);
-    const ClauseText clause = text_of(question, System::first, run.judged.clause.value_or(0));
+    const ClauseText clause = text_of(question, System::first, run.judged.clause.value_or(ClauseNumber{0}));
     const JudgedText line = text_of(question, rows, run.judged);
     run.length = clause.view().size() + line.view().size();
     return nullptr;
