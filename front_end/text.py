@@ -1,7 +1,7 @@
 """Questions as readable text, both ways."""
 
 from front_end.files import LONG_NAME, LONG_WORD, quote, shown
-from front_end.lines import NAME, NAME_DUE, Line, TextFault, word_lines
+from front_end.lines import NAME, NAME_DUE, Line, TextFault, text_end, word_lines
 from front_end.question import (CLAUSES, COMMANDS, CONSTANTS, EQUAL, JOIN, MAY_READ, MAY_WRITE, MOST_VARIABLES, NO_JOIN, UNEQUAL, WITH, Fault,
                                 Question)
 from front_end.trees import TALLEST, join, write_tree
@@ -16,6 +16,8 @@ NOT_INSIDE = ("a negated clause has one join, 'not a join b is c': give the join
 NOT_WITH = ("that shares may not be held together cannot be said as one clause: give their common part a variable of its own, as in "
             "'p join q is a', 'p join r is b' and 'p may read'")
 TWICE = "two negations: write '{}'"
+NO_SECOND = ("'entails' needs a second system: write a line 'then', and below it the clauses that are to follow from "
+             "those above")
 NO_SHARE = "'{}' is no share: write 'o' for the empty one, '*' for the full one"
 
 # What is due where a share is, and how a name comes to be one; the same for a share that a 'let' joins.
@@ -43,7 +45,7 @@ FORM = f"""The text: one thing a line; '#' starts a comment.
     reader may read                it is not empty
     writer with reader             they may be held together: their join is defined
     a join b with c                joins inside 'may' and 'with': all are defined; each counts as a variable more
-    then                           from here on: the second system
+    then                           from here on: the second system; 'entails' needs this line
     if                             from here on: the first system again
 
 A name is letters a to z, small or capital, digits and '_', with no digit first; {RESERVED}
@@ -143,6 +145,7 @@ class TextReader:
         self.lets = {}  # the constants that have names
         self.lines = {}  # where each name was defined
         self.second = False  # whether the next clause is one of the second system
+        self.has_second = False  # whether a line starts that system
 
     def read(self, line):
         word = line.peek()
@@ -220,6 +223,7 @@ class TextReader:
         if line.peek() == "then":
             self.need_entails(line, "a second system needs")
         self.second = line.take("the system") == "then"
+        self.has_second = self.has_second or self.second
 
     def read_clause(self, line):
         """A clause. The word behind its first shares says of which sort it is."""
@@ -414,6 +418,11 @@ class Asked:
         """The line of a disequation of the second system."""
         return self.clauses[self.question.alike(second=True, disequation=True)[number]]
 
+    def second_lines(self):
+        """The lines with positive clauses of the second system, each once."""
+        numbers = self.question.alike(second=True, disequation=False)
+        return list(dict.fromkeys(self.clauses[number] for number in numbers))
+
     def first_system(self):
         """The clauses of the first system as they stand in bytes, each with its line before it: one with joins inside stands there for each."""
         return [(line, *clause) for line, clause in zip(self.clauses, self.question.clauses) if not CLAUSES[clause[0]].second]
@@ -442,6 +451,8 @@ def read_text(text):
         reader.read(line)
     if reader.question is None:
         raise TextFault("the text asks nothing: 'satisfiable' or 'entails' is due in its first line", 1, 1)
+    if reader.question.kind == 1 and not reader.has_second:
+        raise TextFault(NO_SECOND, *text_end(text))
     return Asked(reader.question, reader.names(), reader.clauses, reader.named_constants(), reader.words)
 
 
@@ -476,4 +487,6 @@ def write_text(question):
             second = not second
             lines.append("then" if second else "if")
         lines.append(sort.words.format(*(constants[term - CONSTANTS] if term >= CONSTANTS else variables[term] for term in terms)))
+    if question.kind == 1 and "then" not in lines:
+        lines.append("then")
     return "".join(line + "\n" for line in lines)
