@@ -74,11 +74,12 @@ class Answer:
             return "every solution of the first system extends to the second"
         if self.reason == 1:
             return "the first system has no solution"
-        positive = asked.second_lines()
         if self.reason == 2:
-            return f"this solution of the first system cannot meet {together(positive)}"
+            return f"this solution of the first system cannot meet {together(asked.second_lines())}"
+        missed = asked.disequation(self.disequation)
+        positive = [line for line in asked.second_lines() if line is not missed]  # a line with joins inside has both
         beside = f" beside {together(positive)}" if positive else ""
-        return f"this solution of the first system cannot have {cited(asked.disequation(self.disequation))}{beside}"
+        return f"this solution of the first system cannot have {cited(missed)}{beside}"
 
     def has_its_solution(self, question):
         """Whether a solution is shown exactly where one is due, with a tree for each free variable, none of them taller than said."""
