@@ -128,13 +128,15 @@ class Line:
         word = self.peek()
         if re.fullmatch(r"[0-9][A-Za-z_0-9]*", word):
             return self.fault(f"{quote(word)} starts with a digit, and a name does not: write {quote('_' + word)}, for example")
-        if word.endswith((",", ";")) and NAME.fullmatch(word[:-1]):
-            return self.fault(f"names are parted by spaces: write {quote(word[:-1])} for {quote(word)}")
+        parts = [part for part in re.split("[,;]", word) if part]
+        if parts and parts != [word] and all(map(NAME.fullmatch, parts)):
+            return self.fault(f"names are parted by spaces: write {quote(' '.join(parts))} for {quote(word)}")
         return self.due(due)
 
     def finish(self):
         if self.peek():
-            raise self.due("the end of the line")
+            alone = self.peek() in ("if", "then")
+            raise self.due("the end of the line", ": it stands on a line of its own" if alone else "")
 
     @contextmanager
     def here(self):

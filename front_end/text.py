@@ -9,6 +9,7 @@ from front_end.trees import TALLEST, join, write_tree
 LONGEST = 255  # characters of a name
 KINDS = ["satisfiable", "entails"]
 KEPT = KINDS + ["free", "own", "let", "if", "then", "not", "join", "is", "o"]
+STARTS = KINDS + ["free", "own", "let", "if", "then"]  # the words that a line starts with, if it is no clause
 RESERVED = f"{', '.join(KEPT[:-1])} and {KEPT[-1]}"
 
 NOT_INSIDE = ("a negated clause has one join, 'not a join b is c': give the join inside it a variable of its own, as in 'a join b is t' and "
@@ -19,6 +20,10 @@ TWICE = "two negations: write '{}'"
 NO_SECOND = ("'entails' needs a second system: write a line 'then', and below it the clauses that are to follow from "
              "those above")
 NO_SHARE = "'{}' is no share: write 'o' for the empty one, '*' for the full one"
+NO_SHARES = ("0", "1", "empty", "full")  # they are taken for shares
+
+# What other languages have where a clause has its verb, and what is written for it.
+VERBS = {"=": "'is' for it", "!": "'is not' for '!='", "+": "'join' for it", "can": "'may' for it"}
 
 # What is due where a share is, and how a name comes to be one; the same for a share that a 'let' joins.
 SHARE_DUE = "a name or a tree", "a line 'free {}' before the first clause makes it a variable"
@@ -97,11 +102,17 @@ def granted(line, right):
 
 def no_share(line, word, due):
     """The fault of a word that cannot be the name of a share, where something is due; None if it can be."""
-    if word in ("0", "1"):
+    if word in NO_SHARES:
         return line.fault(NO_SHARE.format(word))
     if not NAME.fullmatch(word) or word in KEPT:
         return line.no_name(due)
     return None
+
+
+def meant(word):
+    """The word that a line was to start with, where it is written large or with a ':' behind it; None for any other."""
+    small = word.rstrip(":").lower()
+    return small if small in STARTS and small != word else None
 
 
 def read_constant(line, constants, no_constant, tallest):
@@ -149,10 +160,14 @@ class TextReader:
 
     def read(self, line):
         word = line.peek()
+        if meant(word) and word not in self.lines and (self.question or meant(word) in KINDS):
+            raise line.fault(f"write '{meant(word)}' for {quote(word)}")
         if self.question is None:
             self.read_kind(line)
         elif word in KINDS:
-            raise line.fault("the kind of question stands in the first line alone: a file asks one question")
+            second = self.question.kind == 1 and not self.has_second and self.question.clauses
+            cure = "before the second system write 'then'" if second else "a file asks one question"
+            raise line.fault(f"the kind of question stands in the first line alone: {cure}")
         elif word in ("free", "own", "let"):
             if self.question.clauses:
                 raise line.fault(f"'{word}' must stand before the first clause")
@@ -291,7 +306,8 @@ class TextReader:
 
     def expect_is(self, line, negated):
         if not line.skip("is"):
-            raise line.due("'is'" if negated else "'join', 'is', 'may' or 'with'", ": write 'is' for it" if line.peek() == "=" else "")
+            hint = f": write {VERBS[line.peek()]}" if line.peek() in VERBS else ""
+            raise line.due("'is'" if negated else "'join', 'is', 'may' or 'with'", hint)
 
     def read_join(self, line, most=None):
         """Takes shares with 'join' between them; of a negated clause not more than so many."""

@@ -19,7 +19,8 @@ NO = b"entails\nfree left right\nown rest\nleft join right is *\nthen\n\nrest is
 FAULTY = b"entails\nfree a a\n"
 YES_SAYS = b"answer yes\nheight 1\na (*o)\n"
 NO_SHOWN = b"answer no\nheight 0\nleft o\nright *\n"
-NO_SAYS = NO_SHOWN + b"reason: this solution of the first system cannot have 'left is not o' (line 8) beside 'rest is *' (line 9)\n"
+NO_SAYS = NO_SHOWN + b"reason: this solution of the first system cannot have 'left is not o' (line 8) beside " \
+    b"'rest is *' (line 9)\n"
 NO_PLAIN = b"answer no\nheight 0\nv00 o\nv01 *\nreason 3 1\n"
 REPEATED = ":2:8: 'a' is defined already, in line 2\n"
 
@@ -35,7 +36,8 @@ def test_ask():
     no_program = "-: the printing program no/program could not be run: No such file or directory ($ZIMORGAL_CLI names it)\n"
     check("no such program", process("ask", "-", given=NO, ZIMORGAL_CLI="no/program"), (2, b"", no_program))
     check("an error in the text comes first", process("ask", "-", given=FAULTY, ZIMORGAL_CLI="no/program"), (2, b"", f"-{REPEATED}"))
-    check("--bytes runs no program", process("ask", "--bytes", "-", given=b"entails\nthen", ZIMORGAL_CLI="no/program")[0], 0)
+    found = process("ask", "--bytes", "-", given=b"entails\nthen", ZIMORGAL_CLI="no/program")
+    check("--bytes runs no program", found[0], 0)
 
 
 # An entailment for each reason, and what the last line says of it, with the clauses as they stand in the text.
@@ -59,8 +61,8 @@ REASONS = [
 
 
 def test_reasons():
-    """Why an entailment is answered so, in words with the clauses and their lines; --plain has the program's lines, byte for byte. What is
-    printed can be judged."""
+    """Why an entailment is answered so, in words with the clauses and their lines; --plain has the program's lines,
+    byte for byte. What is printed can be judged."""
     for text, due in REASONS:
         status, out, errors = command("ask", "-", given=text.encode())
         *shown, last = out.decode().splitlines()
@@ -74,7 +76,8 @@ def test_reasons():
         check(f"the other lines for {text!r}", shown, lines)
         if status == 1:
             found = command("ask", "--judge", str(file("reason.shares", text)), "-", given=out)
-            check(f"pasted, the answer to {text!r}", (found[0], found[1].split(b":")[0], found[2]), (0, b"accepted", ""))
+            said = found[0], found[1].split(b":")[0], found[2]
+            check(f"pasted, the answer to {text!r}", said, (0, b"accepted", ""))
 
 
 def test_version():
@@ -127,7 +130,8 @@ OBJECTS = [
     (b"satisfiable", 0, {"answer": "yes", "question": "satisfiable", "meaning": "satisfiable", "height": 0, "solution": {}}),
     (b"entails\nfree a\na is *\nthen\na is not o", 0,
      {"answer": "yes", "question": "entails", "reason": 0, "meaning": "the first system has a solution, and every one extends to the second"}),
-    (b"entails\n* is o\nthen", 0, {"answer": "yes", "question": "entails", "reason": 1, "meaning": "the first system has no solution"}),
+    (b"entails\n* is o\nthen", 0,
+     {"answer": "yes", "question": "entails", "reason": 1, "meaning": "the first system has no solution"}),
     (b"entails\nfree a\nthen\na is *", 1,
      {"answer": "no", "question": "entails", "reason": 2, "height": 0, "solution": {"a": "o"},
       "meaning": "some solution of the first cannot even meet the second's positive clauses"}),
@@ -140,8 +144,10 @@ OBJECTS = [
     (b"entails\nfree a\nown b\na may write\nthen\nb with a\n  b may   read # more", 1,
      {"answer": "no", "question": "entails", "reason": 3, "height": 0, "solution": {"a": "*"}, "disequation": {"number": 0, "line": 7, "text": "b may read"},
       "meaning": "the positive clauses can always be met; the disequation named is the lowest that some solution cannot have beside them"}),
-    (b"\xa0\xff", 2, {"error": {"line": 1, "column": 1, "message": "'satisfiable' or 'entails' is due here, not '\\xa0\\xff'"}}),
-    (b"entails \x1b\xff", 2, {"error": {"line": 1, "column": 9, "message": "a control character (U+001B) stands here: remove it"}}),
+    (b"\xa0\xff", 2,
+     {"error": {"line": 1, "column": 1, "message": "'satisfiable' or 'entails' is due here, not '\\xa0\\xff'"}}),
+    (b"entails \x1b\xff", 2,
+     {"error": {"line": 1, "column": 9, "message": "a control character (U+001B) stands here: remove it"}}),
     (b"entails\n* is o", 2, {"error": {"line": 2, "column": 7, "message": cases.NO_SECOND}}),
 ]
 KEYS = ["file", "answer", "question", "reason", "meaning", "disequation", "height", "solution", "error"]

@@ -10,8 +10,8 @@ from front_end.question import read_question
 from front_end.text import write_text
 from front_end.trees import write_tree
 from harness import check, library_judges
-from judging import (ACCEPTED, EQUALS, JOINS, ROW, ROWS, SORTS, TALL, WITHS, WRITES, check_judged, fails, judged, never, packed,
-                     way_at, way_down)
+from judging import (ACCEPTED, EQUALS, JOINS, ROW, ROWS, SORTS, TALL, WITHS, WRITES, check_judged, fails, judged,
+                     never, packed, way_at, way_down)
 
 SIDES = ["left", "right"]
 

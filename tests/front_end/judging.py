@@ -283,7 +283,8 @@ def test_row_faults():
         check(f"fault of rows {rows[:60]!r}", judged(PART, rows), (2, b"", f"-:{due}\n"))
     for free, rows, due in PASSED:
         check(f"passed over in {rows!r}", judged(f"satisfiable\n{free}\nlet no = o\nlet L = (*o)", rows), (2, b"", f"-:{due}\n"))
-    check("what is to be written", judged("satisfiable\nfree answer\nlet no = o\nanswer is no", "answer = no"), (0, f"{ACCEPTED}\n".encode(), ""))
+    found = judged("satisfiable\nfree answer\nlet no = o\nanswer is no", "answer = no")
+    check("what is to be written", found, (0, f"{ACCEPTED}\n".encode(), ""))
     nothing = "the question names nothing 'a': it has no free variable"
     check("rows for no variable", judged("satisfiable", "a = o"), (2, b"", f"-:1:1: {nothing}\n"))
     long = "satisfiable\n" + "".join(f"free {sign * 255}\n" for sign in "abc")

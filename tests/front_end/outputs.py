@@ -19,7 +19,8 @@ EXTENDING = "editor ((*o)o)\nplayer ((o*)o)\nboth (*o)\nlogger (o(*o))\nlist (*(
 # Commands that print, with what they are given.
 PRINTING = [("ask", str(ANSWERED)), ("ask", "--bytes", str(ANSWERED)), ("ask", "--plain", str(ANSWERED)), ("ask", "--json", str(ANSWERED)),
             ("ask", "--svg", str(ANSWERED)), ("ask", "--help"), ("explain", "question.bytes"), ("explain", str(ANSWERED)),
-            ("explain", "--help"), ("ask", "--version"), ("explain", "--version"), ("docs/draw",), ("ask", *JUDGED), ("ask", "--json", *JUDGED), ("ask", "--plain", *JUDGED),
+            ("ask", "--version"), ("explain", "--version"),
+            ("explain", "--help"), ("docs/draw",), ("ask", *JUDGED), ("ask", "--json", *JUDGED), ("ask", "--plain", *JUDGED),
             ("ask", "--bytes", *JUDGED), ("ask", "--svg", *JUDGED)]
 
 
@@ -64,19 +65,21 @@ def test_lost_output():
             with open("/dev/full", "wb") as full:
                 check(f"{arguments} with {buffers}, two full disks", end(arguments, out=full, errors=full, **buffers), (3, ""))
             writer = unread()
-            check(f"{arguments} with {buffers}, a pipe that nobody reads", end(arguments, out=writer, **buffers), (3, ""))
+            found = end(arguments, out=writer, **buffers)
+            check(f"{arguments} with {buffers}, a pipe that nobody reads", found, (3, ""))
             os.close(writer)
             with open(file("cut", b""), "wb") as small:
                 check(f"{arguments} with {buffers}, a disk for a part of it", end(arguments, before=small_files, out=small, **buffers), lost("File too large"))
 
 
 def test_read_in_part():
-    """Whoever reads the output may end before it does, as 'head' does: nothing is said, nothing more is asked, and the status tells it."""
+    """Whoever reads the output may end before it does, as 'head' does: nothing is said, nothing more is asked, and the
+    status tells it."""
     for option in ("--json", "--plain"):
         reader, writer = os.pipe()
         many = [str(file(f"many{number}.shares", ANSWERED.read_bytes())) for number in range(20)]
-        asking = subprocess.Popen([str(TOP / "ask"), option, *many, "none.shares"], stdout=writer, stderr=subprocess.PIPE,
-                                  cwd=FOLDER.name, env=surroundings({}))
+        asking = subprocess.Popen([str(TOP / "ask"), option, *many, "none.shares"], stdout=writer,
+                                  stderr=subprocess.PIPE, cwd=FOLDER.name, env=surroundings({}))
         os.close(writer)
         with open(reader, "rb") as first:
             said = first.readline()
@@ -173,12 +176,12 @@ def test_echo():
     argument = HOSTILE.replace("\x00", "").replace("x" * (1 << 19), "x" * 3000)
     texts = [hostile, b"satisfiable\nfree " + hostile, b"satisfiable\nfree a\na is " + hostile, b"satisfiable\nlet a = (" + hostile,
              b"satisfiable\nfree " + b"a" * (1 << 19), b"satisfiable\n" + b"a" * (1 << 19) + b" is o", b"entails\n\xff\xfe\x80",
-             b"satisfiable\nfree a\na is o\rentails", b"satisfiable\na\x85 is o", unseen, b"satisfiable\nfree " + unseen,
-             b"satisfiable\nfree a\na is " + unseen, b"satisfiable\nlet a = (" + unseen]
+             b"satisfiable\nfree a\na is o\rentails", b"satisfiable\na\x85 is o", unseen,
+             b"satisfiable\nfree " + unseen, b"satisfiable\nfree a\na is " + unseen, b"satisfiable\nlet a = (" + unseen]
     runs = [(f"text {text[:40]!r}", command("ask", "-", given=text)) for text in texts]
     rows = [hostile, b"editor " + hostile, b"editor = (" + hostile, b"editor = o join " + hostile, b"a" * (1 << 19), b"editor " + b"a" * (1 << 19),
-            b"editor (*o) " + b"b" * (1 << 19), b"", b"editor \xff\xfe", b"editor o\rplayer o", unseen, b"editor " + unseen,
-            b"editor = (" + unseen, b"editor = o join " + unseen]
+            b"editor (*o) " + b"b" * (1 << 19), b"", b"editor \xff\xfe", b"editor o\rplayer o", unseen,
+            b"editor " + unseen, b"editor = (" + unseen, b"editor = o join " + unseen]
     runs += [(f"rows {text[:40]!r}", command("ask", "--judge", str(ANSWERED), "-", given=text)) for text in rows]
     runs += [("hexadecimal", command("explain", "--hex", "-", given=given)) for given in (hostile, unseen)]
     for name in ("ask", "explain", "docs/draw"):

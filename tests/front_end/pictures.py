@@ -1,5 +1,5 @@
-"""Tests of pictures: of every kind of answer and of judgement, of low trees and of tall ones, of wide ones that are drawn coarser, of long
-names, the leaf that is marked, and the one that is stored."""
+"""Tests of pictures: of every kind of answer and of judgement, of low trees and of tall ones, of wide ones that are
+drawn coarser, of long names, the leaf that is marked, and the one that is stored."""
 
 import json
 import re
@@ -26,7 +26,8 @@ QUESTIONS = [
     ("not satisfiable", "satisfiable\nfree a\na join a is *", "no: there is no solution"),
     ("entailed", "entails\nfree a\na is *\nthen\na is not o", "yes: every solution of the first system extends to the second"),
     ("nothing to extend", "entails\n* is o\nthen", "yes: the first system has no solution"),
-    ("reason 2", "entails\nfree a\nthen\na is *", "no: this solution of the first system cannot meet 'a is *' (line 4)"),
+    ("reason 2", "entails\nfree a\nthen\na is *",
+     "no: this solution of the first system cannot meet 'a is *' (line 4)"),
     ("reason 2, of several", "entails\nfree a\nthen\na is *\na with o",
      "no: this solution of the first system cannot meet the positive clauses of the second (lines 4 and 5)"),
     ("reason 3", "entails\nfree a\n\nthen\na is  not o",
@@ -36,9 +37,11 @@ QUESTIONS = [
     ("names that the answer's lines have too", "entails\nfree height answer reason\nheight is (*o)\nthen\nheight is not (*o)",
      "no: this solution of the first system cannot have 'height is not (*o)' (line 5)"),
     ("a long name", f"satisfiable\nfree {'n' * 255}", "yes: this is a solution"),
-    ("names that start alike", "satisfiable\nfree {0}first {0}second {0}third\n{0}first join {0}second is {0}third".format("the_share_of_the_"),
+    ("names that start alike",
+     "satisfiable\nfree {0}first {0}second {0}third\n{0}first join {0}second is {0}third".format("the_share_of_the_"),
      "yes: this is a solution"),
-    ("twelve long names in capitals", f"satisfiable\nfree {' '.join('W' * 254 + sign for sign in 'ABCDEFGHIJKL')}", "yes: this is a solution"),
+    ("twelve long names in capitals", f"satisfiable\nfree {' '.join('W' * 254 + sign for sign in 'ABCDEFGHIJKL')}",
+     "yes: this is a solution"),
     ("a long clause", "entails\nfree {0}\nthen\n{0} is not {0}".format("M" * 255),
      "no: this solution of the first system cannot have '{0} is not {0}' (line 4)".format("M" * 255)),
     ("joins inside", "satisfiable\nfree a b c\na join b join c is *\na is not o\nb is not o\nc is not o", "yes: this is a solution"),
@@ -61,7 +64,8 @@ def inside(root, element):
 
 def text_width(element):
     """About how wide a line of text is, and from where to where it goes: from a place on, or with it as its middle."""
-    letters = [0.61 if element.get("font-family") == "monospace" else 0.99 if sign in "MW" else 0.53 for sign in element.text]
+    monospace = element.get("font-family") == "monospace"
+    letters = [0.61 if monospace else 0.99 if sign in "MW" else 0.53 for sign in element.text]
     wide, at = float(element.get("font-size")) * sum(letters), float(element.get("x"))
     return (at, at + wide) if element.get("font-size") == "15" else (at - wide / 2, at + wide / 2)
 
@@ -81,8 +85,8 @@ def halves(tree):
 
 
 def drawn_parts(tree, levels=99, way=None, path=""):
-    """The parts of a tree text that are drawn as one square, from their places, which are paths of left and right: leaves, and what lies below so
-    many levels, but for where a way leads."""
+    """The parts of a tree text that are drawn as one square, from their places, which are paths of left and right:
+    leaves, and what lies below so many levels, but for where a way leads."""
     on_way = way is not None and way.startswith(path)
     if len(tree) == 1 or (len(path) >= levels and not on_way):
         return {path: tree}
@@ -100,13 +104,15 @@ def squares(group):
     shapes = [shape for shape in group.iter() if shape.tag in (f"{SVG}rect", f"{SVG}path")]
     for shape, after in zip(shapes, shapes[1:] + [None]):
         if shape.tag == f"{SVG}rect":
-            high = re.search(r"v([\d.]+)", after.get("d"))[1] if shape.get("fill") == MIXED else None
-            yield shape, float(high) / float(shape.get("height")) if high else {FULL: 1.0, EMPTY: 0.0}[shape.get("fill")]
+            fill, high = shape.get("fill"), float(shape.get("height"))
+            part = float(re.search(r"v([\d.]+)", after.get("d"))[1]) / high if fill == MIXED else None
+            yield shape, {FULL: 1.0, EMPTY: 0.0, MIXED: part}[fill]
 
 
 def tree_groups(root):
     """The groups of a picture that are trees, by their titles."""
-    return {group.find(f"{SVG}title").text: group for group in root.iter(f"{SVG}g") if group.find(f"{SVG}title") is not None}
+    titled = [(group.find(f"{SVG}title"), group) for group in root.iter(f"{SVG}g")]
+    return {title.text: group for title, group in titled if title is not None}
 
 
 def no_spaces(texts):
@@ -114,8 +120,9 @@ def no_spaces(texts):
 
 
 def check_picture(name, svg, shown, *said, way=None):
-    """A picture of shown trees: well formed, not too wide, all within its frame, each leaf once, nothing on top of something else, no name and no
-    text cut. Where it says so, trees are drawn to so many levels, and further on a way."""
+    """A picture of shown trees: well formed, not too wide, all within its frame, each leaf once, nothing on top of
+    something else, no name and no text cut. Where it says so, trees are drawn to so many levels, and further on a
+    way."""
     root = ElementTree.fromstring(svg)
     levels = int((re.search(r"drawn to (\d+) levels", said[-1]) or [0, 99])[1])
     check(f"{name}: title", root.find(f"{SVG}title").text, ", ".join(["; ".join(said)] + [f"{variable} {tree}" for variable, tree in shown.items()]))
@@ -126,16 +133,21 @@ def check_picture(name, svg, shown, *said, way=None):
     check(f"{name}: all within the frame", [element.attrib for element in root.iter() if not inside(root, element)], [])
     wide = float(root.get("width"))
     check(f"{name}: not too wide", wide <= WIDEST, True)
-    check(f"{name}: no text leaves the frame", [text.text for text in sentences + labels if not 0 <= text_width(text)[0] <= text_width(text)[1] <= wide], [])
+    ends = [(text.text, *text_width(text)) for text in sentences + labels]
+    check(f"{name}: no text leaves the frame", [text for text, left, right in ends if left < 0 or right > wide], [])
     check(f"{name}: each tree", list(drawn), [f"{variable} {tree}" for variable, tree in shown.items()])
     places, rows = {}, {}
     for (variable, tree), group in zip(shown.items(), drawn.values()):
         due, found = drawn_parts(tree, levels, way), list(squares(group))
-        check(f"{name}: the leaves of {tree}", [round(full, 3) for _, full in found], [round(fullness(part), 3) for part in due.values()])
-        check(f"{name}: no leaf of {tree} is on another", any(overlap(one, other) for (one, _), (other, _) in combinations(found, 2)), False)
+        full = [round(fullness(part), 3) for part in due.values()]
+        check(f"{name}: the leaves of {tree}", [round(part, 3) for _, part in found], full)
+        covered = any(overlap(one, other) for (one, _), (other, _) in combinations(found, 2))
+        check(f"{name}: no leaf of {tree} is on another", covered, False)
         under = list(group.iter(f"{SVG}text"))
-        named, written = ([text.text for text in under if (text.get("font-family") == "monospace") == mono] for mono in (False, True))
-        check(f"{name}: the name {variable} and its text are whole", (no_spaces(named), "".join(written)), (no_spaces(variable), tree))
+        written = [text for text in under if text.get("font-family") == "monospace"]
+        named = [text for text in under if text not in written]
+        whole = no_spaces(text.text for text in named), "".join(text.text for text in written)
+        check(f"{name}: the name {variable} and its text are whole", whole, (no_spaces(variable), tree))
         for path, (leaf, _) in zip(due, found):
             middle = float(leaf.get("x")) + float(leaf.get("width")) / 2
             places.setdefault(path, set()).add(round(middle - float(under[0].get("x")), 1))
@@ -160,7 +172,8 @@ def marked(svg, levels=99, way=None):
     found = {}
     for title, group in tree_groups(ElementTree.fromstring(svg)).items():
         name, tree = title.rsplit(" ", 1)
-        found[name] = [path for path, (leaf, _) in zip(drawn_parts(tree, levels, way), squares(group)) if leaf.get("stroke")]
+        drawn = zip(drawn_parts(tree, levels, way), squares(group))
+        found[name] = [path for path, (leaf, _) in drawn if leaf.get("stroke")]
     return found
 
 
@@ -211,13 +224,14 @@ def test_judged_pictures():
     check("no picture of rows in error", judged(PARTS, "a o", "--svg"), (2, b"", "-:1:4: no row for b, c: a line for each is due before the text ends\n"))
 
 
-COARSER = "the trees are too wide to be drawn whole: they are drawn to {} levels{}; a grey square is a part that is split further, filled with blue " \
-    "as far as it is full"
+COARSER = "the trees are too wide to be drawn whole: they are drawn to {} levels{}; a grey square is a part that is " \
+    "split further, filled with blue as far as it is full"
 ON_THE_WAY = " and, on the way to the leaf with the red outline, to their end"
 BOTH = "satisfiable\nfree a b\na join b is *"
 ALTERNATING = [write_tree((1 << 1024) // 3 * one, 10) for one in (1, 2)]
 RANDOM = Random(41).getrandbits(1024) & ~(1 << 700)
-# Rows for BOTH that are too wide to be drawn whole: what is said, to how many levels they are drawn, and the number of the leaf that is marked.
+# Rows for BOTH that are too wide to be drawn whole: what is said, to how many levels they are drawn, and the number of
+# the leaf that is marked.
 WIDE = [
     ("alternating", ALTERNATING, [ACCEPTED], 7, None),
     ("161 leaves", [balanced(161), "o"], None, 7, 0),
@@ -228,9 +242,10 @@ WIDE = [
 
 
 def test_wide_pictures():
-    """Trees with many leaves are drawn coarser, so that a picture stays as wide as can be looked at; the way to a leaf that is marked is kept."""
+    """Trees with many leaves are drawn coarser, so that a picture stays as wide as can be looked at; the way to a leaf
+    that is marked is kept."""
     for name, trees, said, levels, leaf in WIDE:
-        status, svg, errors = judged(BOTH, "".join(f"{variable} {tree}\n" for variable, tree in zip("ab", trees)), "--svg")
+        status, svg, errors = judged(BOTH, "a {}\nb {}\n".format(*trees), "--svg")
         title = ElementTree.fromstring(svg).find(f"{SVG}title").text
         way = None if leaf is None else f"{leaf:010b}".replace("0", "l").replace("1", "r")
         coarse = COARSER.format(levels, "" if way is None else ON_THE_WAY)
@@ -238,7 +253,8 @@ def test_wide_pictures():
         said = said or title.split(f"; {coarse}")[0].split("; ")
         check(f"{name}, wide: status", (status, errors), (int(not said[0].startswith("accepted")), ""))
         check_picture(f"{name}, wide", svg, shown, *said, coarse, way=way)
-        due = {word: [path for path in drawn_parts(tree, levels, way) if way and way.startswith(path)] for word, tree in shown.items()}
+        places = {word: drawn_parts(tree, levels, way) for word, tree in shown.items()}
+        due = {word: [path for path in paths if way and way.startswith(path)] for word, paths in places.items()}
         check(f"{name}, wide: the leaf that is marked", marked(svg, levels, way), due)
     svg = judged("satisfiable\nfree a", f"a {balanced(160)}", "--svg")[1]
     check_picture("160 leaves", svg, {"a": balanced(160)}, ACCEPTED)
@@ -252,4 +268,5 @@ def test_stored_picture():
     check("ask draws it too", process("ask", "--svg", example), (1, stored, ""))
     solution = json.loads(process("ask", "--json", example)[1])["solution"]
     check_picture("the stored picture", stored, solution,
-                  "no: this solution of the first system cannot have 'spare is not o' (line 13) beside 'list join spare is sum' (line 12)")
+                  "no: this solution of the first system cannot have 'spare is not o' (line 13) beside "
+                  "'list join spare is sum' (line 12)")
