@@ -19,6 +19,19 @@ MEANINGS = {
 }
 
 
+def cited(line):
+    """A clause as it stands in the text, with its line."""
+    return f"'{line}' (line {line.number})"
+
+
+def together(lines):
+    """The positive clauses of the second system, which stand in these lines."""
+    if len(lines) == 1:
+        return cited(lines[0])
+    *numbers, last = [str(line.number) for line in lines]
+    return f"the positive clauses of the second (lines {', '.join(numbers)} and {last})"
+
+
 class Answer:
     """A verdict. With a shown solution its height and a tree text for each free variable, of an entailment the reason, and for
     reason 3 the disequation number; what there is not is None."""
@@ -34,16 +47,39 @@ class Answer:
         """The shown trees by name; variables without a name are left out."""
         return {name: tree for name, tree in zip(names, self.trees) if name}
 
-    def lines(self, names=None):
-        """The lines of docs/SPEC.md, 9.2; with names, these in place of v00 and so on."""
+    def shown(self, names):
+        """The lines of docs/SPEC.md, 9.2, but for the reason, with these names for v00 and so on."""
         lines = [f"answer {self.verdict}"]
         if self.height is not None:
-            names = names or [f"v{number:02}" for number in range(len(self.trees))]
             lines.append(f"height {self.height}")
             lines += [f"{name} {tree}" for name, tree in self.named(names).items()]
+        return lines
+
+    def lines(self):
+        """The lines of docs/SPEC.md, 9.2."""
+        lines = self.shown([f"v{number:02}" for number in range(len(self.trees))])
         if self.reason is not None:
             lines.append(f"reason {self.reason}" + ("" if self.disequation is None else f" {self.disequation}"))
         return lines
+
+    def told(self, asked):
+        """The same lines with the text's own names, and the reason in words."""
+        return self.shown(asked.names) + ([] if self.reason is None else [f"reason: {self.words(asked)}"])
+
+    def words(self, asked):
+        """What the answer says, in words, beside the solution that is shown."""
+        if asked.question.kind == 0:
+            return "this is a solution" if self.verdict == "yes" else "there is no solution"
+        if self.reason == 0:
+            return "every solution of the first system extends to the second"
+        if self.reason == 1:
+            return "the first system has no solution"
+        if self.reason == 2:
+            return f"this solution of the first system cannot meet {together(asked.second_lines())}"
+        missed = asked.disequation(self.disequation)
+        positive = [line for line in asked.second_lines() if line is not missed]  # a line with joins inside has both
+        beside = f" beside {together(positive)}" if positive else ""
+        return f"this solution of the first system cannot have {cited(missed)}{beside}"
 
     def has_its_solution(self, question):
         """Whether a solution is shown exactly where one is due, with a tree for each free variable, none of them taller than said."""

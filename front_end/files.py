@@ -3,9 +3,12 @@
 import argparse
 import contextlib
 import os
+import re
 import signal
 import sys
+from pathlib import Path
 
+HEADER = Path(__file__).resolve().parent.parent / "include" / "zimorgal.h"
 FAULT, LOST = 2, 3  # how a command ends: an error, and output that could not be written
 MOST_BYTES = 1 << 20  # of a file that is read
 LONG_WORD, LONG_NAME = 40, 300  # how many characters of a word, and of a file's name, a message has
@@ -85,7 +88,8 @@ def write_all(stream, string):
 
 
 def put(string):
-    """Writes a byte string to standard output, at once and whole, or stops."""
+    """Writes a byte string to standard output, at once and whole, or stops: with a message, unless whoever reads it
+    wants no more, as 'head' does."""
     try:
         if sys.stdout is None:
             raise OSError(None, "it is closed")
@@ -93,6 +97,8 @@ def put(string):
     except OSError as error:
         if sys.stdout is not None:
             forget(sys.stdout)
+        if isinstance(error, BrokenPipeError):
+            sys.exit(LOST)
         stop(LOST, f"standard output: it could not be written: {reason(error)}")
 
 
@@ -121,6 +127,24 @@ def read_file(name):
     return string
 
 
+def version():
+    """The version, from the header, where it stands alone."""
+    try:
+        header = HEADER.read_text()
+    except OSError as error:
+        stop(FAULT, f"include/{HEADER.name}, which has the version, could not be read: {reason(error)}")
+    define = r"^#define ZIMORGAL_VERSION_{} (\d+)$"
+    return ".".join(re.search(define.format(part), header, re.M)[1] for part in ("MAJOR", "MINOR", "PATCH"))
+
+
+class Version(argparse.Action):
+    """Prints the version, like any other output, and ends."""
+
+    def __call__(self, parser, *_):
+        put_line(f"{parser.prog} {version()}")
+        sys.exit(0)
+
+
 def help_layout(prog):
     return argparse.RawDescriptionHelpFormatter(prog, width=140)
 
@@ -130,6 +154,7 @@ class Arguments(argparse.ArgumentParser):
 
     def __init__(self, prog, description, epilog):
         super().__init__(prog=prog, description=description, epilog=epilog, allow_abbrev=False, formatter_class=help_layout)
+        self.add_argument("--version", action=Version, nargs=0, help="print the version and end")
 
     def print_help(self, file=None):
         put(self.format_help().encode())

@@ -39,10 +39,6 @@ class Judgement:
         """What it says, in words."""
         return self.broken.sentences() if self.broken else [f"{self.word}: {self.meaning()}"]
 
-    def told(self):
-        """The lines with the text's own clause, or with what it means."""
-        return self.word if self.word == "accepted" else "\n".join(self.sentences())
-
     def shown(self):
         """The tree text of each named free variable and, behind them, of each other share of the broken clause."""
         trees = {name: write_tree(row, TALLEST_ROW) for name, row in zip(self.asked.names, self.rows) if name}

@@ -11,16 +11,16 @@ WORD = re.compile(r"=|[^\s=]+")
 NAME = re.compile(r"[A-Za-z_][A-Za-z_0-9]*")
 NAME_DUE = "a name (letters a to z, digits and '_', no digit first)"
 
-# Characters that no text has, because an editor may show it otherwise than it is read: a clause on a line of its own that is in a comment.
-# And characters that it has in comments alone. With what is said of them; {} is the character's number.
+# Characters that no text has, because an editor or a terminal may show it otherwise than it is read: a clause on a
+# line of its own that is in a comment, a line that is wiped out. And characters that it has in comments alone. With
+# what is said of them; {} is the character's number.
 HIDING = {
     "\r\v\f\x1c\x1d\x1e\x85\u2028\u2029": "a line break ({}) stands here that is no line feed: end each line with a line feed",
     "\u202a\u202b\u202c\u202d\u202e\u2066\u2067\u2068\u2069": "a character ({}) stands here that turns the order of what is shown: remove it",
-}
-STRANGE = {
     "\0": "a byte 00 stands here, so this is no UTF-8: save the text as UTF-8",
-    "\ufeff": "a byte order mark stands here: it may only be the start of the file, so remove it",
+    "\x01-\x08\x0e-\x1b\x1f\x7f-\x84\x86-\x9f": "a control character ({}) stands here: remove it",
 }
+STRANGE = {"\ufeff": "a byte order mark stands here: it may only be the start of the file, so remove it"}
 
 
 class TextFault(Trouble):
@@ -28,11 +28,11 @@ class TextFault(Trouble):
 
 
 def refuse(signs, text, number):
-    """Raises a fault if a line has one of some characters."""
-    for group, what in signs.items():
-        found = re.search(f"[{group}]", text)
-        if found:
-            raise TextFault(what.format(f"U+{ord(found.group()):04X}"), number, found.start() + 1)
+    """Raises a fault at the first of some characters that a line has."""
+    found = re.search(f"[{''.join(signs)}]", text)
+    if found:
+        what = next(what for group, what in signs.items() if re.match(f"[{group}]", found.group()))
+        raise TextFault(what.format(f"U+{ord(found.group()):04X}"), number, found.start() + 1)
 
 
 def code_lines(text):
@@ -128,13 +128,15 @@ class Line:
         word = self.peek()
         if re.fullmatch(r"[0-9][A-Za-z_0-9]*", word):
             return self.fault(f"{quote(word)} starts with a digit, and a name does not: write {quote('_' + word)}, for example")
-        if word.endswith((",", ";")) and NAME.fullmatch(word[:-1]):
-            return self.fault(f"names are parted by spaces: write {quote(word[:-1])} for {quote(word)}")
+        parts = [part for part in re.split("[,;]", word) if part]
+        if parts and parts != [word] and all(map(NAME.fullmatch, parts)):
+            return self.fault(f"names are parted by spaces: write {quote(' '.join(parts))} for {quote(word)}")
         return self.due(due)
 
     def finish(self):
         if self.peek():
-            raise self.due("the end of the line")
+            alone = self.peek() in ("if", "then")
+            raise self.due("the end of the line", ": it stands on a line of its own" if alone else "")
 
     @contextmanager
     def here(self):

@@ -11,14 +11,15 @@ from front_end.trees import TALLEST_ROW, unfold
 ROW_BYTES = (1 << TALLEST_ROW) // 8
 ROWS_BYTES = MOST_VARIABLES * ROW_BYTES
 # The lines of an answer that are no rows.
-PASSED_OVER = re.compile(r"answer (yes|no)|height \d{1,2}|reason \d( \d{1,2})?", re.ASCII)
+PASSED_OVER = re.compile(r"answer (yes|no)|height \d{1,2}|reason \d( \d{1,2})?|reason: [^=]+", re.ASCII)
 IN_BYTES = ("these are rows in bytes, and no text: the judging program reads them, and behind them what './ask --bytes FILE' writes "
             "(joins inside a clause of the first system have rows too)")
 
 FORM = """Rows to be judged, with --judge: one free variable a line, by the question's names, each once; '#' starts a comment.
 
     writer = (*o)                  a share, as tree text, at most 10 pairs one in the other
-    reader (o(*o))                 '=' may be left out, and lines 'answer ..', 'height ..' and 'reason ..' are passed over: an answer can be pasted
+    reader (o(*o))                 '=' may be left out, and lines 'answer ..', 'height ..', 'reason ..' and
+                                   'reason: ..' are passed over: an answer can be pasted
     rest = L join (o(*o))          trees and constants of the question may be joined; an error if the join is undefined
 """
 

@@ -1,7 +1,7 @@
 """Questions as readable text, both ways."""
 
 from front_end.files import LONG_NAME, LONG_WORD, quote, shown
-from front_end.lines import NAME, NAME_DUE, Line, TextFault, word_lines
+from front_end.lines import NAME, NAME_DUE, Line, TextFault, text_end, word_lines
 from front_end.question import (CLAUSES, COMMANDS, CONSTANTS, EQUAL, JOIN, MAY_READ, MAY_WRITE, MOST_VARIABLES, NO_JOIN, UNEQUAL, WITH, Fault,
                                 Question)
 from front_end.trees import TALLEST, join, write_tree
@@ -9,6 +9,7 @@ from front_end.trees import TALLEST, join, write_tree
 LONGEST = 255  # characters of a name
 KINDS = ["satisfiable", "entails"]
 KEPT = KINDS + ["free", "own", "let", "if", "then", "not", "join", "is", "o"]
+STARTS = KINDS + ["free", "own", "let", "if", "then"]  # the words that a line starts with, if it is no clause
 RESERVED = f"{', '.join(KEPT[:-1])} and {KEPT[-1]}"
 
 NOT_INSIDE = ("a negated clause has one join, 'not a join b is c': give the join inside it a variable of its own, as in 'a join b is t' and "
@@ -16,7 +17,13 @@ NOT_INSIDE = ("a negated clause has one join, 'not a join b is c': give the join
 NOT_WITH = ("that shares may not be held together cannot be said as one clause: give their common part a variable of its own, as in "
             "'p join q is a', 'p join r is b' and 'p may read'")
 TWICE = "two negations: write '{}'"
+NO_SECOND = ("'entails' needs a second system: write a line 'then', and below it the clauses that are to follow from "
+             "those above")
 NO_SHARE = "'{}' is no share: write 'o' for the empty one, '*' for the full one"
+NO_SHARES = ("0", "1", "empty", "full")  # they are taken for shares
+
+# What other languages have where a clause has its verb, and what is written for it.
+VERBS = {"=": "'is' for it", "!": "'is not' for '!='", "+": "'join' for it", "can": "'may' for it"}
 
 # What is due where a share is, and how a name comes to be one; the same for a share that a 'let' joins.
 SHARE_DUE = "a name or a tree", "a line 'free {}' before the first clause makes it a variable"
@@ -43,7 +50,7 @@ FORM = f"""The text: one thing a line; '#' starts a comment.
     reader may read                it is not empty
     writer with reader             they may be held together: their join is defined
     a join b with c                joins inside 'may' and 'with': all are defined; each counts as a variable more
-    then                           from here on: the second system
+    then                           from here on: the second system; 'entails' needs this line
     if                             from here on: the first system again
 
 A name is letters a to z, small or capital, digits and '_', with no digit first; {RESERVED}
@@ -95,11 +102,17 @@ def granted(line, right):
 
 def no_share(line, word, due):
     """The fault of a word that cannot be the name of a share, where something is due; None if it can be."""
-    if word in ("0", "1"):
+    if word in NO_SHARES:
         return line.fault(NO_SHARE.format(word))
     if not NAME.fullmatch(word) or word in KEPT:
         return line.no_name(due)
     return None
+
+
+def meant(word):
+    """The word that a line was to start with, where it is written large or with a ':' behind it; None for any other."""
+    small = word.rstrip(":").lower()
+    return small if small in STARTS and small != word else None
 
 
 def read_constant(line, constants, no_constant, tallest):
@@ -143,13 +156,18 @@ class TextReader:
         self.lets = {}  # the constants that have names
         self.lines = {}  # where each name was defined
         self.second = False  # whether the next clause is one of the second system
+        self.has_second = False  # whether a line starts that system
 
     def read(self, line):
         word = line.peek()
+        if meant(word) and word not in self.lines and (self.question or meant(word) in KINDS):
+            raise line.fault(f"write '{meant(word)}' for {quote(word)}")
         if self.question is None:
             self.read_kind(line)
         elif word in KINDS:
-            raise line.fault("the kind of question stands in the first line alone: a file asks one question")
+            second = self.question.kind == 1 and not self.has_second and self.question.clauses
+            cure = "before the second system write 'then'" if second else "a file asks one question"
+            raise line.fault(f"the kind of question stands in the first line alone: {cure}")
         elif word in ("free", "own", "let"):
             if self.question.clauses:
                 raise line.fault(f"'{word}' must stand before the first clause")
@@ -220,6 +238,7 @@ class TextReader:
         if line.peek() == "then":
             self.need_entails(line, "a second system needs")
         self.second = line.take("the system") == "then"
+        self.has_second = self.has_second or self.second
 
     def read_clause(self, line):
         """A clause. The word behind its first shares says of which sort it is."""
@@ -287,7 +306,8 @@ class TextReader:
 
     def expect_is(self, line, negated):
         if not line.skip("is"):
-            raise line.due("'is'" if negated else "'join', 'is', 'may' or 'with'", ": write 'is' for it" if line.peek() == "=" else "")
+            hint = f": write {VERBS[line.peek()]}" if line.peek() in VERBS else ""
+            raise line.due("'is'" if negated else "'join', 'is', 'may' or 'with'", hint)
 
     def read_join(self, line, most=None):
         """Takes shares with 'join' between them; of a negated clause not more than so many."""
@@ -414,6 +434,11 @@ class Asked:
         """The line of a disequation of the second system."""
         return self.clauses[self.question.alike(second=True, disequation=True)[number]]
 
+    def second_lines(self):
+        """The lines with positive clauses of the second system, each once."""
+        numbers = self.question.alike(second=True, disequation=False)
+        return list(dict.fromkeys(self.clauses[number] for number in numbers))
+
     def first_system(self):
         """The clauses of the first system as they stand in bytes, each with its line before it: one with joins inside stands there for each."""
         return [(line, *clause) for line, clause in zip(self.clauses, self.question.clauses) if not CLAUSES[clause[0]].second]
@@ -442,6 +467,8 @@ def read_text(text):
         reader.read(line)
     if reader.question is None:
         raise TextFault("the text asks nothing: 'satisfiable' or 'entails' is due in its first line", 1, 1)
+    if reader.question.kind == 1 and not reader.has_second:
+        raise TextFault(NO_SECOND, *text_end(text))
     return Asked(reader.question, reader.names(), reader.clauses, reader.named_constants(), reader.words)
 
 
@@ -476,4 +503,6 @@ def write_text(question):
             second = not second
             lines.append("then" if second else "if")
         lines.append(sort.words.format(*(constants[term - CONSTANTS] if term >= CONSTANTS else variables[term] for term in terms)))
+    if question.kind == 1 and "then" not in lines:
+        lines.append("then")
     return "".join(line + "\n" for line in lines)

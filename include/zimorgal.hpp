@@ -891,6 +891,7 @@ class QuestionText : public detail::PutText<most_question_text> {
         for (std::size_t number = 0; number < question.constants(); ++number, at += 5) put_constant(number, at + 1);
         System system = System::first;
         while (*at != 0x00) at = put_line(at, system);
+        if (question.kind() == Kind::entailment && question.clauses(System::second) == 0) put("then\n");
     }
 
   private:

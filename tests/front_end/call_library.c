@@ -1,6 +1,6 @@
 /* Calls the library for what stands on standard input, and prints what each call gives, in hexadecimal, on a line: for
    a text, written as its length, a colon and its bytes, zimorgal_constant; for 'a+b', two numbers, zimorgal_join; for
-   'a&b:' and the bytes of a question of length a and of rows of length b, zimorgal_judge. */
+   'a&b:' and the bytes of a question of length a and of rows of length b, zimorgal_judge; for '0?' zimorgal_version. */
 #include <inttypes.h>
 #include <stdio.h>
 
@@ -22,6 +22,8 @@ static int call(uint32_t number, char sign, uint64_t *given) {
     } else if (sign == '+') {
         if (scanf("%" SCNu32, &other) != 1) return 0;
         *given = zimorgal_join(number, other);
+    } else if (sign == '?') {
+        *given = zimorgal_version();
     } else {
         if (sign != '&' || scanf("%" SCNu32 "%c", &other, &sign) != 2 || sign != ':') return 0;
         if (!take(text, number) || !take(rows, other)) return 0;

@@ -16,7 +16,8 @@ LONG_TREE = "(o" * 32 + "{}" + ")" * 32
 # A text, and its bytes in hexadecimal.
 BYTES = [
     ("satisfiable", "01 00 00 00 00"),
-    ("entails", "01 01 00 00 00"),
+    ("entails\nthen", "01 01 00 00 00"),
+    ("entails\nfree a\nthen\nif\na is a # the second system has no clause", "01 01 01 00 12 00 00 00"),
     ("satisfiable\r\nfree a # b\r\n\r\na is a\r", "01 00 01 00 12 00 00 00"),
     # A byte order mark at the start, and bytes that are no UTF-8 in a comment.
     ("\ufeffsatisfiable\nfree a", "01 00 01 00 00"),
@@ -42,6 +43,9 @@ BYTES = [
      f"01 00 02 00 {LEFT} {EMPTY} 30 00 31 01 32 01 00 30 20 32 21 01 13 00 01 00"),
     ("satisfiable\nfree may with write\nmay join with is write\nnot with join may is with\nmay join with with with join may",
      "01 00 05 00 10 00 01 02 11 01 00 01 10 00 01 03 10 01 00 04 32 03 04 00"),
+    # Names that are written like such words, large, or like shares.
+    ("satisfiable\nfree Then full empty IF\nThen is full\nempty join IF is Then",
+     "01 00 04 00 12 00 01 10 02 03 00 00"),
     # Own variables come after all free ones, in whatever order the lines stand.
     ("entails\nown x\nfree a\nown y\nfree b\nthen\nx join y is b", "01 01 02 02 20 02 03 01 00"),
     # The systems alternate.
@@ -98,6 +102,9 @@ NOT_WITH = "that shares may not be held together cannot be said as one clause: g
 OF_A_JOIN = "give the join a variable of its own, as in 'a join b is t', and write"
 TWICE = "two negations: write"
 TOO_LONG = "no tree text: it is too long: a folded tree with at most 5 pairs one in the other has at most 94 characters"
+NO_SECOND = "'entails' needs a second system: write a line 'then', and below it the clauses that are to follow from " \
+    "those above"
+CONTROL = "a control character (U+{}) stands here: remove it"
 VERBS = "'join', 'is', 'may' or 'with'"
 CLAUSE = "satisfiable\nfree a b c\n"
 
@@ -283,7 +290,28 @@ FAULTS = [
     (CLAUSE + "c is not  a join b", "3:13: a join stands before 'is': write 'not a join b is c'"),
     (CLAUSE + "(*o) is a join", "3:11: a join stands before 'is': write 'a join b is c'"),
     (CLAUSE + "a join b is not c", "3:13: the negation of a join is written 'not a join b is c'"),
+    # Slips of whoever writes a first text.
+    ("Satisfiable\nfree a", "1:1: write 'satisfiable' for 'Satisfiable'"),
+    ("entails:\nfree a", "1:1: write 'entails' for 'entails:'"),
+    ("Free a", "1:1: 'satisfiable' or 'entails' is due here, not 'Free'"),
+    ("satisfiable\nFREE a", "2:1: write 'free' for 'FREE'"),
+    ("entails\nfree a\na is *\nthen:\na is not o", "4:1: write 'then' for 'then:'"),
+    ("entails\nfree a\na is *\nentails\na is not o",
+     "4:1: the kind of question stands in the first line alone: before the second system write 'then'"),
+    ("entails\nfree a\na is * then a is not o",
+     "3:8: the end of the line is due here, not 'then': it stands on a line of its own"),
+    ("satisfiable\nfree a,b", "2:6: names are parted by spaces: write 'a b' for 'a,b'"),
+    ("satisfiable\nfree a;b,", "2:6: names are parted by spaces: write 'a b' for 'a;b,'"),
+    ("satisfiable\nfree a,7", f"2:6: {NAME} is due here, not 'a,7'"),
+    (CLAUSE + "a is full", "3:6: 'full' is no share: write 'o' for the empty one, '*' for the full one"),
+    (CLAUSE + "a is not empty", "3:10: 'empty' is no share: write 'o' for the empty one, '*' for the full one"),
+    (CLAUSE + "a + b is c", f"3:3: {VERBS} is due here, not '+': write 'join' for it"),
+    (CLAUSE + "a != b", f"3:3: {VERBS} is due here, not '!': write 'is not' for '!='"),
+    (CLAUSE + "a can write", f"3:3: {VERBS} is due here, not 'can': write 'may' for it"),
     # Order, and the two systems.
+    ("entails", f"1:8: {NO_SECOND}"),
+    ("entails\nfree a\na is *", f"3:7: {NO_SECOND}"),
+    ("entails\nfree a\nown b\nif\na is * # then\n\n", f"7:1: {NO_SECOND}"),
     (CLAUSE + "a is b\nfree d", "4:1: 'free' must stand before the first clause"),
     (CLAUSE + "a is b\nown d", "4:1: 'own' must stand before the first clause"),
     (CLAUSE + "a is b\nlet L = o", "4:1: 'let' must stand before the first clause"),
@@ -300,6 +328,18 @@ FAULTS = [
     ("satisfiable\nfree a\u2028a is not o", "2:7: a line break (U+2028) stands here that is no line feed: end each line with a line feed"),
     ("satisfiable\x0cfree a", "1:12: a line break (U+000C) stands here that is no line feed: end each line with a line feed"),
     ("satisfiable\nfree a\na is o #\u202e", "3:9: a character (U+202E) stands here that turns the order of what is shown: remove it"),
+    # Control characters, in comments too: a terminal obeys some of them. A tab is none of these.
+    ("satisfiable\nfree a\t#\ta\na is o # \x1b[1A\x1b[2K", f"3:10: {CONTROL.format('001B')}"),
+    ("satisfiable\nfree a\na is o # not \b\b\b\b", f"3:14: {CONTROL.format('0008')}"),
+    ("satisfiable # \x07", f"1:15: {CONTROL.format('0007')}"),
+    ("satisfiable\n# \x7f", f"2:3: {CONTROL.format('007F')}"),
+    ("satisfiable\n# \x9b1A", f"2:3: {CONTROL.format('009B')}"),
+    ("satisfiable\nfree \x1b", f"2:6: {CONTROL.format('001B')}"),
+    ("satisfiable # \0", "1:15: a byte 00 stands here, so this is no UTF-8: save the text as UTF-8"),
+    # Of several the first.
+    ("satisfiable # \u202e \x1b \r \0",
+     "1:15: a character (U+202E) stands here that turns the order of what is shown: remove it"),
+    ("satisfiable # \x1b \u202e", f"1:15: {CONTROL.format('001B')}"),
     ("satisfiable # \u2066\nfree 7", "1:15: a character (U+2066) stands here that turns the order of what is shown: remove it"),
     # No text.
     ("\ufeffsatisfiable\nfree 7", "2:6: '7' starts with a digit, and a name does not: write '_7', for example"),
@@ -346,9 +386,10 @@ def clauses(count, clause):
 # Texts at the edge of a limit; a line more than each is refused so.
 EDGES = [
     ("12 free variables", lines("satisfiable", f"free {names(12)}"), "free more", "3:6: 13 variables: there may be 12, free and own together"),
-    ("12 own variables", lines("entails", f"own {names(12)}"), "own more", "3:5: 13 variables: there may be 12, free and own together"),
-    ("7 and 5 variables", lines("entails", f"free {names(7)}", f"own {names(4, 'w')}"), "own last more",
-     "4:10: 13 variables: there may be 12, free and own together"),
+    ("12 own variables", lines("entails", "then", f"own {names(12)}"), "own more",
+     "4:5: 13 variables: there may be 12, free and own together"),
+    ("7 and 5 variables", lines("entails", "then", f"free {names(7)}", f"own {names(4, 'w')}"), "own last more",
+     "5:10: 13 variables: there may be 12, free and own together"),
     ("12 variables with those of joins", lines("satisfiable", f"free {names(10)}", "v0 join v1 join v2 join v3 is v4"), "v1 join v2 is v3 join v4",
      "4:1: the joins inside this clause need 1 variable more, which makes 13: there may be 12, free and own together"),
     ("12 variables with those of the second", lines("entails", f"own {names(11)}", "then", "v0 join v1 join v2 is v3"), " v1 join v2 join o is v3 join v4",
@@ -443,7 +484,10 @@ REFUSED = [
 # Bytes, and the text that explains them.
 EXPLAINED = [
     ("01 00 00 00 00", ["satisfiable"]),
-    ("01 01 01 02 00", ["entails", "free v00", "own v01 v02"]),
+    # An entailment has its line 'then', also without a clause of the second system.
+    ("01 01 00 00 00", ["entails", "then"]),
+    ("01 01 01 02 00", ["entails", "free v00", "own v01 v02", "then"]),
+    ("01 01 01 01 12 00 00 00", ["entails", "free v00", "own v01", "v00 is v00", "then"]),
     # Short constants that the clauses name in order are written where they stand.
     (f"01 00 01 00 {LEFT} {FULL} 10 00 20 21 00", ["satisfiable", "free v00", "v00 join (*o) is *"]),
     # Named before an earlier one, there twice, long, or not named: they have names, and so have all before them.

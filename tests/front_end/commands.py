@@ -7,16 +7,21 @@ import subprocess
 import time
 from pathlib import Path
 from threading import Timer
+from unittest import mock
 
 import cases
-from front_end.question import SORTS
-from harness import FOLDER, TOP, check, command, file, process, surroundings, wrong_program
+from front_end.question import SORTS, write_question
+from front_end.text import read_text
+from harness import FOLDER, TOP, check, command, file, library_version, process, program, surroundings, wrong_program
 
 YES = b"satisfiable\nfree a\na is (*o)\n"
 NO = b"entails\nfree left right\nown rest\nleft join right is *\nthen\n\nrest is not o\n  left   is not o# here\nrest is *\n"
 FAULTY = b"entails\nfree a a\n"
 YES_SAYS = b"answer yes\nheight 1\na (*o)\n"
-NO_SAYS = b"answer no\nheight 0\nleft o\nright *\nreason 3 1\n"
+NO_SHOWN = b"answer no\nheight 0\nleft o\nright *\n"
+NO_SAYS = NO_SHOWN + b"reason: this solution of the first system cannot have 'left is not o' (line 8) beside " \
+    b"'rest is *' (line 9)\n"
+NO_PLAIN = b"answer no\nheight 0\nv00 o\nv01 *\nreason 3 1\n"
 REPEATED = ":2:8: 'a' is defined already, in line 2\n"
 
 
@@ -25,13 +30,66 @@ def test_ask():
     check("ask, yes", process("ask", file("yes.shares", YES).name), (0, YES_SAYS, ""))
     check("ask, no", process("ask", file("no.shares", NO).name), (1, NO_SAYS, ""))
     check("ask, standard input", process("ask", "-", given=NO), (1, NO_SAYS, ""))
-    check("ask --plain", process("ask", "--plain", "no.shares"), (1, NO_SAYS.replace(b"left", b"v00").replace(b"right", b"v01"), ""))
+    check("ask --plain", process("ask", "--plain", "no.shares"), (1, NO_PLAIN, ""))
     check("ask, an error names the file", process("ask", file("faulty.shares", FAULTY).name), (2, b"", f"faulty.shares{REPEATED}"))
     check("ask, no such file", process("ask", "none.shares"), (2, b"", "none.shares: it could not be read: No such file or directory\n"))
     no_program = "-: the printing program no/program could not be run: No such file or directory ($ZIMORGAL_CLI names it)\n"
     check("no such program", process("ask", "-", given=NO, ZIMORGAL_CLI="no/program"), (2, b"", no_program))
     check("an error in the text comes first", process("ask", "-", given=FAULTY, ZIMORGAL_CLI="no/program"), (2, b"", f"-{REPEATED}"))
-    check("--bytes runs no program", process("ask", "--bytes", "-", given=b"entails", ZIMORGAL_CLI="no/program")[0], 0)
+    found = process("ask", "--bytes", "-", given=b"entails\nthen", ZIMORGAL_CLI="no/program")
+    check("--bytes runs no program", found[0], 0)
+
+
+# An entailment for each reason, and what the last line says of it, with the clauses as they stand in the text.
+REASONS = [
+    ("entails\nfree a\na is *\nthen\na is not o", "every solution of the first system extends to the second"),
+    ("entails\nfree a\na is *\nthen", "every solution of the first system extends to the second"),
+    ("entails\nfree a\na join a is *\nthen\na is o", "the first system has no solution"),
+    ("entails\nfree a\nthen\n\n  a   is * # full", "this solution of the first system cannot meet 'a is *' (line 5)"),
+    ("entails\nfree a b\nthen\na is *\nif\nb is o\nthen\nb is not *\nb join a is a\na may write",
+     "this solution of the first system cannot meet the positive clauses of the second (lines 4, 9 and 10)"),
+    ("entails\nfree a b c\nthen\na join b join c is *\na may read",
+     "this solution of the first system cannot meet 'a join b join c is *' (line 4)"),
+    ("entails\nfree a\nthen\na is not o", "this solution of the first system cannot have 'a is not o' (line 4)"),
+    ("entails\nfree a b\na is *\nthen\na is not o\nif\na is a\nthen\nb  is   not o # b",
+     "this solution of the first system cannot have 'b is not o' (line 9)"),
+    ("entails\nfree a\nown b\na may write\nthen\nb with a\nb may read",
+     "this solution of the first system cannot have 'b may read' (line 7) beside 'b with a' (line 6)"),
+    ("entails\nfree a b\na with b\nthen\na join b may read\na is a",
+     "this solution of the first system cannot have 'a join b may read' (line 5) beside 'a is a' (line 6)"),
+]
+
+
+def test_reasons():
+    """Why an entailment is answered so, in words with the clauses and their lines; --plain has the program's lines,
+    byte for byte. What is printed can be judged."""
+    for text, due in REASONS:
+        status, out, errors = command("ask", "-", given=text.encode())
+        *shown, last = out.decode().splitlines()
+        asked = read_text(text)
+        said = "".join(line + "\n" for line in program(write_question(asked.question)))
+        check(f"the reason for {text!r}", (status, last, errors), (int("answer no" in said), f"reason: {due}", ""))
+        check(f"--plain of {text!r}", command("ask", "--plain", "-", given=text.encode()), (status, said.encode(), ""))
+        named = {f"v{number:02}": name for number, name in enumerate(asked.names)}
+        plain = [line.split(" ") for line in said.splitlines()[:-1]]
+        lines = [" ".join([named.get(word[0], word[0]), *word[1:]]) for word in plain if named.get(word[0], word[0])]
+        check(f"the other lines for {text!r}", shown, lines)
+        if status == 1:
+            found = command("ask", "--judge", str(file("reason.shares", text)), "-", given=out)
+            said = found[0], found[1].split(b":")[0], found[2]
+            check(f"pasted, the answer to {text!r}", said, (0, b"accepted", ""))
+
+
+def test_version():
+    """The version is that of the header and of the library."""
+    number = library_version()
+    due = f"{number >> 16}.{number >> 8 & 255}.{number & 255}"
+    for name in ("ask", "explain", "docs/draw"):
+        check(f"{name} --version", process(name, "--version"), (0, f"{name} {due}\n".encode(), ""))
+        check(f"{name} --help has it", b"--version" in process(name, "--help")[1], True)
+    with mock.patch("front_end.files.HEADER", Path(FOLDER.name, "zimorgal.h")):
+        said = "include/zimorgal.h, which has the version, could not be read: No such file or directory\n"
+        check("no header", command("ask", "--version"), (2, b"", said))
 
 
 def test_arguments():
@@ -72,7 +130,8 @@ OBJECTS = [
     (b"satisfiable", 0, {"answer": "yes", "question": "satisfiable", "meaning": "satisfiable", "height": 0, "solution": {}}),
     (b"entails\nfree a\na is *\nthen\na is not o", 0,
      {"answer": "yes", "question": "entails", "reason": 0, "meaning": "the first system has a solution, and every one extends to the second"}),
-    (b"entails\n* is o", 0, {"answer": "yes", "question": "entails", "reason": 1, "meaning": "the first system has no solution"}),
+    (b"entails\n* is o\nthen", 0,
+     {"answer": "yes", "question": "entails", "reason": 1, "meaning": "the first system has no solution"}),
     (b"entails\nfree a\nthen\na is *", 1,
      {"answer": "no", "question": "entails", "reason": 2, "height": 0, "solution": {"a": "o"},
       "meaning": "some solution of the first cannot even meet the second's positive clauses"}),
@@ -85,7 +144,11 @@ OBJECTS = [
     (b"entails\nfree a\nown b\na may write\nthen\nb with a\n  b may   read # more", 1,
      {"answer": "no", "question": "entails", "reason": 3, "height": 0, "solution": {"a": "*"}, "disequation": {"number": 0, "line": 7, "text": "b may read"},
       "meaning": "the positive clauses can always be met; the disequation named is the lowest that some solution cannot have beside them"}),
-    (b"\x1b\xff", 2, {"error": {"line": 1, "column": 1, "message": "'satisfiable' or 'entails' is due here, not '\\x1b\\xff'"}}),
+    (b"\xa0\xff", 2,
+     {"error": {"line": 1, "column": 1, "message": "'satisfiable' or 'entails' is due here, not '\\xa0\\xff'"}}),
+    (b"entails \x1b\xff", 2,
+     {"error": {"line": 1, "column": 9, "message": "a control character (U+001B) stands here: remove it"}}),
+    (b"entails\n* is o", 2, {"error": {"line": 2, "column": 7, "message": cases.NO_SECOND}}),
 ]
 KEYS = ["file", "answer", "question", "reason", "meaning", "disequation", "height", "solution", "error"]
 

@@ -10,9 +10,11 @@ from commands import KEYS
 from front_end import judge
 from front_end.answer import MEANINGS
 from front_end.broken import WAYS
-from front_end.question import CLAUSES, OPERANDS, read_question
+from front_end.files import MOST_BYTES
+from front_end.question import (CLAUSES, MEANINGS as REFUSALS, MOST_CONSTANTS, MOST_DISEQUATIONS, MOST_POSITIVE,
+                                MOST_VARIABLES, OPERANDS, read_question)
 from front_end.text import RESERVED, read_text
-from front_end.trees import read_tree, write_tree
+from front_end.trees import TALLEST, TALLEST_ROW, read_tree, write_tree
 from harness import TOP, check, command, judging_program, library_judges, library_reads, program
 from texts import constant_question
 
@@ -254,6 +256,20 @@ def test_format_rows():
     check("FORMAT.md has rows and errors in them", [due[0][0].isdigit() for _, due in examples], [False] * 2 + [True] * 7)
 
 
+def test_format_reasons():
+    """The reasons in words that docs/FORMAT.md has, beside the numbers."""
+    markdown = (TOP / "docs" / "FORMAT.md").read_text()
+    head = re.findall(r"`(.*?)`", re.search(r"for a FILE with the lines (.*?); a, b and x", markdown)[1])
+    rows = [row.values() for row in tables(markdown) if "last line" in row]
+    examples = [[re.findall(r"`(.*?)`", cell) for cell in row] for row in rows]
+    for clauses, number, last in examples:
+        text = "\n".join(head + clauses).encode()
+        said = [command("ask", *options, "-", given=text)[1].decode() for options in (["--plain"], [])]
+        check(f"FORMAT.md, {clauses}", [lines.splitlines()[-1:] for lines in said], [number, last])
+    due = ["reason 0", "reason 1", "reason 2", "reason 2", "reason 3 0", "reason 3 1"]
+    check("FORMAT.md has each reason in words", [number for _, [number], _ in examples], due)
+
+
 def test_format_text():
     """What docs/FORMAT.md says of questions as text: joins inside, statuses, reserved words, meanings, the object of --json."""
     markdown = (TOP / "docs" / "FORMAT.md").read_text()
@@ -274,6 +290,29 @@ def test_format_text():
     said = json.loads(command("ask", "--json", str(TOP / example["file"]))[1])
     check("FORMAT.md has the object of its example", example, {**said, "file": example["file"]})
     check("with the keys in this order", list(example), KEYS)
+
+
+def test_format_later():
+    """What docs/FORMAT.md says of later refusal numbers: from the next one on, and which numbers have a place."""
+    markdown = (TOP / "docs" / "FORMAT.md").read_text()
+    told = [row["number"] for row in tables(markdown) if "number" in row and "meaning" in row]
+    numbers = {int(number) for number in told if number.isdecimal() and number != "0"}
+    last = max(numbers)
+    check("FORMAT.md has all numbers", numbers, set(range(1, last + 1)))
+    starts = re.findall(r"New numbers start at (\d+)\.", markdown)
+    check("FORMAT.md says where new numbers start", starts, [str(last + 1)])
+    check("FORMAT.md says nothing of all later numbers", "all later numbers" in markdown, False)
+    check("FORMAT.md says which have a place", f"only 1 to {max(REFUSALS)} have one" in markdown, True)
+
+
+def test_readme_limits():
+    """README.md states the limits, as the front end has them."""
+    readme = " ".join((TOP / "README.md").read_text().split())
+    limits = [f"{MOST_VARIABLES} variables", f"{MOST_CONSTANTS} constants", f"{MOST_POSITIVE} positive clauses",
+              f"{MOST_DISEQUATIONS} disequations", f"{1 << TALLEST} leaves", f"height {TALLEST}",
+              f"height {TALLEST_ROW}", f"{MOST_BYTES:,} bytes", "925 bytes"]
+    section = readme.split("## Limits")[-1].split(" ## ")[0]
+    check("README.md states the limits", [limit for limit in limits if limit not in section], [])
 
 
 def test_readme():

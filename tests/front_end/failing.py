@@ -10,7 +10,8 @@ from front_end.question import read_question
 from front_end.text import write_text
 from front_end.trees import write_tree
 from harness import check, library_judges
-from judging import EQUALS, JOINS, ROW, ROWS, SORTS, TALL, WITHS, WRITES, check_judged, fails, judged, never, packed, way_at, way_down
+from judging import (ACCEPTED, EQUALS, JOINS, ROW, ROWS, SORTS, TALL, WITHS, WRITES, check_judged, fails, judged,
+                     never, packed, way_at, way_down)
 
 SIDES = ["left", "right"]
 
@@ -131,7 +132,7 @@ def test_every_value():
             shares = [(1 << 1024) - 1 ^ (1 - value) << leaf if rest else value << leaf for value in values]
             rows = "\n".join(f"{name} {write_tree(share, 10)}" for name, share in zip(names, shares))
             way, told = way_at(sort, values), ", ".join(f"{name} is {['empty', 'full'][value]}" for name, value in zip(names, values))
-            due = fails(f"0, line 3: {words}", sort, way, told, leaf, way_down(leaf)) if way else "accepted"
+            due = fails(f"0, line 3: {words}", sort, way, told, leaf, way_down(leaf)) if way else ACCEPTED
             check_judged(f"satisfiable\nfree {' '.join(names)}\n{words}", rows, due)
 
 

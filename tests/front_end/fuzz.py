@@ -70,6 +70,7 @@ def odd_texts():
 
 
 ROW_WORDS = ["a", "b", "c", "a =", "b =", "c =", "a", "b", "c", "o", "*", "(*o)", "(o*)", "((o*)(*o))", "L", "join", "join (o*)", "=", "is", "x", "answer yes", "height 3",
+             "reason: so it is", "reason:",
              "reason 3 1", "answer", "height", "#", "(oo)", "(o *)", "(" * 12, ")", "0", "7a", "\t", "\r", "\0", "\x1b[31m", "\u2028", "\xa0", "\u00e4", "d" * 300, "(o" * 700]
 JUDGED = "entails\nfree a b c\nown x\nlet L = (*o)\na join b is c\na is not o\nthen\nx join c is *\nx is not o"
 

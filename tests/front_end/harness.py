@@ -109,6 +109,11 @@ def library_joins(pairs):
     return library_calls(b"".join(b"%d+%d\n" % pair for pair in pairs))
 
 
+def library_version():
+    """The library's version, a byte for each of its three numbers."""
+    return library_calls(b"0?")[0]
+
+
 def library_judges(pairs):
     """What the library's judge gives for each of some pairs of a question and rows, both as bytes."""
     return library_calls(b"".join(b"%d&%d:%b%b" % (len(question), len(rows), question, rows) for question, rows in pairs))

@@ -122,6 +122,7 @@ class Meaning:
             lines += [["if", "then"][system]] if system != now else []
             lines.append(str(clause))
             now = system
+        lines += ["then"] if self.kind and "then" not in lines else []
         return "\n".join(lines)
 
     def variables(self):
@@ -224,4 +225,5 @@ def test_order():
     """In which order the parts of a join stand changes no answer."""
     for parts in itertools.permutations("abcd"):
         text = f"entails\nfree a b c d e\na join b join c join d is e\nthen\n{' join '.join(parts)} is e"
-        check(f"the parts in the order {parts}", command("ask", "-", given=text.encode()), (0, b"answer yes\nreason 0\n", ""))
+        said = b"answer yes\nreason: every solution of the first system extends to the second\n"
+        check(f"the parts in the order {parts}", command("ask", "-", given=text.encode()), (0, said, ""))

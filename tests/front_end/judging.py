@@ -30,6 +30,8 @@ NAMED = "satisfiable\nfree answer height reason\nlet yes = *\nanswer is yes\nhei
 TALL = "(" * 10 + "*o)" + "o)" * 9  # a tree of height 10
 SOLVED = "a = (o*)\nb = L\nc = *\n"  # rows that solve WHOLE
 
+ACCEPTED = "accepted: the rows solve the system"
+NO_EXTENSION = "accepted: the rows solve the first system, and no own shares extend them to the second"
 EXTENDS = "extends: the rows solve the first system, and some own shares extend them to the second"
 
 # How a positive clause fails: the sorts of clauses and the ways.
@@ -51,11 +53,11 @@ def never(clause, everywhere):
 
 # A question, rows, and what is said of them.
 JUDGED = [
-    (WHOLE, "a = (o*)\nb = L\nc = *", "accepted"),
-    (WHOLE, "c *\na (o*)\nb (*o)\n", "accepted"),
-    (WHOLE, "answer yes\nheight 1\na (o*)\nb (*o)\nc *\n", "accepted"),
-    (WHOLE, "\ufeff# rows\r\n\r\n a=(o*) # a = o\r\nb\t(*o)\n\nc = L join (o*)\r", "accepted"),
-    (WHOLE, b"a (o*) # \xff\xfe\nb L\nc (o(o*)) join L join (o(*o))", "accepted"),
+    (WHOLE, "a = (o*)\nb = L\nc = *", ACCEPTED),
+    (WHOLE, "c *\na (o*)\nb (*o)\n", ACCEPTED),
+    (WHOLE, "answer yes\nheight 1\na (o*)\nb (*o)\nc *\n", ACCEPTED),
+    (WHOLE, "\ufeff# rows\r\n\r\n a=(o*) # a = o\r\nb\t(*o)\n\nc = L join (o*)\r", ACCEPTED),
+    (WHOLE, b"a (o*) # \xff\xfe\nb L\nc (o(o*)) join L join (o(*o))", ACCEPTED),
     (WHOLE, "a = (o*)\nb = L\nc = (*o)",
      fails("0, line 5: a join b is c", JOINS, "surplus", "a is full, b is empty, c is empty", 512, "right, then always left")),
     (WHOLE, "a = *\nb = L\nc = *", fails("0, line 5: a join b is c", JOINS, "overlap", "a is full, b is full, c is full", 0, "always left")),
@@ -72,10 +74,10 @@ JUDGED = [
     (MIXED, f"a = {TALL}", EXTENDS),
     (FULL_OWN, "a = (*o)", EXTENDS),
     (FULL_OWN.replace("x is not o", "x is (*o)"), "a = (o*)", EXTENDS),
-    (FULL_OWN.replace("x is not o", "x is (*o)"), "a = (*o)", "accepted"),
+    (FULL_OWN.replace("x is not o", "x is (*o)"), "a = (*o)", NO_EXTENSION),
     (FULL_OWN, "a = *", never("0, line 4: a is not *", "a is *")),
     # Joins inside a clause: the rows of their variables are not given, and follow from the others.
-    (INSIDE, "a ((*o)o)\nb ((o*)o)\nc (o(*o))\nd (*(*o))", "accepted"),
+    (INSIDE, "a ((*o)o)\nb ((o*)o)\nc (o(*o))\nd (*(*o))", ACCEPTED),
     (INSIDE, "a *\nb *\nc o\nd *", fails("0, line 3: a join b join c is d", JOINS, "overlap", "a is full, b is full", 0, "always left")),
     (INSIDE, "a ((*o)o)\nb ((o*)o)\nc (o(*o))\nd *",
      fails("1, line 3: a join b join c is d", JOINS, "shortfall", "a join b is empty, c is empty, d is full", 768, "right, right, then always left")),
@@ -83,29 +85,28 @@ JUDGED = [
      fails("1, line 3: a join b join c is d", JOINS, "overlap", "a join b is full, c is full, d is full", 0, "always left")),
     (INSIDE, "a ((*o)o)\nb ((o*)o)\nc (o*)\nd *", never("2, line 4: d is not *", "d is *")),
     # Names that an answer's other lines start with, and a constant that an answer's first line ends with.
-    (NAMED, "answer yes\nheight 1\nreason 3 12\nanswer = yes\nheight (*o)\nreason o", "accepted"),
+    (NAMED, "answer yes\nheight 1\nreason 3 12\nanswer = yes\nheight (*o)\nreason o", ACCEPTED),
     (NAMED, "answer no\nheight 10\nanswer = o\nheight = (*o)\nreason = o\nreason 0",
      fails("0, line 4: answer is yes", EQUALS, "shortfall", "answer is empty, yes is full", 0, "always left")),
     # As many bytes as rows have that are in bytes, also with a comment of bytes that are no text.
-    (WHOLE, f"{SOLVED}#".ljust(ROWS, "-"), "accepted"),
-    (WHOLE, f"{SOLVED}#".encode().ljust(ROWS, b"\0"), "accepted"),
-    (WHOLE, f"{SOLVED}#".encode().ljust(ROWS, b"\xff"), "accepted"),
+    (WHOLE, f"{SOLVED}#".ljust(ROWS, "-"), ACCEPTED),
+    (WHOLE, f"{SOLVED}#".encode().ljust(ROWS, b"\xff"), ACCEPTED),
     # No free variable; no clause; policies; the tallest tree, and the longest text of one.
-    ("satisfiable", "", "accepted"),
-    ("satisfiable", "# nothing\n\nanswer yes\nheight 0\n", "accepted"),
+    ("satisfiable", "", ACCEPTED),
+    ("satisfiable", "# nothing\n\nanswer yes\nheight 0\n", ACCEPTED),
     ("satisfiable\n* is o", "", fails("0, line 2: * is o", EQUALS, "surplus", "* is full, o is empty", 0, "always left")),
-    ("entails", "", EXTENDS),
-    ("entails\nthen\n* is o", "", "accepted"),
+    ("entails\nthen", "", EXTENDS),
+    ("entails\nthen\n* is o", "", NO_EXTENSION),
     ("satisfiable\nfree a b\na may read\na with b\nb may write", "a (*o)\nb (o*)",
      fails("2, line 5: b may write", WRITES, "shortfall", "b is empty", 0, "always left")),
-    ("satisfiable\nfree a\na is not o", f"a {TALL}", "accepted"),
+    ("satisfiable\nfree a\na is not o", f"a {TALL}", ACCEPTED),
     ("satisfiable\nfree a\na is (((((*o)o)o)o)o)", f"a {TALL}",
      fails("0, line 3: a is (((((*o)o)o)o)o)", EQUALS, "shortfall", "a is empty, (((((*o)o)o)o)o) is full", 1, "left, " * 9 + "right")),
-    ("satisfiable\nfree a b\na join b is *", "a {0}\nb {1}".format(*(write_tree((1 << 1024) // 3 * one, 10) for one in (1, 2))), "accepted"),
+    ("satisfiable\nfree a b\na join b is *", "a {0}\nb {1}".format(*(write_tree((1 << 1024) // 3 * one, 10) for one in (1, 2))), ACCEPTED),
 ]
 
 DUE, NO_ROW = cases.CONSTANT, "is due before the text ends"
-PART = "entails\nfree a b\nown x\nlet L = (*o)\na is b"
+PART = "entails\nfree a b\nown x\nlet L = (*o)\na is b\nthen"
 ALONE = "and rows are those of the free {}alone: leave this line out"
 NAME = "the name of a free variable"
 IN_BYTES = "these are rows in bytes, and no text: the judging program reads them, and behind them what './ask --bytes FILE' writes " \
@@ -130,6 +131,11 @@ FAULTS = [
     ("a = o", f"1:6: no row for b: a line for it {NO_ROW}"),
     ("\nb o # a = o\n", f"3:1: no row for a: a line for it {NO_ROW}"),
     ("answer yes\nheight 0\nreason 0", f"3:9: no row for a, b: a line for each {NO_ROW}"),
+    ("answer yes\nreason: the first system has no solution", f"2:41: no row for a, b: a line for each {NO_ROW}"),
+    ("reason: a = b", f"1:1: {NAME} is due here, not 'reason:'"),
+    ("reason:", f"1:1: {NAME} is due here, not 'reason:'"),
+    (f"{SOLVED}#".encode().ljust(ROWS, b"\0"), f"1:1: {IN_BYTES}"),
+    ("a o # \x1b[1A", "1:7: a control character (U+001B) stands here: remove it"),
     ("a o\n z = o", "2:2: the question names nothing 'z': its free variables are a, b"),
     ("A o", "1:1: the question names nothing 'A': its free variables are a, b"),
     ("answer maybe", "1:1: the question names nothing 'answer': its free variables are a, b"),
@@ -244,7 +250,7 @@ def packed(said):
 
 def check_judged(question, rows, due):
     """Judges rows; the bytes that ask hands over are judged alike by the program and by the library."""
-    name, status = f"{rows!r} for {question!r}", int(due != "accepted")
+    name, status = f"{rows!r} for {question!r}", int(not due.startswith("accepted"))
     check(name, judged(question, rows), (status, f"{due}\n".encode(), ""))
     check(f"--plain: {name}", judged(question, rows, "--plain"), (status, f"{plain(due)}\n".encode(), ""))
     status, string, errors = judged(question, rows, "--bytes")
@@ -262,7 +268,7 @@ def test_judged():
 
 def test_row_bytes():
     """Which bytes rows are: leaf i is bit i mod 8 of byte i div 8, and rows of no free variable are zero."""
-    question = "entails\nfree a b c\nown x\nlet L = (*o)\na join b join c is *"
+    question = "entails\nfree a b c\nown x\nlet L = (*o)\na join b join c is *\nthen"
     string = judged(question, f"c {TALL}\na = L join (o(o*))\nb *", "--bytes")[1]
     due = b"\xff" * 64 + bytes(32) + b"\xff" * 32 + b"\xff" * 128 + b"\1" + bytes(127)
     check("rows of the named variables", string[:3 * ROW], due)
@@ -277,7 +283,8 @@ def test_row_faults():
         check(f"fault of rows {rows[:60]!r}", judged(PART, rows), (2, b"", f"-:{due}\n"))
     for free, rows, due in PASSED:
         check(f"passed over in {rows!r}", judged(f"satisfiable\n{free}\nlet no = o\nlet L = (*o)", rows), (2, b"", f"-:{due}\n"))
-    check("what is to be written", judged("satisfiable\nfree answer\nlet no = o\nanswer is no", "answer = no"), (0, b"accepted\n", ""))
+    found = judged("satisfiable\nfree answer\nlet no = o\nanswer is no", "answer = no")
+    check("what is to be written", found, (0, f"{ACCEPTED}\n".encode(), ""))
     nothing = "the question names nothing 'a': it has no free variable"
     check("rows for no variable", judged("satisfiable", "a = o"), (2, b"", f"-:1:1: {nothing}\n"))
     long = "satisfiable\n" + "".join(f"free {sign * 255}\n" for sign in "abc")
@@ -310,8 +317,9 @@ def test_rows_in_bytes():
 def test_judge_command():
     """Ways to call it: which file is at fault, standard input once, what cannot be asked for together."""
     question, rows = file("judge.shares", WHOLE).name, file("judge.rows", "a (o*)\nb (*o)\nc *\n").name
-    check("two files", process("ask", "--judge", question, rows), (0, b"accepted\n", ""))
-    check("the question from standard input", process("ask", "--judge", "-", rows, given=WHOLE.encode()), (0, b"accepted\n", ""))
+    check("two files", process("ask", "--judge", question, rows), (0, f"{ACCEPTED}\n".encode(), ""))
+    found = process("ask", "--judge", "-", rows, given=WHOLE.encode())
+    check("the question from standard input", found, (0, f"{ACCEPTED}\n".encode(), ""))
     check("the rows from standard input", process("ask", question, "-", "--judge", given=b"a o\nb L\nc L"),
           (1, b"broken: clause 1, line 6: a is not o\nat every leaf: a is o\n", ""))
     check("an error in the question comes first", process("ask", "--judge", "-", "none.rows", given=b"entails\nfree a a"),
@@ -339,7 +347,8 @@ def test_pasted():
         answer = command("ask", str(example))[1]
         found = command("ask", "--judge", str(example), "-", given=answer)
         if b"\nheight " in answer:
-            check(f"the answer to {example.name}", found, (0, b"accepted\n", ""))
+            said = ACCEPTED if answer.startswith(b"answer yes\n") else NO_EXTENSION
+            check(f"the answer to {example.name}", found, (0, f"{said}\n".encode(), ""))
         else:
             check(f"the answer to {example.name} shows nothing", (found[0], "no row for" in found[2]), (2, True))
         seen[found[0]] += 1
@@ -376,7 +385,7 @@ def test_judge_json():
         found = process("ask", "--judge", "--json", *names)
         check(f"--json of {rows!r} for {question!r}", (found[0], json.loads(found[1]), found[2]), (status, due, ""))
         check(f"the keys for {question!r}", (list(json.loads(found[1])), found[1].count(b"\n"), found[1].isascii()), (KEYS, 1, True))
-    question, silent = file("judge.shares", "entails").name, wrong_program("wrong", "exit 0")
+    question, silent = file("judge.shares", "entails\nthen").name, wrong_program("wrong", "exit 0")
     for rows, at, message in [("none.rows", "none.rows", "it could not be read: No such file or directory"),
                               ("json.rows", question, "the judging program gave no judgement: it printed nothing")]:
         status, out, errors = process("ask", "--judge", "--json", question, rows, ZIMORGAL_JUDGE_CLI=silent)
@@ -460,7 +469,7 @@ def test_lost_judgements():
     due = "judge.shares: the judging program no/program could not be run: No such file or directory ($ZIMORGAL_JUDGE_CLI names it)\n"
     check("no such program", process("ask", "--judge", *names, ZIMORGAL_JUDGE_CLI="no/program"), (2, b"", due))
     warned = process("ask", "--judge", *names, ZIMORGAL_JUDGE_CLI=wrong_program("wrong", f"echo warning >&2; {real}"))
-    check("a warning beside a judgement", warned, (0, b"accepted\n", "judge.shares: warning\n"))
+    check("a warning beside a judgement", warned, (0, f"{ACCEPTED}\n".encode(), "judge.shares: warning\n"))
 
 
 def typed(string):
@@ -614,8 +623,8 @@ def meant(meaning, shares):
         number += parts(clause) if system == 0 else 0
     check(f"how many clauses the first system of {meaning.text()!r} is in bytes", len(read_text(meaning.text()).first_clauses()), number)
     if meaning.kind == 0:
-        return "accepted", None
-    return EXTENDS if any(all(had) for had in meaning.beside(shares)) else "accepted", None
+        return ACCEPTED, None
+    return EXTENDS if any(all(had) for had in meaning.beside(shares)) else NO_EXTENSION, None
 
 
 def test_judged_meaning():
@@ -634,7 +643,8 @@ def test_judged_meaning():
         line = re.search(r"line (\d+): (.*)", out.decode())
         if line:
             check(f"the line that is named, {rows!r} for {meaning.text()!r}", meaning.text().split("\n")[int(line[1]) - 1], line[2])
-        check(f"{rows!r} for {meaning.text()!r}", (status, re.sub(r"line \d+", "line {}", out.decode()), errors), (int(due != "accepted"), f"{due}\n", ""))
+        found = (status, re.sub(r"line \d+", "line {}", out.decode()), errors)
+        check(f"{rows!r} for {meaning.text()!r}", found, (int(not due.startswith("accepted")), f"{due}\n", ""))
         seen[re.match(r"\w+", due)[0], any(clause.fresh() for clause in meaning.first)] += 1
         ways.update(meaning for meaning in (sort or {}).values() if f"({meaning})" in due)
     check("every judgement was seen, with joins inside and without", min(seen.values()) >= 25 and len(seen) == 6, True)

@@ -121,6 +121,7 @@ def test_let_and_clause():
 
 
 T, U = "(((((*o)o)o)o)o)", "(((((o*)*)*)*)*)"  # one leaf of 32, and the other 31
+NO = "answer no\nheight {}\na {}\nreason: this solution of the first system cannot {} (line 6)\n"
 # Texts with constants that no clause names, and what is printed: the height is told by those that are named.
 UNNAMED = [
     (f"satisfiable\nfree a\nlet t = {T}\nlet l = (*o)\na join l is *", "answer yes\nheight 1\na (o*)\n"),
@@ -128,8 +129,8 @@ UNNAMED = [
     (f"satisfiable\nfree a\nlet t = {T}\nlet u = {U}\nlet f = t join u\na join t is f", f"answer yes\nheight 5\na {U}\n"),
     (f"satisfiable\nfree a\nlet t = {T}\na may read", "answer yes\nheight 0\na *\n"),
     ("satisfiable\nfree a\n" + "".join(f"let c{n} = {T}\n" for n in range(30)) + "let l = (*o)\nlet f = *\na join l is f", "answer yes\nheight 1\na (o*)\n"),
-    (f"entails\nfree a\nlet t = {T}\nlet r = (o*)\nthen\na is r", "answer no\nheight 1\na (*o)\nreason 2\n"),
-    (f"entails\nfree a\nlet t = {T}\nlet r = (o*)\nthen\na is not t", f"answer no\nheight 5\na {T}\nreason 3 0\n"),
+    (f"entails\nfree a\nlet t = {T}\nlet r = (o*)\nthen\na is r", NO.format(1, "(*o)", "meet 'a is r'")),
+    (f"entails\nfree a\nlet t = {T}\nlet r = (o*)\nthen\na is not t", NO.format(5, T, "have 'a is not t'")),
 ]
 
 

@@ -19,6 +19,7 @@ EXTENDING = "editor ((*o)o)\nplayer ((o*)o)\nboth (*o)\nlogger (o(*o))\nlist (*(
 # Commands that print, with what they are given.
 PRINTING = [("ask", str(ANSWERED)), ("ask", "--bytes", str(ANSWERED)), ("ask", "--plain", str(ANSWERED)), ("ask", "--json", str(ANSWERED)),
             ("ask", "--svg", str(ANSWERED)), ("ask", "--help"), ("explain", "question.bytes"), ("explain", str(ANSWERED)),
+            ("ask", "--version"), ("explain", "--version"),
             ("explain", "--help"), ("docs/draw",), ("ask", *JUDGED), ("ask", "--json", *JUDGED), ("ask", "--plain", *JUDGED),
             ("ask", "--bytes", *JUDGED), ("ask", "--svg", *JUDGED)]
 
@@ -64,10 +65,27 @@ def test_lost_output():
             with open("/dev/full", "wb") as full:
                 check(f"{arguments} with {buffers}, two full disks", end(arguments, out=full, errors=full, **buffers), (3, ""))
             writer = unread()
-            check(f"{arguments} with {buffers}, a pipe that nobody reads", end(arguments, out=writer, **buffers), lost("Broken pipe"))
+            found = end(arguments, out=writer, **buffers)
+            check(f"{arguments} with {buffers}, a pipe that nobody reads", found, (3, ""))
             os.close(writer)
             with open(file("cut", b""), "wb") as small:
                 check(f"{arguments} with {buffers}, a disk for a part of it", end(arguments, before=small_files, out=small, **buffers), lost("File too large"))
+
+
+def test_read_in_part():
+    """Whoever reads the output may end before it does, as 'head' does: nothing is said, nothing more is asked, and the
+    status tells it."""
+    for option in ("--json", "--plain"):
+        reader, writer = os.pipe()
+        many = [str(file(f"many{number}.shares", ANSWERED.read_bytes())) for number in range(20)]
+        asking = subprocess.Popen([str(TOP / "ask"), option, *many, "none.shares"], stdout=writer,
+                                  stderr=subprocess.PIPE, cwd=FOLDER.name, env=surroundings({}))
+        os.close(writer)
+        with open(reader, "rb") as first:
+            said = first.readline()
+        errors = asking.communicate()[1]
+        check(f"the first line of {option}", said.startswith((b"{", b"/")), True)
+        check(f"and no more of {option}", (asking.returncode, errors), (3, b""))
 
 
 def test_no_room():
@@ -149,20 +167,23 @@ def test_own_errors():
 
 
 HOSTILE = "\x1b[2J\x07\u202e\x00\x7f" + "x" * (1 << 19)
+UNSEEN = "\u200b\ue000\u00ad\udc9b" + "x" * (1 << 19)  # it is no control character, and none of it prints
 
 
 def test_echo():
     """What a message repeats is escaped and cut, and a message is one line."""
-    hostile = HOSTILE.encode()
+    hostile, unseen = HOSTILE.encode(), UNSEEN.encode("utf-8", "surrogateescape")
     argument = HOSTILE.replace("\x00", "").replace("x" * (1 << 19), "x" * 3000)
     texts = [hostile, b"satisfiable\nfree " + hostile, b"satisfiable\nfree a\na is " + hostile, b"satisfiable\nlet a = (" + hostile,
              b"satisfiable\nfree " + b"a" * (1 << 19), b"satisfiable\n" + b"a" * (1 << 19) + b" is o", b"entails\n\xff\xfe\x80",
-             b"satisfiable\nfree a\na is o\rentails", b"satisfiable\na\x85 is o"]
+             b"satisfiable\nfree a\na is o\rentails", b"satisfiable\na\x85 is o", unseen,
+             b"satisfiable\nfree " + unseen, b"satisfiable\nfree a\na is " + unseen, b"satisfiable\nlet a = (" + unseen]
     runs = [(f"text {text[:40]!r}", command("ask", "-", given=text)) for text in texts]
     rows = [hostile, b"editor " + hostile, b"editor = (" + hostile, b"editor = o join " + hostile, b"a" * (1 << 19), b"editor " + b"a" * (1 << 19),
-            b"editor (*o) " + b"b" * (1 << 19), b"", b"editor \xff\xfe", b"editor o\rplayer o"]
+            b"editor (*o) " + b"b" * (1 << 19), b"", b"editor \xff\xfe", b"editor o\rplayer o", unseen,
+            b"editor " + unseen, b"editor = (" + unseen, b"editor = o join " + unseen]
     runs += [(f"rows {text[:40]!r}", command("ask", "--judge", str(ANSWERED), "-", given=text)) for text in rows]
-    runs.append(("hexadecimal", command("explain", "--hex", "-", given=hostile)))
+    runs += [("hexadecimal", command("explain", "--hex", "-", given=given)) for given in (hostile, unseen)]
     for name in ("ask", "explain", "docs/draw"):
         runs.append((f"{name}, a file's name", command(name, argument)))
         runs.append((f"{name}, a name with line ends", command(name, "a\nb\n")))
