@@ -3,6 +3,8 @@ use basics::CLAUSE_BYTES;
 use beside::Sizes;
 use decide::Finding;
 use rows::ANSWER_BYTES;
+use words::FIRST_WORDS;
+use words::LEAF_WORDS;
 ghost use mathlib.Core.Path.{_≡_};
 ghost use mathlib.Core.List.{_++_};
 ghost use Prim.Native.Nat.{_≤_};
@@ -85,8 +87,8 @@ fn show_solution(
     answer: &mut [u8],
     sizes: Sizes,
     finding: Finding,
-    firsts: &[u64; 128],
-    leaves: &[u64; 128],
+    firsts: &[u64; FIRST_WORDS],
+    leaves: &[u64; LEAF_WORDS],
 )
     requires { ⌜ answerBytes constantLevels ≤ length (now answer) ⌝ }
     requires { ⌜ ((q : model.Question) × DecidedFor sizes finding (now firsts) (now leaves) q) ⌝ }
@@ -125,8 +127,8 @@ pub fn ask(question: &[u8], answer: &mut [u8], work: &mut [u8]) -> Outcome
         return refused(12, 0);
     }
     let sizes = decide::sizes_of(reading.question, &reading.question.constants);
-    let mut firsts = [0u64; 128];
-    let mut leaves = [0u64; 128];
+    let mut firsts = [0u64; FIRST_WORDS];
+    let mut leaves = [0u64; LEAF_WORDS];
     let finding = decide::decide(
         reading.question,
         sizes,

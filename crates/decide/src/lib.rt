@@ -5,6 +5,8 @@ use format::Question;
 use plans::Outline;
 use plans::Plan;
 use steps::Search;
+use words::FIRST_WORDS;
+use words::LEAF_WORDS;
 ghost use mathlib.Core.Path.{_≡_};
 ghost use Prim.Native.Nat.{ℕ, _^_, _<_, _≤_};
 ghost use lib.Dec.{T};
@@ -77,8 +79,8 @@ fn decide_satisfiability(
     clauses: &[u8; CLAUSE_BYTES],
     sizes: Sizes,
     constants: &[u64; 32],
-    firsts: &mut [u64; 128],
-    leaves: &mut [u64; 128],
+    firsts: &mut [u64; FIRST_WORDS],
+    leaves: &mut [u64; LEAF_WORDS],
 ) -> Finding
     requires { ⌜ Readable (now clauses) (sizes .counts) (sizes .free) (sizes .own) × (sizes .named < 2 ^ 32) × (sizes .height ≤ 5) ⌝ }
     ensures { λ r. ⌜ DecidedAs satisfiability sizes (now (clauses .entry)) (now (constants .entry)) r (now (firsts .exit)) (now (leaves .exit)) ⌝ }
@@ -94,8 +96,8 @@ fn decide_entailment(
     clauses: &[u8; CLAUSE_BYTES],
     sizes: Sizes,
     constants: &[u64; 32],
-    firsts: &mut [u64; 128],
-    leaves: &mut [u64; 128],
+    firsts: &mut [u64; FIRST_WORDS],
+    leaves: &mut [u64; LEAF_WORDS],
 ) -> Finding
     requires { ⌜ Readable (now clauses) (sizes .counts) (sizes .free) (sizes .own) × (sizes .named < 2 ^ 32) × (sizes .height ≤ 5) ⌝ }
     ensures { λ r. ⌜ DecidedAs entailment sizes (now (clauses .entry)) (now (constants .entry)) r (now (firsts .exit)) (now (leaves .exit)) ⌝ }
@@ -121,8 +123,8 @@ pub fn decide(
     sizes: Sizes,
     clauses: &[u8; CLAUSE_BYTES],
     constants: &[u64; 32],
-    firsts: &mut [u64; 128],
-    leaves: &mut [u64; 128],
+    firsts: &mut [u64; FIRST_WORDS],
+    leaves: &mut [u64; LEAF_WORDS],
 ) -> Finding
     requires { ⌜ Standing question (now clauses) × (sizes ≡ sizesOf question) × (now constants ≡ question .constants) ⌝ }
     ensures { λ r. ⌜ ((q : Asked) → Stands (question .kind) (storedOf question (now (clauses .entry))) q → WellFormed q → Decided (storedOf question (now (clauses .entry))) q r (now (firsts .exit)) (now (leaves .exit))) ⌝ }
@@ -213,7 +215,12 @@ pub fn height_given(sizes: Sizes, finding: Finding) -> usize
 }
 
 // The plan of the solution that is shown with a finding.
-pub fn plan(sizes: Sizes, finding: Finding, firsts: &[u64; 128], leaves: &[u64; 128]) -> Plan
+pub fn plan(
+    sizes: Sizes,
+    finding: Finding,
+    firsts: &[u64; FIRST_WORDS],
+    leaves: &[u64; LEAF_WORDS],
+) -> Plan
     requires { ⌜ ((q : Asked) × DecidedFor sizes finding (now firsts) (now leaves) q) ⌝ }
     requires { ⌜ T (shows (answerOf finding)) ⌝ }
     ensures { λ r. ⌜ ((q : Asked) → DecidedFor sizes finding (now (firsts .entry)) (now (leaves .entry)) q → Planned q r) ⌝ }

@@ -1,4 +1,4 @@
-// What is kept of the words of choices that a pass goes over: for each of up to 64 searches the first word that has a choice for it, and for each
+// What is kept of the words of choices that a pass goes over: for each of up to 33 searches the first word that has a choice for it, and for each
 // disequation of the second system which disequations of the first were met.
 use basics::CLAUSE_BYTES;
 use basics::FIRST_DISEQUATIONS;
@@ -13,7 +13,7 @@ ghost use Rattle.entries.specs.Entry.{Kept, KeptAll, common, Settling, M
 
 // Keeps word number `turn` as that of search e, with the choices y in it that pass, if there are any and the search has found none yet.
 pub fn keep_word(e: usize, turn: usize, y: u64, met: u64, firsts: &mut [u64]) -> u64
-    requires { ⌜ (e < 64) × (length (now firsts) ≡ 128) ⌝ }
+    requires { ⌜ (e < 33) × (length (now firsts) ≡ 66) ⌝ }
     ensures { λ r. ⌜ Kept e turn (bit y) met (now (firsts .entry)) r (now (firsts .exit)) ⌝ }
 {
     if basics::digit(met, e) {
@@ -37,7 +37,7 @@ fn keep_one(
     met: u64,
     firsts: &mut [u64],
 ) -> u64
-    requires { ⌜ (i < 64) × (length (now firsts) ≡ 128) ⌝ }
+    requires { ⌜ (i < 33) × (length (now firsts) ≡ 66) ⌝ }
     requires { ⌜ Clauses (now clauses) (256 + 4 * i) 1 ⌝ }
     ensures { λ r. ⌜ Kept i turn (λ k. bit x k && not (clauseTest (now (clauses .entry)) (λ t. bit (getD (now (terms .entry)) t 0) k) (256 + 4 * i))) met (now (firsts .entry)) r (now (firsts .exit)) ⌝ }
 {
@@ -55,7 +55,7 @@ pub fn keep_all(
     met: u64,
     firsts: &mut [u64],
 ) -> u64
-    requires { ⌜ (count ≤ 31) × (length (now firsts) ≡ 128) ⌝ }
+    requires { ⌜ (count ≤ 31) × (length (now firsts) ≡ 66) ⌝ }
     requires { ⌜ Clauses (now clauses) 256 count ⌝ }
     ensures { λ r. ⌜ KeptAll count turn (λ i k. bit x k && not (clauseTest (now (clauses .entry)) (λ t. bit (getD (now (terms .entry)) t 0) k) (256 + 4 * i))) met (now (firsts .entry)) r (now (firsts .exit)) ⌝ }
 {

@@ -4,6 +4,8 @@ use beside::Sizes;
 use steps::Search;
 use steps::Seen;
 use steps::Spot;
+use words::FIRST_WORDS;
+use words::LEAF_WORDS;
 ghost use mathlib.Core.Path.{_≡_};
 ghost use mathlib.Core.Bool.{true};
 ghost use mathlib.Core.List.{List};
@@ -60,7 +62,7 @@ fn pass_words(
     search: Search,
     number: usize,
     start: Seen,
-    firsts: &mut [u64; 128],
+    firsts: &mut [u64; FIRST_WORDS],
     rows: &mut [u64; 96],
 ) -> Seen
     requires { ⌜ Readable (now clauses) (sizes .counts) (sizes .free) (sizes .own) ⌝ }
@@ -95,8 +97,8 @@ fn pass_leaf(
     sizes: Sizes,
     leaf: Leaf,
     seen: Seen,
-    firsts: &mut [u64; 128],
-    plains: &mut [u64; 128],
+    firsts: &mut [u64; FIRST_WORDS],
+    plains: &mut [u64; LEAF_WORDS],
     rows: &mut [u64; 96],
 ) -> Seen
     requires { ⌜ Readable (now clauses) (sizes .counts) (sizes .free) (sizes .own) ⌝ }
@@ -145,8 +147,8 @@ fn visit(
     sizes: Sizes,
     leaf: Leaf,
     seen: Seen,
-    firsts: &mut [u64; 128],
-    plains: &mut [u64; 128],
+    firsts: &mut [u64; FIRST_WORDS],
+    plains: &mut [u64; LEAF_WORDS],
     rows: &mut [u64; 96],
 ) -> Seen
     requires { ⌜ Readable (now clauses) (sizes .counts) (sizes .free) (sizes .own) ⌝ }
@@ -184,8 +186,8 @@ pub fn pass_leaves(
     sizes: Sizes,
     constants: &[u64; 32],
     search: Search,
-    firsts: &mut [u64; 128],
-    plains: &mut [u64; 128],
+    firsts: &mut [u64; FIRST_WORDS],
+    plains: &mut [u64; LEAF_WORDS],
     rows: &mut [u64; 96],
 ) -> Seen
     requires { ⌜ Readable (now clauses) (sizes .counts) (sizes .free) (sizes .own) ⌝ }

@@ -81,10 +81,10 @@ module _ (t r n : ℕ) (small : r < 64) where
 
 -- ---- the pairs of a table that fits
 
-pub slot-lt : (extra e : ℕ) → e < 64 → slotOf extra e < 64
+pub slot-lt : (extra e : ℕ) → e < 33 → slotOf extra e < 33
 slot-lt extra e h = go (decLt e extra)
   where
-    go : Dec (e < extra) → slotOf extra e < 64
+    go : Dec (e < extra) → slotOf extra e < 33
     go (yes l) = rw (lt-ltb e extra l) (omega arith)
     go (no l) = rw (le-ltb e extra (omega arith)) (omega arith)
 

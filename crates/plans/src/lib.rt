@@ -1,5 +1,7 @@
 // The plan of a solution that was found: which choice stands at each leaf, and at which sub-leaf each disequation stands with its own.
 use guesses::Passing;
+use words::FIRST_WORDS;
+use words::LEAF_WORDS;
 ghost use mathlib.Core.Path.{_≡_};
 ghost use Prim.Native.Nat.{ℕ, _+_, _-_, _*_, _/_, _%_, _^_, _<_, _≤_};
 ghost use mathlib.Core.Bool.{_&&_};
@@ -72,14 +74,25 @@ fn word_digits(n: usize) -> usize
     n - 6
 }
 
-// The word of an entry, with its number among those of all leaves.
-fn word_at(firsts: &[u64; 128], entry: usize) -> Passing
-    requires { ⌜ entry < 64 ⌝ }
+// The word of a search, with its number among those of all leaves.
+fn first_word(firsts: &[u64; FIRST_WORDS], entry: usize) -> Passing
+    requires { ⌜ entry < 33 ⌝ }
     ensures { λ r. ⌜ leastNumber r ≡ numberAt (now (firsts .entry)) entry ⌝ }
 {
     Passing {
         word: firsts[2 * entry] as usize,
         choices: firsts[2 * entry + 1],
+    }
+}
+
+// The word of a leaf, with its number among those of the leaf.
+fn leaf_word(leaves: &[u64; LEAF_WORDS], b: usize) -> Passing
+    requires { ⌜ b < 64 ⌝ }
+    ensures { λ r. ⌜ leastNumber r ≡ numberAt (now (leaves .entry)) b ⌝ }
+{
+    Passing {
+        word: leaves[2 * b] as usize,
+        choices: leaves[2 * b + 1],
     }
 }
 
@@ -119,24 +132,24 @@ fn sub_leaf(leaf: usize, splits: usize, rank: usize) -> u16
 }
 
 // Takes the next sub-leaf of a leaf: its rank is how many were taken there before.
-fn take_rank(taken: &mut [usize], leaf: usize) -> usize
+fn take_rank(taken: &mut [u8], leaf: usize) -> usize
     requires { ⌜ (leaf < length (now taken)) × (getD (now taken) leaf 0 < 32) ⌝ }
     ensures { λ r. ⌜ (r ≡ getD (now (taken .entry)) leaf 0) × (r < 32) × (now (taken .exit) ≡ set (now (taken .entry)) leaf (r + 1)) ⌝ }
 {
-    let rank = taken[leaf];
-    taken[leaf] = rank + 1;
+    let rank = basics::index(taken[leaf]);
+    taken[leaf] = (rank + 1) as u8;
     rank
 }
 
 // The least choice of leaf b: that of the leaf before it, if it has the same word.
-fn plain_at(leaves: &[u64; 128], b: usize, free: usize, plain: &[u16]) -> u16
+fn plain_at(leaves: &[u64; LEAF_WORDS], b: usize, free: usize, plain: &[u16]) -> u16
     requires { ⌜ (b < 64) × (free ≤ 12) × (length (now plain) ≡ 64) ⌝ }
     requires { ⌜ (numberAt (now leaves) b < 2 ^ free) × (0 < b → getD (now plain) (b - 1) 0 ≡ numberAt (now leaves) (b - 1)) ⌝ }
     ensures { λ r. ⌜ r ≡ numberAt (now (leaves .entry)) b ⌝ }
 {
-    let kept = word_at(leaves, b);
+    let kept = leaf_word(leaves, b);
     if 0 < b {
-        if are_same(word_at(leaves, b - 1), kept) {
+        if are_same(leaf_word(leaves, b - 1), kept) {
             return plain[b - 1];
         }
     }
@@ -144,7 +157,7 @@ fn plain_at(leaves: &[u64; 128], b: usize, free: usize, plain: &[u16]) -> u16
 }
 
 // Puts the least choices of the first `count` leaves into the plan.
-fn fill_plain(leaves: &[u64; 128], count: usize, free: usize, plain: &mut [u16])
+fn fill_plain(leaves: &[u64; LEAF_WORDS], count: usize, free: usize, plain: &mut [u16])
     requires { ⌜ (count ≤ 64) × (free ≤ 12) × (length (now plain) ≡ 64) × ((b : ℕ) → b < count → numberAt (now leaves) b < 2 ^ free) ⌝ }
     ensures { λ _. ⌜ ((b : ℕ) → b < count → getD (now (plain .exit)) b 0 ≡ numberAt (now (leaves .entry)) b) ⌝ }
 {
@@ -156,15 +169,20 @@ fn fill_plain(leaves: &[u64; 128], count: usize, free: usize, plain: &mut [u16])
 }
 
 // Gives each disequation its sub-leaf: from the left those of a leaf stand in order.
-fn fill_entries(firsts: &[u64; 128], outline: Outline, subleaf: &mut [u16], choice: &mut [u16])
+fn fill_entries(
+    firsts: &[u64; FIRST_WORDS],
+    outline: Outline,
+    subleaf: &mut [u16],
+    choice: &mut [u16],
+)
     requires { ⌜ Fitting outline (now firsts) ⌝ }
     requires { ⌜ (length (now subleaf) ≡ 32) × (length (now choice) ≡ 32) ⌝ }
     ensures { λ _. ⌜ Filled outline (now (firsts .entry)) (outline .extra + outline .count) (now (subleaf .exit)) (now (choice .exit)) ⌝ }
 {
-    let mut taken = [0usize; 64];
+    let mut taken = [0u8; 64];
     let mut e: usize = 0;
     while e < outline.extra + outline.count {
-        let kept = word_at(firsts, slot_of(outline.extra, e));
+        let kept = first_word(firsts, slot_of(outline.extra, e));
         let leaf = leaf_of(kept, outline.free);
         let rank = take_rank(&mut taken, leaf);
         subleaf[e] = sub_leaf(leaf, outline.splits, rank);
@@ -174,7 +192,7 @@ fn fill_entries(firsts: &[u64; 128], outline: Outline, subleaf: &mut [u16], choi
 }
 
 // The plan of the solution that a table of first words and one of the leaves' least words hold.
-pub fn plan_of(firsts: &[u64; 128], leaves: &[u64; 128], outline: Outline) -> Plan
+pub fn plan_of(firsts: &[u64; FIRST_WORDS], leaves: &[u64; LEAF_WORDS], outline: Outline) -> Plan
     requires { ⌜ Fitting outline (now firsts) × LeavesFit outline (now leaves) ⌝ }
     ensures { λ r. ⌜ ((R : Problem ℕ) → R .count ≡ outline .extra + outline .count → PairsOf (outline .free) (outline .height) R (outline .extra) (now (firsts .entry)) (now (leaves .entry)) → Made (outline .free) (outline .height) R (outline .splits) r) ⌝ }
 {

@@ -2,6 +2,8 @@
 use basics::CLAUSE_BYTES;
 use beside::Sizes;
 use steps::Search;
+use words::FIRST_WORDS;
+use words::LEAF_WORDS;
 ghost use mathlib.Core.Path.{_≡_};
 ghost use Prim.Native.Nat.{_+_, _^_, _<_, _≤_};
 ghost use Rattle.shares.specs.Below.{everyBelow, firstBelow};
@@ -64,8 +66,8 @@ pub fn solve(
     sizes: Sizes,
     constants: &[u64; 32],
     search: Search,
-    firsts: &mut [u64; 128],
-    leaves: &mut [u64; 128],
+    firsts: &mut [u64; FIRST_WORDS],
+    leaves: &mut [u64; LEAF_WORDS],
 ) -> bool
     requires { ⌜ Readable (now clauses) (sizes .counts) (sizes .free) (sizes .own) ⌝ }
     requires { ⌜ Named (sizes .counts) search × (sizes .named < 2 ^ 32) × (sizes .height ≤ 5) × (extraOf search ≡ 0) ⌝ }
@@ -82,8 +84,8 @@ pub fn survey_leaves(
     clauses: &[u8; CLAUSE_BYTES],
     sizes: Sizes,
     constants: &[u64; 32],
-    firsts: &mut [u64; 128],
-    leaves: &mut [u64; 128],
+    firsts: &mut [u64; FIRST_WORDS],
+    leaves: &mut [u64; LEAF_WORDS],
 ) -> Survey
     requires { ⌜ Readable (now clauses) (sizes .counts) (sizes .free) (sizes .own) ⌝ }
     requires { ⌜ (sizes .named < 2 ^ 32) × (sizes .height ≤ 5) ⌝ }

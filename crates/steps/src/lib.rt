@@ -2,6 +2,7 @@
 use basics::CLAUSE_BYTES;
 use beside::Sizes;
 use entries::Marks;
+use words::FIRST_WORDS;
 ghost use mathlib.Core.Path.{_≡_};
 ghost use mathlib.Core.List.{List, []};
 ghost use Prim.Native.Nat.{ℕ, _+_, _*_, _<_};
@@ -109,7 +110,7 @@ fn second_word(
     sizes: Sizes,
     at: Allowed,
     seen: Seen,
-    firsts: &mut [u64; 128],
+    firsts: &mut [u64; FIRST_WORDS],
     rows: &mut [u64; 96],
 ) -> Seen
     requires { ⌜ Readable (now clauses) (sizes .counts) (sizes .free) (sizes .own) ⌝ }
@@ -159,7 +160,7 @@ pub fn pass_word(
     sizes: Sizes,
     spot: Spot,
     seen: Seen,
-    firsts: &mut [u64; 128],
+    firsts: &mut [u64; FIRST_WORDS],
     rows: &mut [u64; 96],
 ) -> Seen
     requires { ⌜ Readable (now clauses) (sizes .counts) (sizes .free) (sizes .own) ⌝ }

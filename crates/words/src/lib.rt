@@ -13,6 +13,13 @@ ghost use Rattle.words.specs.Clause.{testWay, testValue, WaysOf, clauseT
 ghost use Rattle.words.specs.Choices.{wordCount, valuesAt};
 ghost use Rattle.words.specs.Table.{Terms, Changed, Within};
 
+// A table of first words has two numbers for each search: the word's number, and the choices in it that pass. There are up to 33 searches: one for each
+// of the first system's disequations, one for an unmet choice and one for the least of a leaf.
+pub const FIRST_WORDS: usize = 66;
+
+// A table of the leaves' least words has the same for each of up to 64 leaves.
+pub const LEAF_WORDS: usize = 128;
+
 // The word of the part whose number is byte `at`.
 fn term_word(terms: &[u64; 64], clauses: &[u8; CLAUSE_BYTES], at: usize) -> u64
     requires { ⌜ (at < 768) × (getD (now clauses) at 0 < 64) ⌝ }

@@ -17,7 +17,7 @@ use Rattle.entries.proofs.keep_all.Statement.{statement}
 use Rattle.entries.proofs.keep_all.Tie as tie
 
 abbrev Inv-loop : tie.InvT-loop
-Inv-loop terms clauses count turn x met firsts₀ r₀ rest₀ firsts r rest = (rest < 2 ^ 32) × ((k : ℕ) → T (bit rest k) → k < count) × (length firsts ≡ 128)
+Inv-loop terms clauses count turn x met firsts₀ r₀ rest₀ firsts r rest = (rest < 2 ^ 32) × ((k : ℕ) → T (bit rest k) → k < count) × (length firsts ≡ 66)
     × KeptBut rest count turn (λ i k. bit x k && not (clauseTest clauses (λ t. bit (getD terms t 0) k) (256 + 4 * i))) met firsts₀ r firsts
 
 abbrev μ-loop : tie.MeasureT-loop

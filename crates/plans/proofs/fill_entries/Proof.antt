@@ -29,8 +29,8 @@ add-if1 c = omega arith
 slot-of-requires : tie.Need-slot-of-requires Inv-loop μ-loop
 slot-of-requires c κs = omega (arith, c .before .before .before .before .before .pre .0 .extra)
 
-word-at-requires : tie.Need-word-at-requires Inv-loop μ-loop
-word-at-requires c κs =
+first-word-requires : tie.Need-first-word-requires Inv-loop μ-loop
+first-word-requires c κs =
     let s = c .before .before .before .before .before .before in
     let fits = s .pre .0 in
     rw (c .slot-of .ensures) (slot-lt _ (c .before .before .before .loop .e) (omega (arith, fits .extra, fits .few)))
@@ -39,12 +39,12 @@ leaf-of-requires : tie.Need-leaf-of-requires Inv-loop μ-loop
 leaf-of-requires c κs = c .before .before .before .before .before .before .before .pre .0 .variables
 
 -- the number of the word at hand
-number : (c : tie.After-word-at Inv-loop μ-loop) → (
+number : (c : tie.After-first-word Inv-loop μ-loop) → (
     let s = c .before .before .before .before .before .before .before in
-    leastNumber (c .word-at .result) ≡ numberAt (s .args .firsts .now) (slotOf (s .args .outline .extra) (c .before .before .before .before .loop .e)))
+    leastNumber (c .first-word .result) ≡ numberAt (s .args .firsts .now) (slotOf (s .args .outline .extra) (c .before .before .before .before .loop .e)))
 number c =
     let s = c .before .before .before .before .before .before .before in
-    c .word-at .ensures ∙ ap (numberAt (s .args .firsts .now)) (c .before .slot-of .ensures)
+    c .first-word .ensures ∙ ap (numberAt (s .args .firsts .now)) (c .before .slot-of .ensures)
 
 slice-aggregate-take-rank : tie.Need-slice-aggregate-take-rank Inv-loop μ-loop
 slice-aggregate-take-rank c = search needs
@@ -110,7 +110,7 @@ loop-again c =
     let taking = c .before .before .before .take-rank in
     let b = leaf .leaf-of .result in
     let stands : c .before .sub-leaf .result ≡ b * 2 ^ o .splits + taking .result = c .before .sub-leaf .ensures in
-    let chosen : c .choice-of .result ≡ leastNumber (leaf .before .word-at .result) % leafWidth (o .free) = c .choice-of .ensures in (
+    let chosen : c .choice-of .result ≡ leastNumber (leaf .before .first-word .result) % leafWidth (o .free) = c .choice-of .ensures in (
       omega arith,
       simp length-set (l .inv .1),
       simp length-set (l .inv .2),
@@ -144,7 +144,7 @@ fill-entries-spec =
     loop-holds
     add-if1
     slot-of-requires
-    word-at-requires
+    first-word-requires
     leaf-of-requires
     slice-aggregate-take-rank
     take-rank-requires

@@ -1,9 +1,9 @@
--- `plans::word_at` meets its contract. Assumes nothing.
+-- `plans::first_word` meets its contract. Assumes nothing.
 use mathlib.Core.Path.{refl}
 use Rattle.words.specs.Kept.{numberAt}
 use borrow.Author.Needs.{needs}
-use Rattle.plans.proofs.word_at.Statement.{statement}
-use Rattle.plans.proofs.word_at.Tie as tie
+use Rattle.plans.proofs.first_word.Statement.{statement}
+use Rattle.plans.proofs.first_word.Tie as tie
 
 mul-t3 : tie.Need-mul-t3
 mul-t3 c = search needs
@@ -30,8 +30,8 @@ returns : tie.Need-returns
 unfolding numberAt
 returns c = refl
 
-pub word-at-spec : {M : Type 1} → statement M
-word-at-spec =
+pub first-word-spec : {M : Type 1} → statement M
+first-word-spec =
     tie.close
     (tie.spec
     mul-t3
