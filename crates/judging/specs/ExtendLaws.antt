@@ -8,7 +8,6 @@ use lib.ListN.{getD}
 use Rattle.shares.specs.Below.{everyBelow, someBelow}
 use Rattle.shares.specs.BelowLaws.{every-ext, some-ext}
 use Rattle.shares.specs.Blocks.{blockOf}
-use Rattle.shares.specs.Constant.{constantLevels}
 use Rattle.leaves.specs.Choices as choice
 use Rattle.leaves.specs.RowNumbers.{value}
 use Rattle.leaves.specs.ChoiceLaws.{at-table, row-path}
@@ -28,17 +27,20 @@ use Rattle.extending.specs.Extending.{choiceAt, meetsOver, differsOver, extends
 use Rattle.judging.specs.Judging.{rowAt, extendsAt}
 
 module _ {kind : ℕ} (x : Stored) (q : Question) (St : Stands kind x q) (rows constants table : List ℕ) (named : ℕ)
-    (U : Unfolded constantLevels rows constants named table) where
+    (U : Unfolded (x .levels) rows constants named table) where
+  abbrev levels : ℕ
+  levels = x .levels
+
   abbrev height : ℕ
-  height = rowLevels constantLevels
+  height = rowLevels levels
 
   -- the free choice at a leaf, as a number
-  choice-number : (i : ℕ) → i < 2 ^ height → choiceAt table (q .free) i ≡ value (choice.table (q .free) (rowAt constantLevels rows i))
+  choice-number : (i : ℕ) → i < 2 ^ height → choiceAt levels table (q .free) i ≡ value (choice.table (q .free) (rowAt levels rows i))
   unfolding choiceAt
   choice-number i l =
       ap value (row-path false (q .free) _ _ (λ v m.
-      at-table false (q .free) (λ v. leafOf (rowWords constantLevels) table v i) v m ∙ U .variable v i (omega (arith, St .free, St .variables)) l
-      ∙ sym (at-table false (q .free) (rowAt constantLevels rows i) v m)))
+      at-table false (q .free) (λ v. leafOf (rowWords levels) table v i) v m ∙ U .variable v i (omega (arith, St .free, St .variables)) l
+      ∙ sym (at-table false (q .free) (rowAt levels rows i) v m)))
 
   -- with the question's numbers of variables
   abbrev S : Stored
@@ -48,33 +50,32 @@ module _ {kind : ℕ} (x : Stored) (q : Question) (St : Stands kind x q) (rows c
   same-stored = ap₂ (withVariables x) (St .free) (St .own)
 
   meets-same : (i : ℕ) → i < 2 ^ height
-      → meetsOver S table i ≡ leaf.meets (choice.least (q .own)) (secondAt constantLevels q) (blockOf constantLevels height i) (choice.table (q .free) (rowAt constantLevels rows i))
+      → meetsOver S table i ≡ leaf.meets (choice.least (q .own)) (secondAt levels q) (blockOf levels height i) (choice.table (q .free) (rowAt levels rows i))
   meets-same i l =
-      ap (secondMeets S (leafValues S constantLevels (blockOf constantLevels height i))) (choice-number i l)
-      ∙ sym (second-meets x q St constantLevels (blockOf constantLevels height i) (choice.table (q .free) (rowAt constantLevels rows i)))
+      ap (secondMeets S (leafValues S levels (blockOf levels height i))) (choice-number i l)
+      ∙ sym (second-meets x q St levels (blockOf levels height i) (choice.table (q .free) (rowAt levels rows i)))
 
   differs-same : (j : ℕ) → j < getD (x .counts) 3 0 → (i : ℕ) → i < 2 ^ height
       → differsOver S table j i
-      ≡ leaf.meetsWith (choice.least (q .own)) (secondAt constantLevels q) j (blockOf constantLevels height i) (choice.table (q .free) (rowAt constantLevels rows i))
+      ≡ leaf.meetsWith (choice.least (q .own)) (secondAt levels q) j (blockOf levels height i) (choice.table (q .free) (rowAt levels rows i))
   differs-same j m i l =
-      ap (secondDiffers S (leafValues S constantLevels (blockOf constantLevels height i)) j) (choice-number i l)
-      ∙ sym (second-with x q St constantLevels (blockOf constantLevels height i) (choice.table (q .free) (rowAt constantLevels rows i)) j m)
+      ap (secondDiffers S (leafValues S levels (blockOf levels height i)) j) (choice-number i l)
+      ∙ sym (second-with x q St levels (blockOf levels height i) (choice.table (q .free) (rowAt levels rows i)) j m)
 
   at-levels : extendsIn S table
-      ≡ (everyBelow (2 ^ height) (λ i. leaf.meets (choice.least (q .own)) (secondAt constantLevels q) (blockOf constantLevels height i) (choice.table (q .free) (rowAt constantLevels rows i)))
+      ≡ (everyBelow (2 ^ height) (λ i. leaf.meets (choice.least (q .own)) (secondAt levels q) (blockOf levels height i) (choice.table (q .free) (rowAt levels rows i)))
       && everyBelow (secondCount q) (λ j. someBelow (2 ^ height) (λ i.
-      leaf.meetsWith (choice.least (q .own)) (secondAt constantLevels q) j (blockOf constantLevels height i) (choice.table (q .free) (rowAt constantLevels rows i)))))
+      leaf.meetsWith (choice.least (q .own)) (secondAt levels q) j (blockOf levels height i) (choice.table (q .free) (rowAt levels rows i)))))
   at-levels =
       ap₂ _&&_ (every-ext (2 ^ height) _ _ meets-same)
       (every-ext (getD (x .counts) 3 0) _ _ (λ j m. some-ext (2 ^ height) _ _ (differs-same j m))
       ∙ ap (λ n. everyBelow n (λ j. someBelow (2 ^ height) (λ i.
-      leaf.meetsWith (choice.least (q .own)) (secondAt constantLevels q) j (blockOf constantLevels height i) (choice.table (q .free) (rowAt constantLevels rows i)))))
+      leaf.meetsWith (choice.least (q .own)) (secondAt levels q) j (blockOf levels height i) (choice.table (q .free) (rowAt levels rows i)))))
       (sym (section-count x q St SecondDisequation)))
 
   -- where constants have so many levels
   abbrev extendsWith : ℕ → Bool
-  extendsWith levels =
-      solvable (choice.least (q .own)) (rowLevels levels) (leaf.beside levels (secondAt levels q) (rowLevels levels) (λ i. choice.table (q .free) (rowAt levels rows i)))
+  extendsWith k = solvable (choice.least (q .own)) (rowLevels k) (leaf.beside k (secondAt k q) (rowLevels k) (λ i. choice.table (q .free) (rowAt k rows i)))
 
   pub extends-same : extendsIn x table ≡ extendsAt q rows
   unfolding solvable plainAt specialAt leaf.meets leaf.meetsWith

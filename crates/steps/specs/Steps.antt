@@ -70,7 +70,6 @@ pub record Amid (S : Stored) (h : ℕ) (search : Search) (b w : ℕ) (seen : See
       → bit (seen .here) j ≡ someBelow (64 * w) (allowedIn S (Missed j) (leafValues S h b))
   pub marks : search ≡ Unmet → T (not (bit (seen .met) 31)) → (j : ℕ) → j < getD (S .counts) 3 0 → T (bit (seen .possible) j)
       → (i : ℕ) → i < getD (S .counts) 1 0 → bit (getD rows (64 + j) 0) i ≡ someBelow (64 * (b * wordCount (S .free) + w)) (onPairs S h (meetsHere S (Missed j) i))
-
   pub settled : search ≡ Unmet → Settled S seen rows
 
 -- what the second system says of one word, whose choices the first system allows: the search for an unmet choice has seen it and, unless there is one, each
