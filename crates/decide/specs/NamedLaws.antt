@@ -60,7 +60,8 @@ module _ {kind : ℕ} (x : Stored) (q : Question) (St : Stands kind x q) where
   -- ---- the height of the question
 
   tree-is : (i : ℕ) → i < definedBy q → constantTree (q .constants) i ≡ numberTree (x .levels) (getD (x .constants) i 0)
-  tree-is i l = ap (λ cs. constantTree cs i) (St .constants) ∙ ap (numberTree (x .levels)) (getD-take (definedBy q) (x .constants) i 0 l)
+  tree-is i l =
+      ap (λ cs. constantTree cs i) (St .constants) ∙ ap (numberTree (x .levels)) (getD-take (definedBy q) (x .constants) i 0 l)
 
   pub height-is : tallestOf (x .levels) (x .constants) (x .named) ≡ questionHeight q
   height-is =
@@ -69,7 +70,9 @@ module _ {kind : ℕ} (x : Stored) (q : Question) (St : Stands kind x q) where
       (λ k f. among-least (q .constants) (namedBy q) k (λ i t. rw (tree-is i (St .namedDefined i t)) (f i (bit-set i t)))))
 
   pub question-low : questionHeight q ≤ x .levels
-  question-low = among-least (q .constants) (namedBy q) (x .levels) (λ i t. omega (arith, treeOf-height (q .constants .levels) (λ j. bit (getD (q .constants .numbers) i 0) j), levels-are x q St))
+  question-low =
+      among-least (q .constants) (namedBy q) (x .levels)
+      (λ i t. omega (arith, treeOf-height (q .constants .levels) (λ j. bit (getD (q .constants .numbers) i 0) j), levels-are x q St))
 
   -- ---- every constant in a clause has its bit
 

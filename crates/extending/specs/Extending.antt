@@ -12,7 +12,8 @@ use Rattle.rows.specs.Rows.{rowLevels}
 use Rattle.steps.specs.Tests.{leafValues, secondMeets, secondDiffers}
 use Rattle.unfolded.specs.Unfolded.{rowWords, leafOf}
 
--- where constants have so many levels: the choice of n free variables at leaf i of the rows of a table, as a number; variable 0 has the highest digit
+-- where constants have so many levels: the choice of n free variables at leaf i of the rows of a table, as a number;
+-- variable 0 has the highest digit
 unfoldable pub choiceAt : ℕ → List ℕ → ℕ → ℕ → ℕ
 choiceAt levels table n i = value (rows.table n (λ v. leafOf (rowWords levels) table v i))
 
@@ -20,10 +21,14 @@ choiceAt levels table n i = value (rows.table n (λ v. leafOf (rowWords levels) 
 abbrev pub over : ℕ → ℕ → ℕ
 over levels i = blockOf levels (rowLevels levels) i
 
+-- the values of the constants of a question at their leaf a
+abbrev pub valuesAtLeaf : Stored → ℕ → ℕ
+valuesAtLeaf S a = leafValues S (S .levels) a
+
 module _ (S : Stored) (table : List ℕ) where
-  -- the values of the constants at leaf i of the rows
+  -- those at leaf i of the rows
   abbrev valuesOver : ℕ → ℕ
-  valuesOver i = leafValues S (S .levels) (over (S .levels) i)
+  valuesOver i = valuesAtLeaf S (over (S .levels) i)
 
   -- beside the choice there some own choice meets the second system's positive clauses
   abbrev pub meetsOver : ℕ → Bool

@@ -50,9 +50,11 @@ value-more (suc n) f =
     go false ih = omega arith
 
 module _ (levels : ℕ) (table : List ℕ) where
-  choice-more : (n i : ℕ) → choiceAt levels table (n + 1) i ≡ 2 * choiceAt levels table n i + one (leafOf (rowWords levels) table n i)
+  choice-more : (n i : ℕ)
+      → choiceAt levels table (n + 1) i ≡ 2 * choiceAt levels table n i + one (leafOf (rowWords levels) table n i)
   unfolding choiceAt
-  choice-more n i = ap (λ k. choiceAt levels table k i) (add-one n) ∙ value-more n (λ v. leafOf (rowWords levels) table v i)
+  choice-more n i =
+      ap (λ k. choiceAt levels table k i) (add-one n) ∙ value-more n (λ v. leafOf (rowWords levels) table v i)
 
   pub choice-lt : (n i : ℕ) → choiceAt levels table n i < 2 ^ n
   unfolding choiceAt
@@ -71,8 +73,8 @@ module _ (levels : ℕ) (table : List ℕ) (w i leaves : ℕ) (small : i < 64) w
     itself = λ b. b;
   }
 
-  pub same-more : (v choice same x like choice′ : ℕ) (digit : Bool) → x ≡ getD table (rowWords levels * v + w) 0 → digit ≡ bit x i
-      → choice′ ≡ 2 * choice + one digit → ((k : ℕ) → k < 64 → bit like k ≡ Bool·beq (bit x k) digit)
+  pub same-more : (v choice same x like choice′ : ℕ) (digit : Bool) → x ≡ getD table (rowWords levels * v + w) 0
+      → digit ≡ bit x i → choice′ ≡ 2 * choice + one digit → ((k : ℕ) → k < 64 → bit like k ≡ Bool·beq (bit x k) digit)
       → SameAs levels table v w i leaves (record { choice = choice; leaves = same })
       → SameAs levels table (v + 1) w i leaves (record { choice = choice′; leaves = bitAnd same like })
   same-more v choice same x like choice′ digit ex ed ec el S = record {
@@ -252,6 +254,9 @@ module _ (levels : ℕ) (table : List ℕ) (n w leaves : ℕ) where
 over-is : (levels i : ℕ) → over levels i ≡ i / 32
 over-is levels i = let e : rowLevels levels - levels ≡ 5 = omega arith in ap (λ k. i / 2 ^ k) e
 
+pub over-lt : (levels i : ℕ) → i < 2 ^ rowLevels levels → over levels i < 2 ^ levels
+over-lt levels i h = block-lt {h = levels} {w = rowLevels levels} (omega arith) h
+
 -- those of them that are below leaf a
 abbrev pub AlikeTo : ℕ → List ℕ → ℕ → ℕ → ℕ → Type 0
 AlikeTo levels keys b a i = Alike levels keys b i × (over levels i < a)
@@ -268,9 +273,11 @@ module _ (levels : ℕ) (table keys : List ℕ) (n b : ℕ) where
   pub alike-start : (old : List ℕ) → Added choice (To b) old old
   alike-start old = added-none choice (To b) old (λ i d. omega (arith, d .0 .1, d .1))
 
-  pub alike-other : (a : ℕ) (old new : List ℕ) → (getD keys a 0 ≡ getD keys b 0 → ⊥) → Added choice (To a) old new → Added choice (To (a + 1)) old new
+  pub alike-other : (a : ℕ) (old new : List ℕ) → (getD keys a 0 ≡ getD keys b 0 → ⊥)
+      → Added choice (To a) old new → Added choice (To (a + 1)) old new
   alike-other a old new other =
-      added-as choice (To a) (To (a + 1)) old new (λ i d. (d .0, earlier i d (ℕ-discrete (over levels i) a))) (λ i d. (d .0, omega (arith, d .1)))
+      added-as choice (To a) (To (a + 1)) old new (λ i d. (d .0, earlier i d (ℕ-discrete (over levels i) a)))
+      (λ i d. (d .0, omega (arith, d .1)))
     where
       earlier : (i : ℕ) → To (a + 1) i → Dec (over levels i ≡ a) → over levels i < a
       earlier i d (yes e) = absurd (other (subst (λ k. getD keys k 0 ≡ getD keys b 0) e (d .0 .2)))
@@ -278,12 +285,15 @@ module _ (levels : ℕ) (table keys : List ℕ) (n b : ℕ) where
 
   pub alike-more : (a half : ℕ) (old mid new : List ℕ) → b ≤ a → a < 2 ^ levels → getD keys a 0 ≡ getD keys b 0
       → ((k : ℕ) → k < 64 → bit half k ≡ eqb (k / 32) (a % 2))
-      → Added choice (To a) old mid → Added (λ k. choice (64 * (a / 2) + k)) (BitOf half) mid new → Added choice (To (a + 1)) old new
+      → Added choice (To a) old mid → Added (λ k. choice (64 * (a / 2) + k)) (BitOf half) mid new
+      → Added choice (To (a + 1)) old new
   alike-more a half old mid new later small same bits A B =
       added-more choice (λ k. choice (64 * (a / 2) + k)) (To a) (BitOf half) (To (a + 1)) old mid new
-      (λ i d. part i d (ℕ-discrete (over levels i) a)) (λ i d. (d .0, omega (arith, d .1))) (λ k h. (64 * (a / 2) + k, given k h, refl)) A B
+      (λ i d. part i d (ℕ-discrete (over levels i) a)) (λ i d. (d .0, omega (arith, d .1)))
+      (λ k h. (64 * (a / 2) + k, given k h, refl)) A B
     where
-      part : (i : ℕ) → To (a + 1) i → Dec (over levels i ≡ a) → To a i ⊎ ((k : ℕ) × BitOf half k × (choice (64 * (a / 2) + k) ≡ choice i))
+      part : (i : ℕ) → To (a + 1) i → Dec (over levels i ≡ a)
+          → To a i ⊎ ((k : ℕ) × BitOf half k × (choice (64 * (a / 2) + k) ≡ choice i))
       part i d (no n) = inl (d .0, omega (arith, d .1))
       part i d (yes e) =
           let f : i / 32 ≡ a = sym (over-is levels i) ∙ e in
@@ -300,7 +310,8 @@ module _ (levels : ℕ) (table keys : List ℕ) (n b : ℕ) where
           let wide : 2 ^ rowLevels levels ≡ 2 ^ levels * 32 = pow-add 2 levels 5 in
           ((omega arith, omega arith, ap (λ k. getD keys k 0) e ∙ same), omega arith)
 
-  pub alike-done : (a : ℕ) (old new : List ℕ) → 2 ^ levels ≤ a → Added choice (To a) old new → Added choice (Alike levels keys b) old new
+  pub alike-done : (a : ℕ) (old new : List ℕ) → 2 ^ levels ≤ a
+      → Added choice (To a) old new → Added choice (Alike levels keys b) old new
   alike-done a old new h =
       added-as choice (To a) (Alike levels keys b) old new
-      (λ i d. (d, lt-of-lt-of-le (block-lt {h = levels} {w = rowLevels levels} (omega arith) (d .0)) h)) (λ i d. d .0)
+      (λ i d. (d, lt-of-lt-of-le (over-lt levels i (d .0)) h)) (λ i d. d .0)

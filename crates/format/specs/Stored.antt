@@ -89,8 +89,8 @@ readingsAt l start (suc n) = readingsAt l start n ++ (readingFrom (fourAt l (sta
 
 -- ---- what is stored of a question
 
--- the clauses' bytes and how many clauses each section has, the constants, their number of levels and which of them some clause names, and how many
--- variables there are
+-- the clauses' bytes and how many clauses each section has, the constants, their number of levels and which of them some
+-- clause names, and how many variables there are
 pub record Stored : Type 0 where
   pub clauses : List ℕ
   pub counts : List ℕ

@@ -85,7 +85,8 @@ firstJudged q rows =
 -- r is that of the first system of a question in bytes and the rows of a table
 abbrev pub First : ℕ → List ℕ → List ℕ → Judgement → Type 0
 First levels s table r =
-    (q : Question) (rows constants : List ℕ) (named : ℕ) → read s ≡ accepted q → Laid levels q rows constants named table → r ≡ firstJudged q rows
+    (q : Question) (rows constants : List ℕ) (named : ℕ) → read s ≡ accepted q → Laid levels q rows constants named table
+    → r ≡ firstJudged q rows
 
 -- at an offset of the question q, n clauses of its first system have been met: the commands from there on say the others
 pub record Walk (s : List ℕ) (q : Question) (at n : ℕ) : Type 0 where
@@ -102,5 +103,5 @@ HeldBelow q rows n = (k : ℕ) → k < n → not (clauseMet (q .constants) rows 
 -- the commands before an offset have been gone over, and the n clauses of the first system among them hold
 abbrev pub Gone : ℕ → List ℕ → List ℕ → ℕ → ℕ → Type 0
 Gone levels s table at n =
-    (q : Question) → read s ≡ accepted q
-    → Walk s q at n × ((rows constants : List ℕ) (named : ℕ) → Laid levels q rows constants named table → HeldBelow q rows n)
+    (q : Question) → read s ≡ accepted q → Walk s q at n
+    × ((rows constants : List ℕ) (named : ℕ) → Laid levels q rows constants named table → HeldBelow q rows n)

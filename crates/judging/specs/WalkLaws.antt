@@ -257,7 +257,8 @@ module _ (s : List ℕ) (q : Question) (e : read s ≡ accepted q) where
     clause-fits : CommandFits c
     clause-fits = command-fits (q .free) (q .constants) (omega (arith, L .variables)) (L .constants) c (its-terms (Defined (q .free) (q .constants)) (F .first))
 
-    module _ (levels : ℕ) (rows constants : List ℕ) (named : ℕ) (table : List ℕ) (laid : Laid levels q rows constants named table) where
+    module _ (levels : ℕ) (rows constants : List ℕ) (named : ℕ) (table : List ℕ)
+        (laid : Laid levels q rows constants named table) where
       few : q .free ≤ rowCount
       few = omega (arith, L .variables)
 
@@ -271,7 +272,8 @@ module _ (s : List ℕ) (q : Question) (e : read s ≡ accepted q) where
           (its-terms _ (in-system (Defined (q .free) (q .constants)) (Kept named) (DefinedKept (q .free) (q .constants) named) (λ t d k. (d, k)) (q .first) (F .first) (laid .kept)))
 
       -- the lowest leaf at which an atom does not hold, of the table and of the rows
-      failing-same : (a : Atom) → InAtom (DefinedKept (q .free) cs named) a → joinFailing levels table (fourOf (readAs a)) ≡ failingLeaf cs rows a
+      failing-same : (a : Atom) → InAtom (DefinedKept (q .free) cs named) a
+          → joinFailing levels table (fourOf (readAs a)) ≡ failingLeaf cs rows a
       failing-same a d = join-failing levels rows constants named table (laid .unfolded) (definedBy q) (q .free) few a d
 
       -- the clause is broken exactly if it is not met
@@ -288,7 +290,8 @@ module _ (s : List ℕ) (q : Question) (e : read s ≡ accepted q) where
               ∙ breaks-same cs rows (clauseOf (q .first) n) σ (atomOf t a b c) g
 
       -- and what is said of it is the judgement
-      clause-said : commandBreaks levels table c ≡ true → commandSaid levels table c n ≡ brokenAs (q .constants) rows n (clauseOf (q .first) n)
+      clause-said : commandBreaks levels table c ≡ true
+          → commandSaid levels table c n ≡ brokenAs (q .constants) rows n (clauseOf (q .first) n)
       clause-said = rw (laid .constants-are) (go c f kept)
         where
           go : (c : Command) → firstClause c ≡ clauseOf (q .first) n ∷ [] → InCommand (DefinedKept (q .free) cs named) c
@@ -361,8 +364,8 @@ module _ (levels : ℕ) (s table : List ℕ) where
           pub gone-fits : (q : Question) → read s ≡ accepted q → CommandFits c × (n < length (q .first))
           gone-fits q e = let w = walk-clause s q (g q e .0) c next r d f in (clause-fits s q e n c (w .0) (w .1), w .0)
 
-          breaks : (q : Question) (rows constants : List ℕ) (named : ℕ) → read s ≡ accepted q → Laid levels q rows constants named table
-              → commandBreaks levels table c ≡ not (clauseMet (q .constants) rows (clauseOf (q .first) n))
+          breaks : (q : Question) (rows constants : List ℕ) (named : ℕ) → read s ≡ accepted q
+              → Laid levels q rows constants named table → commandBreaks levels table c ≡ not (clauseMet (q .constants) rows (clauseOf (q .first) n))
           breaks q rows constants named e laid =
               let w = walk-clause s q (g q e .0) c next r d f in
               clause-breaks s q e n c (w .0) (w .1) levels rows constants named table laid
@@ -380,18 +383,21 @@ module _ (levels : ℕ) (s table : List ℕ) where
           )
 
 -- a constant says nothing to the first system
-pub gone-constant : (levels : ℕ) (s table : List ℕ) {at n : ℕ} → Gone levels s table at n → constantAt s at ≡ true → Gone levels s table (at + constantSize) n
+pub gone-constant : (levels : ℕ) (s table : List ℕ) {at n : ℕ} → Gone levels s table at n → constantAt s at ≡ true
+    → Gone levels s table (at + constantSize) n
 gone-constant levels s table {at} {n} g e =
     let next : at + 1 + bytesAt constantLevels ≡ at + constantSize = omega arith in
     subst (λ k. Gone levels s table k n) next (gone-other levels s table g (constant-read s at e) refl refl)
 
 -- so the constants that stand first are passed over
-pub gone-led : (levels : ℕ) (s table : List ℕ) (k n : ℕ) → Gone levels s table (placeOf n) 0 → Gone levels s table (placeOf (leading k s n)) 0
+pub gone-led : (levels : ℕ) (s table : List ℕ) (k n : ℕ) → Gone levels s table (placeOf n) 0
+    → Gone levels s table (placeOf (leading k s n)) 0
 unfolding leading
 gone-led levels s table zero n g = g
 gone-led levels s table (suc k) n g = pick (constantAt s (placeOf n)) refl (gone-led levels s table k (n + 1))
   where
-    pick : (b : Bool) → constantAt s (placeOf n) ≡ b → (Gone levels s table (placeOf (n + 1)) 0 → Gone levels s table (placeOf (leading k s (n + 1))) 0)
+    pick : (b : Bool) → constantAt s (placeOf n) ≡ b
+        → (Gone levels s table (placeOf (n + 1)) 0 → Gone levels s table (placeOf (leading k s (n + 1))) 0)
         → Gone levels s table (placeOf (cond b (leading k s (n + 1)) n)) 0
     pick true e f =
         let next : placeOf n + constantSize ≡ placeOf (n + 1) = omega arith in
