@@ -78,7 +78,7 @@ missed-there h q j = by-kind (q .kind)
 
 -- ---- of what stands for a question, whose constants have no more levels than a plan has room for
 
-module _ {kind : ℕ} (x : Stored) (q : Question) (St : Stands kind x q) (room-for : x .levels ≤ 5) where
+module _ {kind : ℕ} (x : Stored) (q : Question) (St : Stands kind x q) (room-for : x .levels ≤ 6) where
   abbrev H : ℕ
   H = questionHeight q
 
