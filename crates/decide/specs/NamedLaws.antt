@@ -9,7 +9,7 @@ use lib.ListN.{length, getD, List·getD-map}
 use lib.Seq.{getD-take}
 use Rattle.shares.specs.Tree.{height}
 use Rattle.shares.specs.TreeLaws.{treeOf-height}
-use Rattle.shares.specs.Constant.{constantLevels, numberTree, bit}
+use Rattle.shares.specs.Constant.{numberTree, bit}
 use Rattle.shares.specs.BitLaws.{number-lt, bit-number}
 use Rattle.shares.specs.BitParts.{bit-beyond}
 use Rattle.systems.specs.Clauses.{variable, equal, constantTree}
@@ -59,17 +59,20 @@ module _ {kind : ℕ} (x : Stored) (q : Question) (St : Stands kind x q) where
 
   -- ---- the height of the question
 
-  tree-is : (i : ℕ) → i < definedBy q → constantTree (q .constants) i ≡ numberTree constantLevels (getD (x .constants) i 0)
-  tree-is i l = ap (λ cs. constantTree cs i) (St .constants) ∙ ap (numberTree constantLevels) (getD-take (definedBy q) (x .constants) i 0 l)
+  tree-is : (i : ℕ) → i < definedBy q → constantTree (q .constants) i ≡ numberTree (x .levels) (getD (x .constants) i 0)
+  tree-is i l =
+      ap (λ cs. constantTree cs i) (St .constants) ∙ ap (numberTree (x .levels)) (getD-take (definedBy q) (x .constants) i 0 l)
 
-  pub height-is : tallestOf constantLevels (x .constants) (x .named) ≡ questionHeight q
+  pub height-is : tallestOf (x .levels) (x .constants) (x .named) ≡ questionHeight q
   height-is =
-      sym (tallest-is constantLevels (x .constants) (x .named) (questionHeight q) (λ i t. omega (arith, bit-defined i t, St .constantCounted))
+      sym (tallest-is (x .levels) (x .constants) (x .named) (questionHeight q) (λ i t. omega (arith, bit-defined i t, St .constantCounted))
       (λ i t. rw (← tree-is i (bit-defined i t)) (among-low (q .constants) (namedBy q) i (bit-named i t)))
       (λ k f. among-least (q .constants) (namedBy q) k (λ i t. rw (tree-is i (St .namedDefined i t)) (f i (bit-set i t)))))
 
-  pub question-low : questionHeight q ≤ 5
-  question-low = among-least (q .constants) (namedBy q) 5 (λ i t. omega (arith, treeOf-height (q .constants .levels) (λ j. bit (getD (q .constants .numbers) i 0) j), levels-are x q St))
+  pub question-low : questionHeight q ≤ x .levels
+  question-low =
+      among-least (q .constants) (namedBy q) (x .levels)
+      (λ i t. omega (arith, treeOf-height (q .constants .levels) (λ j. bit (getD (q .constants .numbers) i 0) j), levels-are x q St))
 
   -- ---- every constant in a clause has its bit
 

@@ -4,7 +4,6 @@ use mathlib.Core.Bool.{true, false, true≢false}
 use Prim.Native.Nat.{ℕ, _+_, _≤_}
 use native.Mathlib.Omega.{arith}
 use lib.ListN.{getD}
-use Rattle.shares.specs.Constant.{constantLevels}
 use Rattle.leaves.specs.Heights.{c}
 use Rattle.leaves.specs.HeightLaws.{c-most}
 use Rattle.systems.specs.Questions.{Question, questionHeight, firstCount}
@@ -51,7 +50,7 @@ module _ {kind : ℕ} (x : Stored) (q : Question) (St : Stands kind x q) where
   pub splits-few : (search : Search) → c (roomOf search (firstCount q)) ≤ 5
   splits-few search = c-most (roomOf search (firstCount q)) 5 (omega (arith, room-most search (firstCount q), count-few))
 
-  pub outline-is : (search : Search) (height room splits extra : ℕ) → height ≡ tallestOf constantLevels (x .constants) (x .named)
+  pub outline-is : (search : Search) (height room splits extra : ℕ) → height ≡ tallestOf (x .levels) (x .constants) (x .named)
       → room ≡ roomOf search (getD (x .counts) 1 0) → splits ≡ c room → extra ≡ extraOf search
       → record { free = x .free; height = height; splits = splits; extra = extra; count = getD (x .counts) 1 0 } ≡ outlineOf q search
   outline-is search height room splits extra h r s e = rw (St .free, h ∙ height-is x q St, s, r, e, count-is)

@@ -76,9 +76,9 @@ missed-there h q j = by-kind (q .kind)
         alone false e = let z : _≡_ {A = ℕ} 0 1 = cc in absurd (omega arith)
     by-kind entailment = chosen (canSolve h q) (someUnmet h q) _ refl
 
--- ---- of what stands for a question
+-- ---- of what stands for a question, whose constants have no more levels than a plan has room for
 
-module _ {kind : ℕ} (x : Stored) (q : Question) (St : Stands kind x q) where
+module _ {kind : ℕ} (x : Stored) (q : Question) (St : Stands kind x q) (room-for : x .levels ≤ 6) where
   abbrev H : ℕ
   H = questionHeight q
 

@@ -36,7 +36,7 @@ use Rattle.steps.specs.declared.Search.the-variants.{First, Unmet, Missed}
 
 -- what is stored, with n free and m own variables
 abbrev pub withVariables : Stored → ℕ → ℕ → Stored
-withVariables x n m = record { clauses = x .clauses; counts = x .counts; constants = x .constants; named = x .named; free = n; own = m }
+withVariables x n m = record { clauses = x .clauses; counts = x .counts; constants = x .constants; levels = x .levels; named = x .named; free = n; own = m }
 
 module _ {kind : ℕ} (x : Stored) (q : Question) (St : Stands kind x q) (h : ℕ) where
   abbrev S : Stored

@@ -16,7 +16,7 @@ use Rattle.shares.specs.Below.{everyBelow, one}
 use Rattle.shares.specs.Blocks.{firstOf}
 use Rattle.shares.specs.Tree.{isWay, leafTest}
 use Rattle.shares.specs.declared.Way.the-variants.{Holds}
-use Rattle.shares.specs.Constant.{constantLevels, bit}
+use Rattle.shares.specs.Constant.{bit}
 use Rattle.shares.specs.BitLaws.{bit-number}
 use Rattle.leaves.specs.Choices.{Row, nil, cons, at}
 use Rattle.leaves.specs.RowNumbers.{value}
@@ -75,7 +75,7 @@ all-append h cs b X (x ∷ l) t = ap (λ y. readingAt h cs b X x && y) (all-appe
 
 -- the constants as the model has them, so many of them
 abbrev pub storedConstants : Stored → ℕ → Constants
-storedConstants S d = record { levels = constantLevels; numbers = take d (S .constants) }
+storedConstants S d = record { levels = S .levels; numbers = take d (S .constants) }
 
 -- the bit of a term that is a constant is set among those that are named
 abbrev pub Kept : ℕ → Term → Type 0
@@ -84,7 +84,7 @@ Kept named (constant i) = T (bit named i)
 
 module _ (S : Stored) (d h b : ℕ) (few : d ≤ 32) where
   -- the values of the constants
-  leaf-bit : (i : ℕ) → i < d → T (bit (S .named) i) → bit (leafValues S h b) i ≡ bit (getD (S .constants) i 0) (firstOf h constantLevels b)
+  leaf-bit : (i : ℕ) → i < d → T (bit (S .named) i) → bit (leafValues S h b) i ≡ bit (getD (S .constants) i 0) (firstOf h (S .levels) b)
   unfolding valuesAt
   leaf-bit i l t = bit-number 64 _ i (omega arith) ∙ rw (is-true (bit (S .named) i) t)
 
@@ -101,7 +101,7 @@ module _ (S : Stored) (d h b : ℕ) (few : d ≤ 32) where
         cond-split false e f p u =
             let l : t - 32 < d = ltb→lt (t - 32) d f in
             let g : 32 ≤ t = borrow.Author.Tests.ltb-false t 32 e in
-            ap (λ x. bit x (firstOf h constantLevels b)) (getD-take d (S .constants) (t - 32) 0 l)
+            ap (λ x. bit x (firstOf h (S .levels) b)) (getD-take d (S .constants) (t - 32) 0 l)
             ∙ sym (leaf-bit (t - 32) l p)
             ∙ sym (value-constant n m (leafValues S h b) z t (omega arith) g)
 

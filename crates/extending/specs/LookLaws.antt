@@ -15,8 +15,7 @@ use borrow.Author.Tests.{eq-eqb, lt-ltb}
 use Rattle.shares.specs.Test.{is-false, of-true, of-false, passes, holds, same-test, beq-iff, and-intro, and-left, and-right}
 use Rattle.shares.specs.Below.{everyBelow, someBelow}
 use Rattle.shares.specs.BelowLaws.{every-at, every-intro, every-or, some-intro, some-found, some-or}
-use Rattle.shares.specs.BlockLaws.{block-lt}
-use Rattle.shares.specs.Constant.{bit, constantLevels}
+use Rattle.shares.specs.Constant.{bit}
 use Rattle.shares.specs.BitLaws.{bit-zero, bits-zero}
 use Rattle.shares.specs.BitParts.{bit-ones, bit-beyond}
 use Rattle.format.specs.Stored.{Stored}
@@ -24,10 +23,10 @@ use Rattle.rows.specs.Rows.{rowLevels}
 use Rattle.words.specs.Choices.{wordCount, someOwn}
 use Rattle.beside.specs.Beside.{Merged, SameFree, Left, positivesPass, disequationPasses, Missing}
 use Rattle.beside.specs.GatherLaws.{same-free, choices-le}
-use Rattle.steps.specs.Tests.{leafValues, secondMeets, secondDiffers}
-use Rattle.extending.specs.Extending.{choiceAt, over, meetsOver, differsOver, extendsIn}
+use Rattle.steps.specs.Tests.{secondMeets, secondDiffers}
+use Rattle.extending.specs.Extending.{choiceAt, over, valuesAtLeaf, meetsOver, differsOver, extendsIn}
 use Rattle.extending.specs.Looks.{inSet, Added, Alike, alike, Looked, allMet, ChoicesLooked, SeenBy, LeavesLooked, InWord, InWords, KeysOf}
-use Rattle.extending.specs.MarkLaws.{choice-lt, empty-set}
+use Rattle.extending.specs.MarkLaws.{choice-lt, empty-set, over-lt}
 use Rattle.extending.specs.declared.Rest.{Rest}
 
 -- ---- looked at
@@ -277,67 +276,69 @@ module _ (count : ℕ) (meets : ℕ → Bool) (differs : ℕ → ℕ → Bool) (
 
 -- ---- the leaves of the rows
 
-module _ (S : Stored) (table keys : List ℕ) (b start wanted : ℕ) (room : b < 2 ^ constantLevels) (K : KeysOf S keys)
+module _ (S : Stored) (table keys : List ℕ) (b start wanted : ℕ) (room : b < 2 ^ S .levels) (K : KeysOf S keys)
     (L : LeavesLooked S table b start (allMet wanted)) where
   -- leaf b has the values of an earlier leaf
   pub leaf-known : (a : ℕ) → a < b → getD keys a 0 ≡ getD keys b 0 → LeavesLooked S table (b + 1) start (allMet wanted)
   leaf-known a l u =
-      let e : leafValues S constantLevels a ≡ leafValues S constantLevels b = sym (K a (omega arith)) ∙ u ∙ K b room in
+      let e : valuesAtLeaf S a ≡ valuesAtLeaf S b = sym (K a (omega arith)) ∙ u ∙ K b room in
       looked-as (getD (S .counts) 3 0) (meetsOver S table) (differsOver S table) (meetsOver S table) (differsOver S table) (SeenBy S b) (SeenBy S (b + 1))
       start (allMet wanted) (λ i (d, m, h, q). (i, (d, omega arith, h, q), refl, λ j. refl))
       (λ i (d, m, h, q). (i, earlier e i d m h q (decLt d b), refl, λ j. refl)) L
     where
-      earlier : leafValues S constantLevels a ≡ leafValues S constantLevels b → (i d : ℕ) → d < b + 1
-          → i < 2 ^ rowLevels constantLevels → leafValues S constantLevels d ≡ leafValues S constantLevels (over i) → Dec (d < b) → SeenBy S b i
+      earlier : valuesAtLeaf S a ≡ valuesAtLeaf S b → (i d : ℕ) → d < b + 1 → i < 2 ^ rowLevels (S .levels)
+          → valuesAtLeaf S d ≡ valuesAtLeaf S (over (S .levels) i) → Dec (d < b) → SeenBy S b i
       earlier e i d m h q (yes k) = (d, k, h, q)
-      earlier e i d m h q (no n) = let f : b ≡ d = omega arith in (a, l, h, e ∙ ap (leafValues S constantLevels) f ∙ q)
+      earlier e i d m h q (no n) = let f : b ≡ d = omega arith in (a, l, h, e ∙ ap (valuesAtLeaf S) f ∙ q)
 
   -- the leaves that look like it are looked at
   pub leaf-looked : (words : ℕ) (present : List ℕ) (r : Rest) → getD (S .counts) 3 0 ≤ 64
-      → Added (choiceAt table (S .free)) (Alike keys b) (replicate words 0) present
+      → Added (choiceAt (S .levels) table (S .free)) (Alike (S .levels) keys b) (replicate words 0) present
       → ChoicesLooked S (getD keys b 0) (InWords (wordCount (S .free)) present) wanted r → LeavesLooked S table (b + 1) start r
   leaf-looked words present r few A W =
-      looked-more (getD (S .counts) 3 0) (meetsOver S table) (differsOver S table) (SeenBy S b) (Alike keys b) (SeenBy S (b + 1)) start (allMet wanted) r few tt
+      looked-more (getD (S .counts) 3 0) (meetsOver S table) (differsOver S table) (SeenBy S b) (Alike (S .levels) keys b)
+      (SeenBy S (b + 1)) start (allMet wanted) r few tt
       (λ i (d, m, h, q). part i h d m q (decLt d b)) (λ i (d, m, h, q). (d, omega arith, h, q))
-      (λ i (h, m, q). (b, omega arith, h, sym (K b room) ∙ sym q ∙ K (over i) (below i h))) L
+      (λ i (h, m, q). (b, omega arith, h, sym (K b room) ∙ sym q ∙ K (over (S .levels) i) (over-lt (S .levels) i h))) L
       (looked-as (getD (S .counts) 3 0) (secondMeets S (getD keys b 0)) (secondDiffers S (getD keys b 0)) (meetsOver S table) (differsOver S table)
-      (InWords (wordCount (S .free)) present) (Alike keys b) wanted r
+      (InWords (wordCount (S .free)) present) (Alike (S .levels) keys b) wanted r
       (λ c (l, t). from c (A .only c t))
       (λ i a.
-      let small = lt-of-lt-of-le (choice-lt table (S .free) i) (choices-le (S .free)) in
-      (choiceAt table (S .free) i, (small, A .added i a), same i a .0, same i a .1)) W)
+      let small = lt-of-lt-of-le (choice-lt (S .levels) table (S .free) i) (choices-le (S .free)) in
+      (choiceAt (S .levels) table (S .free) i, (small, A .added i a), same i a .0, same i a .1)) W)
     where
-      below : (i : ℕ) → i < 2 ^ rowLevels constantLevels → over i < 2 ^ constantLevels
-      below i h = block-lt {h = constantLevels} {w = rowLevels constantLevels} (omega arith) h
-
       -- a leaf below one that looks like leaf b has the values there
-      values : (i : ℕ) → Alike keys b i → getD keys b 0 ≡ leafValues S constantLevels (over i)
-      values i (h, m, q) = sym q ∙ K (over i) (below i h)
+      values : (i : ℕ) → Alike (S .levels) keys b i → getD keys b 0 ≡ valuesAtLeaf S (over (S .levels) i)
+      values i (h, m, q) = sym q ∙ K (over (S .levels) i) (over-lt (S .levels) i h)
 
-      same : (i : ℕ) → Alike keys b i
-          → (secondMeets S (getD keys b 0) (choiceAt table (S .free) i) ≡ meetsOver S table i)
-          × ((j : ℕ) → secondDiffers S (getD keys b 0) j (choiceAt table (S .free) i) ≡ differsOver S table j i)
+      same : (i : ℕ) → Alike (S .levels) keys b i
+          → (secondMeets S (getD keys b 0) (choiceAt (S .levels) table (S .free) i) ≡ meetsOver S table i)
+          × ((j : ℕ)
+          → secondDiffers S (getD keys b 0) j (choiceAt (S .levels) table (S .free) i) ≡ differsOver S table j i)
       same i a = (
-        ap (λ v. secondMeets S v (choiceAt table (S .free) i)) (values i a),
-        λ j. ap (λ v. secondDiffers S v j (choiceAt table (S .free) i)) (values i a),
+        ap (λ v. secondMeets S v (choiceAt (S .levels) table (S .free) i)) (values i a),
+        λ j. ap (λ v. secondDiffers S v j (choiceAt (S .levels) table (S .free) i)) (values i a),
       )
 
-      from : (c : ℕ) → T (inSet (replicate words 0) c) ⊎ ((i : ℕ) × Alike keys b i × (choiceAt table (S .free) i ≡ c))
-          → (i : ℕ) × Alike keys b i × (secondMeets S (getD keys b 0) c ≡ meetsOver S table i)
+      from : (c : ℕ)
+          → T (inSet (replicate words 0) c) ⊎ ((i : ℕ) × Alike (S .levels) keys b i × (choiceAt (S .levels) table (S .free) i ≡ c))
+          → (i : ℕ) × Alike (S .levels) keys b i × (secondMeets S (getD keys b 0) c ≡ meetsOver S table i)
           × ((j : ℕ) → secondDiffers S (getD keys b 0) j c ≡ differsOver S table j i)
       from c (inl t) = absurd (empty-set words c t)
       from c (inr (i, a, e)) =
           (i, a, ap (secondMeets S (getD keys b 0)) (sym e) ∙ same i a .0, λ j. ap (secondDiffers S (getD keys b 0) j) (sym e) ∙ same i a .1 j)
 
-      part : (i : ℕ) → i < 2 ^ rowLevels constantLevels → (d : ℕ) → d < b + 1 → leafValues S constantLevels d ≡ leafValues S constantLevels (over i)
-          → Dec (d < b) → SeenBy S b i ⊎ Alike keys b i
+      part : (i : ℕ) → i < 2 ^ rowLevels (S .levels) → (d : ℕ) → d < b + 1
+          → valuesAtLeaf S d ≡ valuesAtLeaf S (over (S .levels) i) → Dec (d < b) → SeenBy S b i ⊎ Alike (S .levels) keys b i
       part i h d m q (yes l) = inl (d, l, h, q)
       part i h d m q (no n) =
           let e : d ≡ b = omega arith in
-          later (K (over i) (below i h) ∙ sym q ∙ ap (leafValues S constantLevels) e ∙ sym (K b room)) (decLt (over i) b)
+          later (K (over (S .levels) i) (over-lt (S .levels) i h) ∙ sym q ∙ ap (valuesAtLeaf S) e ∙ sym (K b room))
+          (decLt (over (S .levels) i) b)
         where
-          later : getD keys (over i) 0 ≡ getD keys b 0 → Dec (over i < b) → SeenBy S b i ⊎ Alike keys b i
-          later f (yes l) = inl (over i, l, h, refl)
+          later : getD keys (over (S .levels) i) 0 ≡ getD keys b 0 → Dec (over (S .levels) i < b)
+              → SeenBy S b i ⊎ Alike (S .levels) keys b i
+          later f (yes l) = inl (over (S .levels) i, l, h, refl)
           later f (no n) = inr (h, omega arith, f)
 
 -- ---- all leaves of the rows
@@ -350,13 +351,13 @@ module _ (S : Stored) (table : List ℕ) where
   -- one fails
   pub leaves-unmet : (b start : ℕ) (r : Rest) → T (not (r .met)) → LeavesLooked S table b start r → extendsIn S table ≡ false
   leaves-unmet b start r fails L =
-      looked-unmet (getD (S .counts) 3 0) (meetsOver S table) (differsOver S table) (2 ^ rowLevels constantLevels) (SeenBy S b) start r
-      (λ i (d, m, h, q). h) L fails
+      looked-unmet (getD (S .counts) 3 0) (meetsOver S table) (differsOver S table) (2 ^ rowLevels (S .levels)) (SeenBy S b)
+      start r (λ i (d, m, h, q). h) L fails
 
   -- none fails
-  pub leaves-all : (b wanted : ℕ) → 2 ^ constantLevels ≤ b → getD (S .counts) 3 0 ≤ 64 → wanted < 2 ^ 64
+  pub leaves-all : (b wanted : ℕ) → 2 ^ S .levels ≤ b → getD (S .counts) 3 0 ≤ 64 → wanted < 2 ^ 64
       → LeavesLooked S table b (2 ^ getD (S .counts) 3 0 - 1) (allMet wanted) → eqb wanted 0 ≡ extendsIn S table
   leaves-all b wanted last few small L =
-      looked-all (getD (S .counts) 3 0) (meetsOver S table) (differsOver S table) (2 ^ rowLevels constantLevels) (SeenBy S b)
-      (2 ^ getD (S .counts) 3 0 - 1) (allMet wanted) (λ i (d, m, h, q). h) L
-      (λ i h. (over i, lt-of-lt-of-le (block-lt {h = constantLevels} {w = rowLevels constantLevels} (omega arith) h) last, h, refl)) tt refl few small
+      looked-all (getD (S .counts) 3 0) (meetsOver S table) (differsOver S table) (2 ^ rowLevels (S .levels))
+      (SeenBy S b) (2 ^ getD (S .counts) 3 0 - 1) (allMet wanted) (λ i (d, m, h, q). h) L
+      (λ i h. (over (S .levels) i, lt-of-lt-of-le (over-lt (S .levels) i h) last, h, refl)) tt refl few small

@@ -7,11 +7,11 @@ use Prim.Native.Nat.{ℕ, _+_, _*_, _/_, _%_, _^_, _≤_, _<_}
 use lib.Dec.{T}
 use lib.ListN.{getD}
 use Rattle.shares.specs.Below.{everyBelow}
-use Rattle.shares.specs.Constant.{bit, constantLevels}
+use Rattle.shares.specs.Constant.{bit}
 use Rattle.format.specs.Stored.{Stored}
 use Rattle.rows.specs.Rows.{rowLevels}
-use Rattle.steps.specs.Tests.{leafValues, secondMeets, secondDiffers}
-use Rattle.extending.specs.Extending.{choiceAt, over, meetsOver, differsOver}
+use Rattle.steps.specs.Tests.{secondMeets, secondDiffers}
+use Rattle.extending.specs.Extending.{choiceAt, over, valuesAtLeaf, meetsOver, differsOver}
 use Rattle.extending.specs.declared.Rest.{Rest}
 use Rattle.extending.specs.declared.Same.{Same}
 
@@ -31,15 +31,16 @@ pub record Added (choice : ℕ → ℕ) (Given : ℕ → Type 0) (old new : List
 abbrev pub BitOf : ℕ → ℕ → Type 0
 BitOf x i = (i < 64) × T (bit x i)
 
--- the choice at leaf 64 * w + i, and leaves of word w that have the same, among which i is if it is one of those given
-pub record SameAs (table : List ℕ) (n w i leaves : ℕ) (r : Same) : Type 0 where
-  pub choice : r .choice ≡ choiceAt table n (64 * w + i)
-  pub same : (k : ℕ) → BitOf (r .leaves) k → choiceAt table n (64 * w + k) ≡ choiceAt table n (64 * w + i)
+-- where constants have so many levels: the choice at leaf 64 * w + i, and leaves of word w that have the same, among which
+-- i is if it is one of those given
+pub record SameAs (levels : ℕ) (table : List ℕ) (n w i leaves : ℕ) (r : Same) : Type 0 where
+  pub choice : r .choice ≡ choiceAt levels table n (64 * w + i)
+  pub same : (k : ℕ) → BitOf (r .leaves) k → choiceAt levels table n (64 * w + k) ≡ choiceAt levels table n (64 * w + i)
   pub itself : BitOf leaves i → BitOf (r .leaves) i
 
 -- leaf i of the rows lies below a leaf of the constants from b on, where they have the values that they have at b
-abbrev pub Alike : List ℕ → ℕ → ℕ → Type 0
-Alike keys b i = (i < 2 ^ rowLevels constantLevels) × (b ≤ over i) × (getD keys (over i) 0 ≡ getD keys b 0)
+abbrev pub Alike : ℕ → List ℕ → ℕ → ℕ → Type 0
+Alike levels keys b i = (i < 2 ^ rowLevels levels) × (b ≤ over levels i) × (getD keys (over levels i) 0 ≡ getD keys b 0)
 
 -- ---- what is found
 
@@ -67,7 +68,7 @@ module _ (S : Stored) where
 
   -- leaf i of the rows lies where the constants have the values of one of their first b leaves
   abbrev pub SeenBy : ℕ → ℕ → Type 0
-  SeenBy b i = (a : ℕ) × (a < b) × (i < 2 ^ rowLevels constantLevels) × (leafValues S constantLevels a ≡ leafValues S constantLevels (over i))
+  SeenBy b i = (a : ℕ) × (a < b) × (i < 2 ^ rowLevels (S .levels)) × (valuesAtLeaf S a ≡ valuesAtLeaf S (over (S .levels) i))
 
   -- those leaves of the rows are looked at
   abbrev pub LeavesLooked : List ℕ → ℕ → ℕ → Rest → Type 0
@@ -82,4 +83,4 @@ InWords w set c = (c < 64 * w) × T (inSet set c)
 
 -- the values of the constants of a question at each of their leaves
 abbrev pub KeysOf : Stored → List ℕ → Type 0
-KeysOf S keys = (a : ℕ) → a < 2 ^ constantLevels → getD keys a 0 ≡ leafValues S constantLevels a
+KeysOf S keys = (a : ℕ) → a < 2 ^ S .levels → getD keys a 0 ≡ valuesAtLeaf S a

@@ -4,7 +4,7 @@ use mathlib.Core.Logic.{_⊎_, inl, inr}
 use mathlib.Core.Bool.{Bool, true, false, not, _&&_, _||_, Bool·beq}
 use mathlib.Core.List.{List}
 use Prim.Native.Nat.{ℕ, zero, suc, _+_, _-_, _*_, _/_, _%_, _^_, _≤_, _<_}
-use native.Mathlib.Nat.{pow-suc, mod-lt}
+use native.Mathlib.Nat.{pow-suc, mod-lt, lt-of-lt-of-le}
 use native.Mathlib.Numerals.{add-one}
 use native.Mathlib.Decide.{ℕ-discrete}
 use native.Mathlib.Omega.{arith}
@@ -12,12 +12,14 @@ use lib.Arith.{lt-of-le-ne}
 use lib.Bits.{bitAnd, bitOr, and-le-l}
 use lib.Dec.{T, T-not, not-T, eqb, eqb→eq, eqb-refl}
 use lib.ListN.{length, getD, set, replicate}
+use lib.Pow.{pow-add}
 use lib.Seq.{getD-set-same, getD-set-other}
 use borrow.Author.Tests.{eq-eqb}
 use Rattle.shares.specs.Test.{of-true, passes, beq-iff, and-intro, and-left, and-right, or-left, or-right, or-cases}
 use Rattle.shares.specs.Below.{one, firstBelow}
 use Rattle.shares.specs.BelowLaws.{first-below}
-use Rattle.shares.specs.Constant.{bit, constantLevels}
+use Rattle.shares.specs.BlockLaws.{block-lt}
+use Rattle.shares.specs.Constant.{bit}
 use Rattle.shares.specs.BitLaws.{bit-zero, bit-and, bit-or}
 use Rattle.shares.specs.BitParts.{bit-not}
 use Rattle.shares.specs.NumberLaws.{zero-at}
@@ -25,6 +27,7 @@ use Rattle.leaves.specs.Choices as rows
 use Rattle.leaves.specs.RowNumbers.{value}
 use Rattle.leaves.specs.ChoiceLaws.{value-lt}
 use Rattle.shares.specs.Shifts.{power-shift, power-bit}
+use Rattle.rows.specs.Rows.{rowLevels}
 use Rattle.unfolded.specs.Unfolded.{rowWords, leafOf}
 use Rattle.unfolded.specs.UnfoldedLaws.{leaf-word}
 use Rattle.extending.specs.Extending.{choiceAt, over}
@@ -46,40 +49,42 @@ value-more (suc n) f =
     go true ih = omega (arith, pow-suc 2 n)
     go false ih = omega arith
 
-module _ (table : List ℕ) where
-  choice-more : (n i : ℕ) → choiceAt table (n + 1) i ≡ 2 * choiceAt table n i + one (leafOf (rowWords constantLevels) table n i)
+module _ (levels : ℕ) (table : List ℕ) where
+  choice-more : (n i : ℕ)
+      → choiceAt levels table (n + 1) i ≡ 2 * choiceAt levels table n i + one (leafOf (rowWords levels) table n i)
   unfolding choiceAt
-  choice-more n i = ap (λ k. choiceAt table k i) (add-one n) ∙ value-more n (λ v. leafOf (rowWords constantLevels) table v i)
+  choice-more n i =
+      ap (λ k. choiceAt levels table k i) (add-one n) ∙ value-more n (λ v. leafOf (rowWords levels) table v i)
 
-  pub choice-lt : (n i : ℕ) → choiceAt table n i < 2 ^ n
+  pub choice-lt : (n i : ℕ) → choiceAt levels table n i < 2 ^ n
   unfolding choiceAt
-  choice-lt n i = value-lt n (rows.table n (λ v. leafOf (rowWords constantLevels) table v i))
+  choice-lt n i = value-lt n (rows.table n (λ v. leafOf (rowWords levels) table v i))
 
-  choice-none : (i : ℕ) → choiceAt table 0 i ≡ 0
+  choice-none : (i : ℕ) → choiceAt levels table 0 i ≡ 0
   unfolding choiceAt value rows.table
   choice-none i = refl
 
 -- after v variables: the choice so far at leaf i of word w, and leaves that have the same
-module _ (table : List ℕ) (w i leaves : ℕ) (small : i < 64) where
-  pub same-start : SameAs table 0 w i leaves (record { choice = 0; leaves = leaves })
+module _ (levels : ℕ) (table : List ℕ) (w i leaves : ℕ) (small : i < 64) where
+  pub same-start : SameAs levels table 0 w i leaves (record { choice = 0; leaves = leaves })
   same-start = record {
-    choice = sym (choice-none table (64 * w + i));
-    same = λ k b. choice-none table (64 * w + k) ∙ sym (choice-none table (64 * w + i));
+    choice = sym (choice-none levels table (64 * w + i));
+    same = λ k b. choice-none levels table (64 * w + k) ∙ sym (choice-none levels table (64 * w + i));
     itself = λ b. b;
   }
 
-  pub same-more : (v choice same x like choice′ : ℕ) (digit : Bool) → x ≡ getD table (rowWords constantLevels * v + w) 0 → digit ≡ bit x i
-      → choice′ ≡ 2 * choice + one digit → ((k : ℕ) → k < 64 → bit like k ≡ Bool·beq (bit x k) digit)
-      → SameAs table v w i leaves (record { choice = choice; leaves = same })
-      → SameAs table (v + 1) w i leaves (record { choice = choice′; leaves = bitAnd same like })
+  pub same-more : (v choice same x like choice′ : ℕ) (digit : Bool) → x ≡ getD table (rowWords levels * v + w) 0
+      → digit ≡ bit x i → choice′ ≡ 2 * choice + one digit → ((k : ℕ) → k < 64 → bit like k ≡ Bool·beq (bit x k) digit)
+      → SameAs levels table v w i leaves (record { choice = choice; leaves = same })
+      → SameAs levels table (v + 1) w i leaves (record { choice = choice′; leaves = bitAnd same like })
   same-more v choice same x like choice′ digit ex ed ec el S = record {
-    choice = ec ∙ ap₂ (λ a b. 2 * a + one b) (S .choice) (ed ∙ sym (here i small)) ∙ sym (choice-more table v (64 * w + i));
+    choice = ec ∙ ap₂ (λ a b. 2 * a + one b) (S .choice) (ed ∙ sym (here i small)) ∙ sym (choice-more levels table v (64 * w + i));
     same = λ k b.
         let t = subst T (bit-and same like k) (b .1) in
         let e : bit x k ≡ digit = beq-iff (bit x k) digit .0 (subst T (el k (b .0)) (and-right (bit same k) (bit like k) t)) in
-        choice-more table v (64 * w + k)
+        choice-more levels table v (64 * w + k)
         ∙ ap₂ (λ a b. 2 * a + one b) (S .same k (b .0, and-left (bit same k) (bit like k) t)) (here k (b .0) ∙ e ∙ ed ∙ sym (here i small))
-        ∙ sym (choice-more table v (64 * w + i));
+        ∙ sym (choice-more levels table v (64 * w + i));
     itself = λ b. (
       small,
       subst T (sym (bit-and same like i))
@@ -87,8 +92,8 @@ module _ (table : List ℕ) (w i leaves : ℕ) (small : i < 64) where
     );
   }
     where
-      here : (k : ℕ) → k < 64 → leafOf (rowWords constantLevels) table v (64 * w + k) ≡ bit x k
-      here k l = leaf-word (rowWords constantLevels) table v w k l ∙ ap (λ y. bit y k) (sym ex)
+      here : (k : ℕ) → k < 64 → leafOf (rowWords levels) table v (64 * w + k) ≡ bit x k
+      here k l = leaf-word (rowWords levels) table v w k l ∙ ap (λ y. bit y k) (sym ex)
 
 -- ---- sets
 
@@ -199,16 +204,16 @@ less-rest rest same i small r s = lt-of-le-ne (and-le-l rest ((2 ^ 64 - 1) - sam
 pub rest-more : (leaves rest same k : ℕ) → ((k : ℕ) → BitOf rest k → BitOf leaves k) → BitOf (bitAnd rest ((2 ^ 64 - 1) - same)) k → BitOf leaves k
 rest-more leaves rest same k within b = within k (b .0, and-left (bit rest k) (bit ((2 ^ 64 - 1) - same) k) (subst T (bit-and rest ((2 ^ 64 - 1) - same) k) (b .1)))
 
-module _ (table : List ℕ) (n w leaves : ℕ) where
+module _ (levels : ℕ) (table : List ℕ) (n w leaves : ℕ) where
   -- the choices at the leaves of one word
   abbrev pub wordChoice : ℕ → ℕ
-  wordChoice k = choiceAt table n (64 * w + k)
+  wordChoice k = choiceAt levels table n (64 * w + k)
 
   pub word-start : (old : List ℕ) → Added wordChoice (Done leaves leaves) old old
   word-start old = added-none wordChoice (Done leaves leaves) old (λ i d. T-not (bit leaves i) (d .1) (d .0 .1))
 
   pub word-more : (rest i choice same : ℕ) (old mid new : List ℕ) → same < 2 ^ 64 → BitOf rest i → ((k : ℕ) → BitOf rest k → BitOf leaves k)
-      → SameAs table n w i rest (record { choice = choice; leaves = same })
+      → SameAs levels table n w i rest (record { choice = choice; leaves = same })
       → Added wordChoice (Done leaves rest) old mid → Added (λ c. c) (λ c. c ≡ choice) mid new
       → Added wordChoice (Done leaves (bitAnd rest ((2 ^ 64 - 1) - same))) old new
   word-more rest i choice same old mid new small here within S A B =
@@ -245,47 +250,68 @@ module _ (table : List ℕ) (n w leaves : ℕ) where
 
 -- ---- below the leaves of the constants
 
--- those of them that are below leaf a
-abbrev pub AlikeTo : List ℕ → ℕ → ℕ → ℕ → Type 0
-AlikeTo keys b a i = Alike keys b i × (over i < a)
+-- half a word of a row stands below each
+over-is : (levels i : ℕ) → over levels i ≡ i / 32
+over-is levels i = let e : rowLevels levels - levels ≡ 5 = omega arith in ap (λ k. i / 2 ^ k) e
 
-module _ (table keys : List ℕ) (n b : ℕ) where
-  pub alike-start : (old : List ℕ) → Added (choiceAt table n) (AlikeTo keys b b) old old
-  alike-start old = added-none (choiceAt table n) (AlikeTo keys b b) old (λ i d. omega (arith, d .0 .1, d .1))
+pub over-lt : (levels i : ℕ) → i < 2 ^ rowLevels levels → over levels i < 2 ^ levels
+over-lt levels i h = block-lt {h = levels} {w = rowLevels levels} (omega arith) h
+
+-- those of them that are below leaf a
+abbrev pub AlikeTo : ℕ → List ℕ → ℕ → ℕ → ℕ → Type 0
+AlikeTo levels keys b a i = Alike levels keys b i × (over levels i < a)
+
+module _ (levels : ℕ) (table keys : List ℕ) (n b : ℕ) where
+  -- the choice at a leaf of the rows
+  abbrev choice : ℕ → ℕ
+  choice = choiceAt levels table n
+
+  -- that leaf lies below one that looks like leaf b, before leaf a
+  abbrev To : ℕ → ℕ → Type 0
+  To = AlikeTo levels keys b
+
+  pub alike-start : (old : List ℕ) → Added choice (To b) old old
+  alike-start old = added-none choice (To b) old (λ i d. omega (arith, d .0 .1, d .1))
 
   pub alike-other : (a : ℕ) (old new : List ℕ) → (getD keys a 0 ≡ getD keys b 0 → ⊥)
-      → Added (choiceAt table n) (AlikeTo keys b a) old new → Added (choiceAt table n) (AlikeTo keys b (a + 1)) old new
+      → Added choice (To a) old new → Added choice (To (a + 1)) old new
   alike-other a old new other =
-      added-as (choiceAt table n) (AlikeTo keys b a) (AlikeTo keys b (a + 1)) old new
-      (λ i d. (d .0, earlier i d (ℕ-discrete (over i) a))) (λ i d. (d .0, omega (arith, d .1)))
+      added-as choice (To a) (To (a + 1)) old new (λ i d. (d .0, earlier i d (ℕ-discrete (over levels i) a)))
+      (λ i d. (d .0, omega (arith, d .1)))
     where
-      earlier : (i : ℕ) → AlikeTo keys b (a + 1) i → Dec (over i ≡ a) → over i < a
+      earlier : (i : ℕ) → To (a + 1) i → Dec (over levels i ≡ a) → over levels i < a
       earlier i d (yes e) = absurd (other (subst (λ k. getD keys k 0 ≡ getD keys b 0) e (d .0 .2)))
       earlier i d (no n) = omega (arith, d .1)
 
-  pub alike-more : (a half : ℕ) (old mid new : List ℕ) → b ≤ a → a < 32 → getD keys a 0 ≡ getD keys b 0
+  pub alike-more : (a half : ℕ) (old mid new : List ℕ) → b ≤ a → a < 2 ^ levels → getD keys a 0 ≡ getD keys b 0
       → ((k : ℕ) → k < 64 → bit half k ≡ eqb (k / 32) (a % 2))
-      → Added (choiceAt table n) (AlikeTo keys b a) old mid → Added (λ k. choiceAt table n (64 * (a / 2) + k)) (BitOf half) mid new
-      → Added (choiceAt table n) (AlikeTo keys b (a + 1)) old new
+      → Added choice (To a) old mid → Added (λ k. choice (64 * (a / 2) + k)) (BitOf half) mid new
+      → Added choice (To (a + 1)) old new
   alike-more a half old mid new later small same bits A B =
-      added-more (choiceAt table n) (λ k. choiceAt table n (64 * (a / 2) + k)) (AlikeTo keys b a) (BitOf half) (AlikeTo keys b (a + 1)) old mid new
-      (λ i d. part i d (ℕ-discrete (over i) a)) (λ i d. (d .0, omega (arith, d .1))) (λ k h. (64 * (a / 2) + k, given k h, refl)) A B
+      added-more choice (λ k. choice (64 * (a / 2) + k)) (To a) (BitOf half) (To (a + 1)) old mid new
+      (λ i d. part i d (ℕ-discrete (over levels i) a)) (λ i d. (d .0, omega (arith, d .1)))
+      (λ k h. (64 * (a / 2) + k, given k h, refl)) A B
     where
-      part : (i : ℕ) → AlikeTo keys b (a + 1) i → Dec (over i ≡ a)
-          → AlikeTo keys b a i ⊎ ((k : ℕ) × BitOf half k × (choiceAt table n (64 * (a / 2) + k) ≡ choiceAt table n i))
+      part : (i : ℕ) → To (a + 1) i → Dec (over levels i ≡ a)
+          → To a i ⊎ ((k : ℕ) × BitOf half k × (choice (64 * (a / 2) + k) ≡ choice i))
       part i d (no n) = inl (d .0, omega (arith, d .1))
       part i d (yes e) =
+          let f : i / 32 ≡ a = sym (over-is levels i) ∙ e in
           let l : i % 64 < 64 = mod-lt i (omega arith) in
           let q : i % 64 / 32 ≡ a % 2 = omega arith in
-          inr (i % 64, (l, of-true (bits (i % 64) l ∙ eq-eqb (i % 64 / 32) (a % 2) q)), ap (choiceAt table n) (omega arith))
+          inr (i % 64, (l, of-true (bits (i % 64) l ∙ eq-eqb (i % 64 / 32) (a % 2) q)), ap choice (omega arith))
 
-      given : (k : ℕ) → BitOf half k → AlikeTo keys b (a + 1) (64 * (a / 2) + k)
+      given : (k : ℕ) → BitOf half k → To (a + 1) (64 * (a / 2) + k)
       given k h =
           let l = h .0 in
           let q : k / 32 ≡ a % 2 = eqb→eq (k / 32) (a % 2) (subst T (bits k l) (h .1)) in
-          let e : over (64 * (a / 2) + k) ≡ a = omega arith in
+          let f : (64 * (a / 2) + k) / 32 ≡ a = omega arith in
+          let e : over levels (64 * (a / 2) + k) ≡ a = over-is levels (64 * (a / 2) + k) ∙ f in
+          let wide : 2 ^ rowLevels levels ≡ 2 ^ levels * 32 = pow-add 2 levels 5 in
           ((omega arith, omega arith, ap (λ k. getD keys k 0) e ∙ same), omega arith)
 
-  pub alike-done : (a : ℕ) (old new : List ℕ) → 32 ≤ a
-      → Added (choiceAt table n) (AlikeTo keys b a) old new → Added (choiceAt table n) (Alike keys b) old new
-  alike-done a old new h = added-as (choiceAt table n) (AlikeTo keys b a) (Alike keys b) old new (λ i d. (d, omega (arith, d .0))) (λ i d. d .0)
+  pub alike-done : (a : ℕ) (old new : List ℕ) → 2 ^ levels ≤ a
+      → Added choice (To a) old new → Added choice (Alike levels keys b) old new
+  alike-done a old new h =
+      added-as choice (To a) (Alike levels keys b) old new
+      (λ i d. (d, lt-of-lt-of-le (over-lt levels i (d .0)) h)) (λ i d. d .0)

@@ -57,7 +57,7 @@ fn like(x: u64, digit: bool) -> u64
 // The choice at leaf 64 * w + i, and the leaves of word w among those given that have the same.
 fn same_choice(table: &[u64; TABLE_WORDS], free: usize, w: usize, i: usize, leaves: u64) -> Same
     requires { ⌜ (free ≤ rowCount) × (w < rowWords constantLevels) × (i < 64) ⌝ }
-    ensures { λ r. ⌜ SameAs (now (table .entry)) free w i leaves r ⌝ }
+    ensures { λ r. ⌜ SameAs constantLevels (now (table .entry)) free w i leaves r ⌝ }
 {
     let mut choice: usize = 0;
     let mut same = leaves;
@@ -87,7 +87,7 @@ fn mark(present: &mut [u64], choice: usize)
 // Marks the choices at the given leaves of word w.
 fn mark_word(table: &[u64; TABLE_WORDS], free: usize, w: usize, leaves: u64, present: &mut [u64])
     requires { ⌜ (free ≤ rowCount) × (w < rowWords constantLevels) × (length (now present) ≡ 64) ⌝ }
-    ensures { λ _. ⌜ Added (λ k. choiceAt (now (table .entry)) free (64 * w + k)) (BitOf leaves) (now (present .entry)) (now (present .exit)) ⌝ }
+    ensures { λ _. ⌜ Added (λ k. choiceAt constantLevels (now (table .entry)) free (64 * w + k)) (BitOf leaves) (now (present .entry)) (now (present .exit)) ⌝ }
 {
     let mut rest = leaves;
     while rest != 0 {
@@ -117,7 +117,7 @@ fn mark_alike(
     present: &mut [u64],
 )
     requires { ⌜ (free ≤ rowCount) × (b < 32) × (length (now present) ≡ 64) ⌝ }
-    ensures { λ _. ⌜ Added (choiceAt (now (table .entry)) free) (Alike (now (keys .entry)) b) (now (present .entry)) (now (present .exit)) ⌝ }
+    ensures { λ _. ⌜ Added (choiceAt constantLevels (now (table .entry)) free) (Alike constantLevels (now (keys .entry)) b) (now (present .entry)) (now (present .exit)) ⌝ }
 {
     let mut a = b;
     while a < LEAVES {

@@ -7,7 +7,6 @@ use native.Mathlib.Nat.{eq-or-lt-of-le, le-of-suc-le-suc, not-suc-le-zero}
 use native.Mathlib.Omega.{arith}
 use lib.ListN.{getD, List·getD-append}
 use lib.Seq.{getD-at}
-use Rattle.shares.specs.Constant.{constantLevels}
 use Rattle.systems.specs.Questions.{Kind, satisfiability, entailment, Question, WellFormed}
 use Rattle.systems.specs.AtLeaves.{LeafReading}
 use Rattle.format.specs.declared.LeafJoin.{LeafJoin}
@@ -47,7 +46,7 @@ module _ (s : List ℕ) (r : Reading) (e : r ≡ readingOf (read s)) where
 
 module _ {k : ℕ} (x : Stored) (q : Question) (d : Stands k x q) where
   -- how many levels its constants have
-  pub levels-are : q .constants .levels ≡ constantLevels
+  pub levels-are : q .constants .levels ≡ x .levels
   levels-are = ap (λ c. c .levels) (d .constants)
 
   pub kind-satisfiability : k ≡ 0 → q .kind ≡ satisfiability

@@ -278,6 +278,7 @@ kept x defined c = record {
   free = x .free;
   own = x .own;
   constants = keptConstants (x .constants) defined c;
+  levels = x .levels;
   named = keptNames (x .named) c;
   clauses = keptClauses (x .clauses) (x .counts) c;
   counts = clauseCounts (x .counts) c;
@@ -350,7 +351,7 @@ module _ {kind : ℕ} (x : Stored) (q : Question) (d : Stands kind x q) where
         own = d .own;
         constants =
             ap (λ cs. record { levels = cs .levels; numbers = cs .numbers ++ (v ∷ []) }) (d .constants)
-            ∙ ap (λ k. record { levels = constantLevels; numbers = k }) (sym (rw add-one (take-suc-set l n v fits)) ∙ ap (λ m. take m (set l n v)) (sym more));
+            ∙ ap (λ k. record { levels = x .levels; numbers = k }) (sym (rw add-one (take-suc-set l n v fits)) ∙ ap (λ m. take m (set l n v)) (sym more));
         named = d .named;
         namedDefined = λ i t. omega (arith, d .namedDefined i t, more);
         sections = λ σ. d .sections σ ∙ ap (map readAs) (sym (constant-sections q v σ));

@@ -91,18 +91,21 @@ readingsAt l start (suc n) = readingsAt l start n ++ (readingFrom (fourAt l (sta
 
 -- ---- what is stored of a question
 
--- the clauses' bytes and how many clauses each section has, the constants and which of them some clause names, and how many variables there are
+-- the clauses' bytes and how many clauses each section has, the constants, their number of levels and which of them some
+-- clause names, and how many variables there are
 pub record Stored : Type 0 where
   pub clauses : List ℕ
   pub counts : List ℕ
   pub constants : List ℕ
+  pub levels : ℕ
   pub named : ℕ
   pub free : ℕ
   pub own : ℕ
 
--- from its parts
+-- from its parts, as the code keeps them: constants of `constantLevels` levels
 abbrev pub stored : List ℕ → List ℕ → List ℕ → ℕ → ℕ → ℕ → Stored
-stored clauses counts constants named free own = record { clauses = clauses; counts = counts; constants = constants; named = named; free = free; own = own }
+stored clauses counts constants named free own =
+    record { clauses = clauses; counts = counts; constants = constants; levels = constantLevels; named = named; free = free; own = own }
 
 -- from the struct and the clauses' bytes
 abbrev pub storedOf : Question → List ℕ → Stored
@@ -144,7 +147,7 @@ pub record Stands (k : ℕ) (x : Stored) (q : Asked) : Type 0 where
   pub kind : k ≡ kindNumber (q .kind)
   pub free : x .free ≡ q .free
   pub own : x .own ≡ q .own
-  pub constants : q .constants ≡ record { levels = constantLevels; numbers = take (definedBy q) (x .constants) }
+  pub constants : q .constants ≡ record { levels = x .levels; numbers = take (definedBy q) (x .constants) }
   pub named : x .named ≡ namedWord q
   pub namedDefined : (i : ℕ) → T (isAmong i (namedBy q)) → i < definedBy q
   pub sections : (σ : Section) → readingsAt (x .clauses) (sectionStart σ) (countOf (x .counts) σ) ≡ map readAs (inSection q σ)

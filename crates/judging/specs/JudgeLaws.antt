@@ -38,7 +38,8 @@ use Rattle.judging.specs.declared.Judgement.the-variants.{Refused, Accep
 
 module _ (x : stored.Question) (clauses rows : List ℕ) (q : Question) (St : Stands (x .kind) (storedOf x clauses) q) where
   -- a table of the rows and the constants
-  pub laid : (table : List ℕ) → Unfolded constantLevels rows (x .constants) (x .named) table → Laid q rows (x .constants) (x .named) table
+  pub laid : (table : List ℕ) → Unfolded constantLevels rows (x .constants) (x .named) table
+      → Laid constantLevels q rows (x .constants) (x .named) table
   laid table U = record { constants-are = St .constants; kept = first-kept (storedOf x clauses) q St; unfolded = U }
 
   -- what the second system's clauses are asked with

@@ -5,7 +5,6 @@ use mathlib.Core.List.{List, _++_}
 use Prim.Native.Nat.{ℕ, _+_, _^_, _<_}
 use lib.Dec.{eqb, ltb}
 use lib.ListN.{length, take}
-use Rattle.shares.specs.Constant.{constantLevels}
 use Rattle.shares.specs.declared.Way.{Way}
 use Rattle.shares.specs.declared.Way.the-variants.{Holds}
 use Rattle.systems.specs.Clauses.{System}
@@ -72,11 +71,11 @@ saysFirst Command.Head = false
 saysFirst (Command.Constant x) = false
 saysFirst (Command.Clause σ t a b c) = not (isSecond σ)
 
--- a table has the rows, and those of the constants of the question q that some clause names
-pub record Laid (q : Question) (rows constants : List ℕ) (named : ℕ) (table : List ℕ) : Type 0 where
-  pub constants-are : q .constants ≡ record { levels = constantLevels; numbers = take (definedBy q) constants }
+-- a table has the rows, and those of the constants of the question q, of so many levels, that some clause names
+pub record Laid (levels : ℕ) (q : Question) (rows constants : List ℕ) (named : ℕ) (table : List ℕ) : Type 0 where
+  pub constants-are : q .constants ≡ record { levels = levels; numbers = take (definedBy q) constants }
   pub kept : InSystem (Kept named) (q .first)
-  pub unfolded : Unfolded constantLevels rows constants named table
+  pub unfolded : Unfolded levels rows constants named table
 
 -- the judgement of the first system alone: its lowest clause that is broken, or accepted
 abbrev pub firstJudged : Question → List ℕ → Judgement
@@ -84,8 +83,10 @@ firstJudged q rows =
     cond (ltb (lowestBroken q rows) (length (q .first))) (brokenAs (q .constants) rows (lowestBroken q rows) (clauseOf (q .first) (lowestBroken q rows))) Accepted
 
 -- r is that of the first system of a question in bytes and the rows of a table
-abbrev pub First : List ℕ → List ℕ → Judgement → Type 0
-First s table r = (q : Question) (rows constants : List ℕ) (named : ℕ) → read s ≡ accepted q → Laid q rows constants named table → r ≡ firstJudged q rows
+abbrev pub First : ℕ → List ℕ → List ℕ → Judgement → Type 0
+First levels s table r =
+    (q : Question) (rows constants : List ℕ) (named : ℕ) → read s ≡ accepted q → Laid levels q rows constants named table
+    → r ≡ firstJudged q rows
 
 -- at an offset of the question q, n clauses of its first system have been met: the commands from there on say the others
 pub record Walk (s : List ℕ) (q : Question) (at n : ℕ) : Type 0 where
@@ -100,6 +101,7 @@ abbrev pub HeldBelow : Question → List ℕ → ℕ → Type 0
 HeldBelow q rows n = (k : ℕ) → k < n → not (clauseMet (q .constants) rows (clauseOf (q .first) k)) ≡ false
 
 -- the commands before an offset have been gone over, and the n clauses of the first system among them hold
-abbrev pub Gone : List ℕ → List ℕ → ℕ → ℕ → Type 0
-Gone s table at n =
-    (q : Question) → read s ≡ accepted q → Walk s q at n × ((rows constants : List ℕ) (named : ℕ) → Laid q rows constants named table → HeldBelow q rows n)
+abbrev pub Gone : ℕ → List ℕ → List ℕ → ℕ → ℕ → Type 0
+Gone levels s table at n =
+    (q : Question) → read s ≡ accepted q → Walk s q at n
+    × ((rows constants : List ℕ) (named : ℕ) → Laid levels q rows constants named table → HeldBelow q rows n)

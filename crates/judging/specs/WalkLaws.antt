@@ -257,13 +257,14 @@ module _ (s : List ℕ) (q : Question) (e : read s ≡ accepted q) where
     clause-fits : CommandFits c
     clause-fits = command-fits (q .free) (q .constants) (omega (arith, L .variables)) (L .constants) c (its-terms (Defined (q .free) (q .constants)) (F .first))
 
-    module _ (rows constants : List ℕ) (named : ℕ) (table : List ℕ) (laid : Laid q rows constants named table) where
+    module _ (levels : ℕ) (rows constants : List ℕ) (named : ℕ) (table : List ℕ)
+        (laid : Laid levels q rows constants named table) where
       few : q .free ≤ rowCount
       few = omega (arith, L .variables)
 
       -- the constants as the table has them
       abbrev cs : Constants
-      cs = record { levels = constantLevels; numbers = take (definedBy q) constants }
+      cs = record { levels = levels; numbers = take (definedBy q) constants }
 
       kept : InCommand (DefinedKept (q .free) cs named) c
       kept =
@@ -271,37 +272,39 @@ module _ (s : List ℕ) (q : Question) (e : read s ≡ accepted q) where
           (its-terms _ (in-system (Defined (q .free) (q .constants)) (Kept named) (DefinedKept (q .free) (q .constants) named) (λ t d k. (d, k)) (q .first) (F .first) (laid .kept)))
 
       -- the lowest leaf at which an atom does not hold, of the table and of the rows
-      failing-same : (a : Atom) → InAtom (DefinedKept (q .free) cs named) a → joinFailing constantLevels table (fourOf (readAs a)) ≡ failingLeaf cs rows a
-      failing-same a d = join-failing constantLevels rows constants named table (laid .unfolded) (definedBy q) (q .free) few a d
+      failing-same : (a : Atom) → InAtom (DefinedKept (q .free) cs named) a
+          → joinFailing levels table (fourOf (readAs a)) ≡ failingLeaf cs rows a
+      failing-same a d = join-failing levels rows constants named table (laid .unfolded) (definedBy q) (q .free) few a d
 
       -- the clause is broken exactly if it is not met
-      clause-breaks : commandBreaks constantLevels table c ≡ not (clauseMet (q .constants) rows (clauseOf (q .first) n))
+      clause-breaks : commandBreaks levels table c ≡ not (clauseMet (q .constants) rows (clauseOf (q .first) n))
       clause-breaks = rw (laid .constants-are) (go c f kept)
         where
           go : (c : Command) → firstClause c ≡ clauseOf (q .first) n ∷ [] → InCommand (DefinedKept (q .free) cs named) c
-              → commandBreaks constantLevels table c ≡ not (clauseMet cs rows (clauseOf (q .first) n))
+              → commandBreaks levels table c ≡ not (clauseMet cs rows (clauseOf (q .first) n))
           go Command.End g d = let z : _≡_ {A = ℕ} 0 1 = cc in absurd (omega arith)
           go Command.Head g d = let z : _≡_ {A = ℕ} 0 1 = cc in absurd (omega arith)
           go (Command.Constant x) g d = let z : _≡_ {A = ℕ} 0 1 = cc in absurd (omega arith)
           go (Command.Clause σ t a b c) g d =
-              ap (λ l. breaksIn σ (eqb l (2 ^ rowLevels constantLevels))) (failing-same (atomOf t a b c) d) ∙ ap (breaksIn σ) (sym (everywhere-first cs rows (atomOf t a b c)))
+              ap (λ l. breaksIn σ (eqb l (2 ^ rowLevels levels))) (failing-same (atomOf t a b c) d) ∙ ap (breaksIn σ) (sym (everywhere-first cs rows (atomOf t a b c)))
               ∙ breaks-same cs rows (clauseOf (q .first) n) σ (atomOf t a b c) g
 
       -- and what is said of it is the judgement
-      clause-said : commandBreaks constantLevels table c ≡ true → commandSaid constantLevels table c n ≡ brokenAs (q .constants) rows n (clauseOf (q .first) n)
+      clause-said : commandBreaks levels table c ≡ true
+          → commandSaid levels table c n ≡ brokenAs (q .constants) rows n (clauseOf (q .first) n)
       clause-said = rw (laid .constants-are) (go c f kept)
         where
           go : (c : Command) → firstClause c ≡ clauseOf (q .first) n ∷ [] → InCommand (DefinedKept (q .free) cs named) c
-              → commandBreaks constantLevels table c ≡ true → commandSaid constantLevels table c n ≡ brokenAs cs rows n (clauseOf (q .first) n)
+              → commandBreaks levels table c ≡ true → commandSaid levels table c n ≡ brokenAs cs rows n (clauseOf (q .first) n)
           go Command.End g d e = let z : _≡_ {A = ℕ} 0 1 = cc in absurd (omega arith)
           go Command.Head g d e = let z : _≡_ {A = ℕ} 0 1 = cc in absurd (omega arith)
           go (Command.Constant x) g d e = let z : _≡_ {A = ℕ} 0 1 = cc in absurd (omega arith)
           go (Command.Clause σ t a b c) g d e =
               let atom = atomOf t a b c in
               let same = failing-same atom d in
-              said-ext σ (2 ^ rowLevels constantLevels) n _ (rowWay cs rows atom) _ (failingLeaf cs rows atom) same (failing-le cs rows atom)
-              (ap (λ l. breaksIn σ (eqb l (2 ^ rowLevels constantLevels))) (sym same) ∙ e)
-              (join-way constantLevels rows constants named table (laid .unfolded) (definedBy q) (q .free) few atom d)
+              said-ext σ (2 ^ rowLevels levels) n _ (rowWay cs rows atom) _ (failingLeaf cs rows atom) same (failing-le cs rows atom)
+              (ap (λ l. breaksIn σ (eqb l (2 ^ rowLevels levels))) (sym same) ∙ e)
+              (join-way levels rows constants named table (laid .unfolded) (definedBy q) (q .free) few atom d)
               ∙ said-same cs rows n (clauseOf (q .first) n) σ atom g
 
 -- ---- the lowest clause that is broken
@@ -341,61 +344,64 @@ no-other (inr (inr e)) = omega arith
 
 -- ---- a turn of going over the commands
 
-module _ (s table : List ℕ) where
-  pub gone-start : Gone s table 4 0
+module _ (levels : ℕ) (s table : List ℕ) where
+  pub gone-start : Gone levels s table 4 0
   gone-start q e = (walk-start s q e, λ _ _ _ _ k l. absurd (not-suc-le-zero l))
 
-  module _ {at n : ℕ} (g : Gone s table at n) where
-    pub first-refused : (m : ℕ) → readAt s at ≡ Refused m → First s table Accepted
+  module _ {at n : ℕ} (g : Gone levels s table at n) where
+    pub first-refused : (m : ℕ) → readAt s at ≡ Refused m → First levels s table Accepted
     first-refused m r q rows constants named e laid = first-none-broken q rows n (g q e .1 rows constants named laid) (walk-none s q (g q e .0) m r)
 
     module _ {c : Command} {next : ℕ} (r : readAt s at ≡ Take c next) where
-      pub first-end : isEnd c ≡ true → First s table Accepted
+      pub first-end : isEnd c ≡ true → First levels s table Accepted
       first-end d q rows constants named e laid = first-none-broken q rows n (g q e .1 rows constants named laid) (walk-end s q (g q e .0) c next r d)
 
       module _ (d : isEnd c ≡ false) where
-        pub gone-other : saysFirst c ≡ false → Gone s table next n
+        pub gone-other : saysFirst c ≡ false → Gone levels s table next n
         gone-other f q e = (walk-other s q (g q e .0) c next r d f, g q e .1)
 
         module _ (f : saysFirst c ≡ true) where
           pub gone-fits : (q : Question) → read s ≡ accepted q → CommandFits c × (n < length (q .first))
           gone-fits q e = let w = walk-clause s q (g q e .0) c next r d f in (clause-fits s q e n c (w .0) (w .1), w .0)
 
-          breaks : (q : Question) (rows constants : List ℕ) (named : ℕ) → read s ≡ accepted q → Laid q rows constants named table
-              → commandBreaks constantLevels table c ≡ not (clauseMet (q .constants) rows (clauseOf (q .first) n))
+          breaks : (q : Question) (rows constants : List ℕ) (named : ℕ) → read s ≡ accepted q
+              → Laid levels q rows constants named table → commandBreaks levels table c ≡ not (clauseMet (q .constants) rows (clauseOf (q .first) n))
           breaks q rows constants named e laid =
               let w = walk-clause s q (g q e .0) c next r d f in
-              clause-breaks s q e n c (w .0) (w .1) rows constants named table laid
+              clause-breaks s q e n c (w .0) (w .1) levels rows constants named table laid
 
-          pub first-broken : commandBreaks constantLevels table c ≡ true → First s table (commandSaid constantLevels table c n)
+          pub first-broken : commandBreaks levels table c ≡ true → First levels s table (commandSaid levels table c n)
           first-broken b q rows constants named e laid =
               let w = walk-clause s q (g q e .0) c next r d f in
-              clause-said s q e n c (w .0) (w .1) rows constants named table laid b
+              clause-said s q e n c (w .0) (w .1) levels rows constants named table laid b
               ∙ first-is-broken q rows n (g q e .1 rows constants named laid) (w .0) (sym (breaks q rows constants named e laid) ∙ b)
 
-          pub gone-first : commandBreaks constantLevels table c ≡ false → Gone s table next (n + 1)
+          pub gone-first : commandBreaks levels table c ≡ false → Gone levels s table next (n + 1)
           gone-first b q e = (
             walk-first s q (g q e .0) c next r d f,
             λ rows constants named laid. held-more q rows n (g q e .1 rows constants named laid) (sym (breaks q rows constants named e laid) ∙ b),
           )
 
 -- a constant says nothing to the first system
-pub gone-constant : (s table : List ℕ) {at n : ℕ} → Gone s table at n → constantAt s at ≡ true → Gone s table (at + constantSize) n
-gone-constant s table {at} {n} g e =
+pub gone-constant : (levels : ℕ) (s table : List ℕ) {at n : ℕ} → Gone levels s table at n → constantAt s at ≡ true
+    → Gone levels s table (at + constantSize) n
+gone-constant levels s table {at} {n} g e =
     let next : at + 1 + bytesAt constantLevels ≡ at + constantSize = omega arith in
-    subst (λ k. Gone s table k n) next (gone-other s table g (constant-read s at e) refl refl)
+    subst (λ k. Gone levels s table k n) next (gone-other levels s table g (constant-read s at e) refl refl)
 
 -- so the constants that stand first are passed over
-pub gone-led : (s table : List ℕ) (k n : ℕ) → Gone s table (placeOf n) 0 → Gone s table (placeOf (leading k s n)) 0
+pub gone-led : (levels : ℕ) (s table : List ℕ) (k n : ℕ) → Gone levels s table (placeOf n) 0
+    → Gone levels s table (placeOf (leading k s n)) 0
 unfolding leading
-gone-led s table zero n g = g
-gone-led s table (suc k) n g = pick (constantAt s (placeOf n)) refl (gone-led s table k (n + 1))
+gone-led levels s table zero n g = g
+gone-led levels s table (suc k) n g = pick (constantAt s (placeOf n)) refl (gone-led levels s table k (n + 1))
   where
-    pick : (b : Bool) → constantAt s (placeOf n) ≡ b → (Gone s table (placeOf (n + 1)) 0 → Gone s table (placeOf (leading k s (n + 1))) 0)
-        → Gone s table (placeOf (cond b (leading k s (n + 1)) n)) 0
+    pick : (b : Bool) → constantAt s (placeOf n) ≡ b
+        → (Gone levels s table (placeOf (n + 1)) 0 → Gone levels s table (placeOf (leading k s (n + 1))) 0)
+        → Gone levels s table (placeOf (cond b (leading k s (n + 1)) n)) 0
     pick true e f =
         let next : placeOf n + constantSize ≡ placeOf (n + 1) = omega arith in
-        f (subst (λ k. Gone s table k 0) next (gone-constant s table g e))
+        f (subst (λ k. Gone levels s table k 0) next (gone-constant levels s table g e))
     pick false e f = g
 
 -- the first system of an accepted question has so few clauses

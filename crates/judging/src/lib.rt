@@ -167,7 +167,7 @@ fn broken_at(
 // once more from behind its constants, for what was stored of it is apart by sections.
 fn judge_first(bytes: &[u8], from: usize, leaves: &[u64; TABLE_WORDS]) -> Judgement
     requires { ⌜ ((q : model.Question) × (read (now bytes) ≡ accepted q)) × (from ≡ placeOf (leading mostConstants (now bytes) 0)) ⌝ }
-    ensures { λ r. ⌜ First (now (bytes .entry)) (now (leaves .entry)) r ⌝ }
+    ensures { λ r. ⌜ First constantLevels (now (bytes .entry)) (now (leaves .entry)) r ⌝ }
 {
     let mut count: usize = 0;
     let mut at = from;

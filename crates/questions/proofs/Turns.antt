@@ -24,6 +24,7 @@ use Rattle.format.specs.Format.{mostConstants, Result, refused, accepted, readA
 use Rattle.format.specs.Stored.{kindNumber, clauseBytes, sectionStart, readingsAt, Stored, stored, storedOf, countOf, definedBy, namedWord, Stands, readingOf, writtenOnward, writtenBy, clausesAfter, constantSize, leadingOf, isLeading, constantAt, placeOf, leading}
 use Rattle.format.specs.Keeping.{leadInto, keptConstants, constantCount, keptClauses, keptNames, clauseCounts, judgedOf, refusalOf, isEnd, wrongOf}
 use Rattle.format.specs.FormatLaws.{constant-fits, judged-take, size-some, Whole, read-whole, branch, Sound, Stay, Kept, turn-kept, head-fits, opened-sound, HeadRight, head-right}
+use Rattle.format.specs.Callers.{levels-are}
 use Rattle.format.specs.LeadLaws.{constant-taken, leading-stops}
 use Rattle.format.specs.SectionLaws.{clause-keeps}
 use Rattle.format.specs.KeepingLaws.{Bytes, ProperStep, read-proper, judged-same, kept, ZerosPast, zeros-kept, defined-kept, written-same, stands-taken, held-as}
@@ -46,6 +47,23 @@ pub record Going (s : List ℕ) (kind : ℕ) (x : Stored) (defined : ℕ) (q₀ 
   pub enough : length s < at + turns
   pub same : run turns s at q ≡ run (length s) s 4 q₀
   pub written : writtenBy turns s at q (x .clauses) ≡ writtenBy (length s) s 4 q₀ l₀
+
+-- the constants of a question that is read have `constantLevels` levels, and so have those that are stored of it
+stored-as : {kind : ℕ} (x : Stored) (q : Question) (at : ℕ) → Stands kind x q → Sound q at
+    → x ≡ stored (x .clauses) (x .counts) (x .constants) (x .named) (x .free) (x .own)
+stored-as x q at d g = ap with-levels (sym (levels-are x q d) ∙ g .limited .levels)
+  where
+    with-levels : ℕ → Stored
+    with-levels k =
+        record {
+          clauses = x .clauses;
+          counts = x .counts;
+          constants = x .constants;
+          levels = k;
+          named = x .named;
+          free = x .free;
+          own = x .own;
+        }
 
 kind-number : (kind : ℕ) → kind ≤ 1 → kind ≡ kindNumber (kindFrom kind)
 kind-number kind h =
@@ -200,9 +218,10 @@ module _ (s : List ℕ) (kind : ℕ) (x : Stored) (defined : ℕ) (q₀ : Questi
       unfolding ended
       accepted-turn m out l o =
           let a : ended s next (g .q) ≡ accepted (g .q) = simp (eq-eqb next (length s) l) in
+          let stands = subst (λ y. Stands kind y (g .q)) (stored-as x (g .q) at (g .stands) (g .sound)) (g .stands) in
           let z = stops (accepted (g .q)) (end-is ∙ ap stop a) in (
             rw z (o ∙ ap (λ y. record { refusal = 0; place = 0; question = y }) (held-as x (g .q) (g .stands) defined (g .count) (g .zeros))),
-            (left end-leaves, (λ q b. let y : accepted (g .q) ≡ accepted q = sym z ∙ b in let w : g .q ≡ q = cc in rw (o, ← w) (g .stands), λ q b. ap (λ r. r .question .defined) o ∙ m)),
+            (left end-leaves, (λ q b. let y : accepted (g .q) ≡ accepted q = sym z ∙ b in let w : g .q ≡ q = cc in rw (o, ← w) stands, λ q b. ap (λ r. r .question .defined) o ∙ m)),
           )
 
       pub after-end : (out : Reading) → (next ≡ length s → ⊥) → out ≡ readingOf (refused 10 next) → Gives s q₀ l₀ out (x .clauses)
@@ -313,11 +332,17 @@ goes-clause s kind x defined q₀ l₀ at (g, S) r e c next t bytes h clauses na
     let T = taken-is s kind x defined q₀ l₀ at g r e c next t in
     let (settled, same) = settled-taken s (g .q) at S c next (T .0) (T .1) h in
     let (g′, q′) = goes s kind x defined q₀ l₀ at g r e c next t bytes h in
-    kept-as (same (x .constants) defined .0) (same (x .constants) defined .1) f n k (g′, subst (λ q. Settled s q next) (sym q′) settled)
+    kept-as (same (x .constants) defined .0) (same (x .constants) defined .1) f n k
+    (subst (λ y. State s kind y (constantCount defined c) q₀ l₀ next) (stored-as (kept x defined c) (g′ .q) next (g′ .stands) (g′ .sound))
+    (g′, subst (λ q. Settled s q next) (sym q′) settled))
   where
+    y : Stored
+    y = kept x defined c
+
     kept-as : {constants : List ℕ} {defined′ : ℕ} → constants ≡ keptConstants (x .constants) defined c → defined′ ≡ constantCount defined c
         → clauses ≡ keptClauses (x .clauses) (x .counts) c → named ≡ keptNames (x .named) c → counts ≡ clauseCounts (x .counts) c
-        → State s kind (kept x defined c) (constantCount defined c) q₀ l₀ next → State s kind (stored clauses counts constants named (x .free) (x .own)) defined′ q₀ l₀ next
+        → State s kind (stored (y .clauses) (y .counts) (y .constants) (y .named) (y .free) (y .own)) (constantCount defined c) q₀ l₀ next
+        → State s kind (stored clauses counts constants named (x .free) (x .own)) defined′ q₀ l₀ next
     kept-as u v f n k G = rw (u, v, f, n, k) G
 
 -- ---- the whole

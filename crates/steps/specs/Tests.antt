@@ -4,7 +4,6 @@ use mathlib.Core.List.{List}
 use Prim.Native.Nat.{ℕ, _+_, _-_, _*_, _%_, _^_, _<_}
 use lib.Dec.{ltb}
 use lib.ListN.{getD}
-use Rattle.shares.specs.Constant.{constantLevels}
 use Rattle.leaves.specs.Problem.{Problem}
 use Rattle.format.specs.Stored.{Stored}
 use Rattle.words.specs.Choices.{valuesAt, allPass, clauseFails, allPassBut, someOwn}
@@ -13,7 +12,7 @@ use Rattle.steps.specs.declared.Search.the-variants.{First, Unmet, Misse
 
 -- the values of the constants at leaf b of 2 ^ h, constant i at bit i
 abbrev pub leafValues : Stored → ℕ → ℕ → ℕ
-leafValues S h b = valuesAt constantLevels (S .constants) (S .named) h b
+leafValues S h b = valuesAt (S .levels) (S .constants) (S .named) h b
 
 -- choice x of the free variables meets the first system's positive clauses at a leaf with these values
 abbrev pub firstMeets : Stored → ℕ → ℕ → Bool

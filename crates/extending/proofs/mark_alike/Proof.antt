@@ -4,6 +4,7 @@ use mathlib.Core.Path.{_≡_, refl, _∙_}
 use Prim.Native.Nat.{_-_, _≤_}
 use native.Mathlib.Omega.{arith}
 use lib.ListN.{length}
+use Rattle.shares.specs.Constant.{constantLevels}
 use Rattle.extending.specs.Extending.{choiceAt}
 use Rattle.extending.specs.Looks.{Added}
 use Rattle.extending.specs.MarkLaws.{AlikeTo, alike-start, alike-other, alike-more, alike-done}
@@ -12,13 +13,13 @@ use Rattle.extending.proofs.mark_alike.Tie as tie
 
 abbrev Inv-loop : tie.InvT-loop
 Inv-loop table free keys b present₀ a₀ present a =
-    (b ≤ a) × (a ≤ 32) × (length present ≡ length present₀) × Added (choiceAt table free) (AlikeTo keys b a) present₀ present
+    (b ≤ a) × (a ≤ 32) × (length present ≡ length present₀) × Added (choiceAt constantLevels table free) (AlikeTo constantLevels keys b a) present₀ present
 
 abbrev μ-loop : tie.MeasureT-loop
 μ-loop table free keys b present₀ a₀ present a = 32 - a
 
 loop-holds : tie.Need-loop-holds Inv-loop μ-loop
-loop-holds c = let a = c .before .args in (omega arith, omega arith, refl, alike-start (a .table .now) (a .keys .now) (a .free) (a .b) (a .present .now))
+loop-holds c = let a = c .before .args in (omega arith, omega arith, refl, alike-start constantLevels (a .table .now) (a .keys .now) (a .free) (a .b) (a .present .now))
 
 mul-if1 : tie.Need-mul-if1 Inv-loop μ-loop
 mul-if1 c = omega arith
@@ -54,14 +55,14 @@ loop-again c =
       omega arith,
       rw (w .6) (w .3 .kept .1 .1 .1 .1 .0 ∙ l .inv .2),
       rw (w .6)
-          (alike-more (a .table .now) (a .keys .now) (a .free) (a .b) (l .a) (w .1 .result) (a .present .now) (l .present) _ (l .inv .0) (omega arith)
+          (alike-more constantLevels (a .table .now) (a .keys .now) (a .free) (a .b) (l .a) (w .1 .result) (a .present .now) (l .present) _ (l .inv .0) (omega arith)
           (w .0 .taken) (w .1 .ensures) (l .inv .3) (w .3 .ensures)),
     ))
     (λ w. (
       omega arith,
       omega arith,
       rw (w .1) (l .inv .2),
-      rw (w .1) (alike-other (a .table .now) (a .keys .now) (a .free) (a .b) (l .a) (a .present .now) (l .present) (w .0 .left) (l .inv .3)),
+      rw (w .1) (alike-other constantLevels (a .table .now) (a .keys .now) (a .free) (a .b) (l .a) (a .present .now) (l .present) (w .0 .left) (l .inv .3)),
     ))
     (c .if1 .came)
 
@@ -72,7 +73,7 @@ returns : tie.Need-returns Inv-loop μ-loop
 returns c =
     let a = c .before .before .before .args in
     let l = c .before .loop in
-    alike-done (a .table .now) (a .keys .now) (a .free) (a .b) (l .a) (a .present .now) (l .present) (c .loop-test .left) (l .inv .3)
+    alike-done constantLevels (a .table .now) (a .keys .now) (a .free) (a .b) (l .a) (a .present .now) (l .present) (c .loop-test .left) (l .inv .3)
 
 pub mark-alike-spec : {M : Type 1} → statement M
 mark-alike-spec =

@@ -3,19 +3,20 @@ use mathlib.Core.Path.{_≡_}
 use Prim.Native.Nat.{_+_, _*_, _-_, _≤_}
 use native.Mathlib.Omega.{arith}
 use lib.Pow.{pow-mono}
+use Rattle.shares.specs.Constant.{constantLevels}
 use Rattle.extending.specs.Looks.{SameAs}
 use Rattle.extending.specs.MarkLaws.{choice-lt, same-start, same-more}
 use Rattle.extending.proofs.same_choice.Statement.{statement}
 use Rattle.extending.proofs.same_choice.Tie as tie
 
 abbrev Inv-loop : tie.InvT-loop
-Inv-loop table free w i leaves choice₀ same₀ v₀ choice same v = (v ≤ free) × SameAs table v w i leaves (record { choice = choice; leaves = same })
+Inv-loop table free w i leaves choice₀ same₀ v₀ choice same v = (v ≤ free) × SameAs constantLevels table v w i leaves (record { choice = choice; leaves = same })
 
 abbrev μ-loop : tie.MeasureT-loop
 μ-loop table free w i leaves choice₀ same₀ v₀ choice same v = free - v
 
 loop-holds : tie.Need-loop-holds Inv-loop μ-loop
-loop-holds c = let a = c .args in (omega arith, same-start (a .table .now) (a .w) (a .i) (a .leaves) (c .pre .2))
+loop-holds c = let a = c .args in (omega arith, same-start constantLevels (a .table .now) (a .w) (a .i) (a .leaves) (c .pre .2))
 
 word-of-requires : tie.Need-word-of-requires Inv-loop μ-loop
 word-of-requires c κs = (omega arith, omega arith)
@@ -27,7 +28,7 @@ with-digit-requires : tie.Need-with-digit-requires Inv-loop μ-loop
 with-digit-requires c κs =
     let s = c .before .before .before .before in
     let l = c .before .before .before .loop in
-    omega (arith, l .inv .1 .choice, choice-lt (s .args .table .now) (l .v) (64 * s .args .w + s .args .i), pow-mono {i = l .v} {j = 12} (omega arith))
+    omega (arith, l .inv .1 .choice, choice-lt constantLevels (s .args .table .now) (l .v) (64 * s .args .w + s .args .i), pow-mono {i = l .v} {j = 12} (omega arith))
 
 like-requires : tie.Need-like-requires Inv-loop μ-loop
 like-requires c κs = tt
@@ -43,7 +44,7 @@ loop-again c =
     let a = c .before .before .before .before .before .before .args in
     let l = c .before .before .before .before .before .loop in (
       omega arith,
-      same-more (a .table .now) (a .w) (a .i) (a .leaves) (c .before .before .before .before .before .before .pre .2) (l .v) (l .choice) (l .same)
+      same-more constantLevels (a .table .now) (a .w) (a .i) (a .leaves) (c .before .before .before .before .before .before .pre .2) (l .v) (l .choice) (l .same)
           (c .before .before .before .word-of .result) (c .like .result) (c .before .with-digit .result) (c .before .before .digit .result)
           (c .before .before .before .word-of .ensures) (c .before .before .digit .ensures) (c .before .with-digit .ensures) (c .like .ensures) (l .inv .1),
     )
