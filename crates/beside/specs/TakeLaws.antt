@@ -2,37 +2,23 @@
 use mathlib.Core.Path.{_≡_, refl, sym, ap, _∙_, subst}
 use mathlib.Core.Bool.{Bool, false, not, _&&_, and-true}
 use mathlib.Core.List.{List}
-use Prim.Native.Nat.{ℕ, _-_, _*_, _%_, _^_, _≤_, _<_}
+use Prim.Native.Nat.{ℕ, _-_, _^_, _≤_, _<_}
 use native.Mathlib.Decide.{ℕ-discrete}
 use native.Mathlib.Omega.{arith}
 use lib.Bits.{bitAnd}
-use lib.Dec.{T, T-not, eqb, ltb, ltb→lt, lit<}
+use lib.Dec.{T, T-not, eqb, ltb, ltb→lt}
 use lib.ListN.{length, getD, set}
-use lib.Pow.{pow-lt}
 use lib.Seq.{getD-set-same, getD-set-other}
 use borrow.Author.Tests.{eq-eqb, ne-eqb, lt-ltb}
 use Rattle.shares.specs.Test.{of-true, of-false, and-left, and-right}
 use Rattle.shares.specs.Constant.{bit}
 use Rattle.shares.specs.BitLaws.{bit-zero, bit-and}
-use Rattle.shares.specs.BitParts.{bit-not, bit-digit}
 use Rattle.words.specs.ClauseLaws.{not-bits}
-use Rattle.shares.specs.Shifts.{power-shift}
 use Rattle.beside.specs.Beside.{Left, Taken, TakenAll, TakenBut}
 
 -- the bits of y taken out of x
 pub taken-out : (x y : ℕ) (s : ℕ → Bool) → y < 2 ^ 64 → ((i : ℕ) → i < 64 → bit y i ≡ s i) → Left x s (bitAnd x ((2 ^ 64 - 1) - y))
 taken-out x y s l e i h = bit-and x ((2 ^ 64 - 1) - y) i ∙ ap (_&&_ (bit x i)) (not-bits y i (s i) l h (e i h))
-
--- bit j taken out of a word: every other bit stays
-pub other-bits : (x j k : ℕ) → j < 64 → k < 64 → (k ≡ j → ⊥) → bit (bitAnd x ((2 ^ 64 - 1) - (1 * 2 ^ j) % 2 ^ 64)) k ≡ bit x k
-other-bits x j k h l n =
-    bit-and x ((2 ^ 64 - 1) - (1 * 2 ^ j) % 2 ^ 64) k ∙ ap (_&&_ (bit x k)) (ap (λ y. bit ((2 ^ 64 - 1) - y) k) (power-shift j h) ∙ unset) ∙ and-true (bit x k)
-  where
-    unset : bit ((2 ^ 64 - 1) - 2 ^ j) k ≡ not false
-    unset =
-        let e : 1 * 2 ^ j ≡ 2 ^ j = omega arith in
-        bit-not 64 (2 ^ j) k (pow-lt {j = 64} h) l
-        ∙ ap not (ap (λ y. bit y k) (sym e) ∙ bit-digit 1 j k (lit< tt) ∙ ap (λ b. b && bit 1 0) (ne-eqb k j n))
 
 -- ---- one word
 

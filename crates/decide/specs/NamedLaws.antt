@@ -1,13 +1,11 @@
 -- What stands for a question has a bit for each constant that some clause names, and for no other. Assumes nothing.
 use mathlib.Core.Path.{_≡_, sym, ap, _∙_, subst}
 use Prim.Native.Nat.{ℕ, _+_, _*_, _^_, _≤_, _<_}
-use native.Mathlib.Nat.{le-trans, le-antisymm}
 use native.Mathlib.Decide.{decLt}
 use native.Mathlib.Omega.{arith}
 use lib.Dec.{T}
-use lib.ListN.{length, getD, List·getD-map}
+use lib.ListN.{getD, List·getD-map}
 use lib.Seq.{getD-take}
-use Rattle.shares.specs.Tree.{height}
 use Rattle.shares.specs.TreeLaws.{treeOf-height}
 use Rattle.shares.specs.Constant.{numberTree, bit}
 use Rattle.shares.specs.BitLaws.{number-lt, bit-number}
@@ -25,7 +23,7 @@ use Rattle.format.specs.Callers.{levels-are, readings-at}
 use Rattle.format.specs.declared.Section.{Section}
 use Rattle.format.specs.declared.Section.the-variants.{FirstPositive, FirstDisequation, SecondPositive, SecondDisequation}
 use Rattle.decide.specs.Decision.{tallestOf}
-use Rattle.decide.specs.TallestLaws.{heightAt, tallest-is}
+use Rattle.decide.specs.TallestLaws.{tallest-is}
 use Rattle.decide.specs.StoredLaws.{Kept}
 
 -- ---- the bits of the word

@@ -1,16 +1,15 @@
 -- One bit of a word set, where a test passes. Assumes nothing.
 use mathlib.Core.Path.{_≡_, sym, ap, ap₂, _∙_}
-use mathlib.Core.Bool.{Bool, true, false, not, _&&_, _||_, and-true, and-false, or-false}
-use Prim.Native.Nat.{ℕ, _-_, _*_, _%_, _^_, _≤_, _<_}
+use mathlib.Core.Bool.{Bool, true, false, _&&_, _||_, and-true, and-false, or-false}
+use Prim.Native.Nat.{ℕ, _-_, _^_, _≤_, _<_}
 use native.Mathlib.Omega.{arith}
-use lib.Bits.{bitAnd, bitOr}
+use lib.Bits.{bitOr}
 use lib.Dec.{eqb, ltb}
-use lib.Pow.{pow-lt}
-use borrow.Author.Tests.{ne-eqb, lt-ltb, not-false}
+use borrow.Author.Tests.{lt-ltb, not-false}
 use Rattle.shares.specs.Constant.{bit}
-use Rattle.shares.specs.BitLaws.{bit-zero, bit-and, bit-or}
+use Rattle.shares.specs.BitLaws.{bit-zero, bit-or}
 use Rattle.shares.specs.BitParts.{bit-not}
-use Rattle.shares.specs.Shifts.{power-shift, power-bit}
+use Rattle.shares.specs.Shifts.{power-bit}
 
 -- set where a test passes: it was set already, or it is set now, or the test fails
 module _ (x i : ℕ) (p : Bool) where
@@ -19,14 +18,6 @@ module _ (x i : ℕ) (p : Bool) where
 
   pub bit-not-added : p ≡ false → (k : ℕ) → bit x k ≡ (bit x k || (eqb k i && p))
   bit-not-added e k = sym (ap (λ b. bit x k || b) (ap (_&&_ (eqb k i)) e ∙ and-false (eqb k i)) ∙ or-false (bit x k))
-
--- bit j taken out of a word: every other bit stays
-pub other-bits : (x j k : ℕ) → j < 64 → k < 64 → (k ≡ j → ⊥) → bit (bitAnd x ((2 ^ 64 - 1) - (1 * 2 ^ j) % 2 ^ 64)) k ≡ bit x k
-other-bits x j k h l n =
-    bit-and x ((2 ^ 64 - 1) - (1 * 2 ^ j) % 2 ^ 64) k ∙ ap (_&&_ (bit x k)) (ap (λ y. bit ((2 ^ 64 - 1) - y) k) (power-shift j h) ∙ unset) ∙ and-true (bit x k)
-  where
-    unset : bit ((2 ^ 64 - 1) - 2 ^ j) k ≡ true
-    unset = bit-not 64 (2 ^ j) k (pow-lt {j = 64} h) l ∙ ap not (power-bit j k ∙ ne-eqb k j n)
 
 -- the first bits of a word that has none unset
 pub all-set : (x count r : ℕ) → x < 2 ^ 64 → count ≤ 32 → ((k : ℕ) → bit r k ≡ (ltb k count && bit ((2 ^ 64 - 1) - x) k)) → r ≡ 0 → (i : ℕ) → i < count → bit x i ≡ true

@@ -16,8 +16,7 @@ use lib.Pow.{pow-add}
 use lib.Seq.{getD-set-same, getD-set-other}
 use borrow.Author.Tests.{eq-eqb}
 use Rattle.shares.specs.Test.{of-true, passes, beq-iff, and-intro, and-left, and-right, or-left, or-right, or-cases}
-use Rattle.shares.specs.Below.{one, firstBelow}
-use Rattle.shares.specs.BelowLaws.{first-below}
+use Rattle.shares.specs.Below.{one}
 use Rattle.shares.specs.BlockLaws.{block-lt}
 use Rattle.shares.specs.Constant.{bit}
 use Rattle.shares.specs.BitLaws.{bit-zero, bit-and, bit-or}

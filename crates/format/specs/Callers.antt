@@ -2,17 +2,16 @@
 use mathlib.Core.Path.{_≡_, refl, sym, ap, _∙_}
 use mathlib.Core.List.{List, [], _∷_, _++_}
 use mathlib.Core.Logic.{_⊎_, inl, inr}
-use Prim.Native.Nat.{ℕ, zero, suc, _+_, _*_, _≤_, _<_}
+use Prim.Native.Nat.{ℕ, zero, suc, _+_, _*_, _<_}
 use native.Mathlib.Nat.{eq-or-lt-of-le, le-of-suc-le-suc, not-suc-le-zero}
 use native.Mathlib.Omega.{arith}
 use lib.ListN.{getD, List·getD-append}
 use lib.Seq.{getD-at}
 use Rattle.systems.specs.Questions.{Kind, satisfiability, entailment, Question, WellFormed}
 use Rattle.systems.specs.AtLeaves.{LeafReading}
-use Rattle.format.specs.declared.LeafJoin.{LeafJoin}
 use Rattle.format.specs.declared.Reading.{Reading}
 use Rattle.format.specs.Format.{Result, refused, accepted, read}
-use Rattle.format.specs.Stored.{kindNumber, readingFrom, fourAt, readingsAt, Stored, storedOf, StoredClause, Stands, readingOf}
+use Rattle.format.specs.Stored.{kindNumber, readingFrom, fourAt, readingsAt, Stored, storedOf, Stands, readingOf}
 use Rattle.format.specs.FormatLaws.{accepted-formed, refusal-number}
 use Rattle.format.specs.KeepingLaws.{readings-length}
 

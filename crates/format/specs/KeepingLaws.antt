@@ -12,7 +12,7 @@ use lib.Bits.{bitOr}
 use lib.Dec.{T, eqb, ltb, leb, ltb→lt, eqb→eq, lit<}
 use lib.ListN.{length, length-map, getD, set, take, drop, replicate, length-set, length-append, length-take, length-drop, length-replicate, getD-replicate, take-append-drop}
 use lib.Pow.{pow-add, pow-mono}
-use lib.Seq.{length-take-le, take-suc-set, getD-set-same, getD-set-other, getD-drop, ext-getD}
+use lib.Seq.{take-suc-set, getD-set-same, getD-set-other, getD-drop, ext-getD}
 use Rattle.shares.specs.Constant.{constantLevels, number, bytesAt}
 use Rattle.shares.specs.Parts.{emptyPart, fullPart}
 use Rattle.shares.specs.Test.{or-right, or-cases}

@@ -10,7 +10,6 @@ use lib.Dec.{T, T-not}
 use lib.ListN.{length, getD, set}
 use lib.Pow.{pow-pos}
 use lib.Seq.{getD-set-same, getD-set-other}
-use borrow.Author.Tests.{le-ltb}
 use Rattle.shares.specs.Test.{is-true, is-false, of-false}
 use Rattle.shares.specs.Below.{everyBelow, someBelow}
 use Rattle.shares.specs.BelowLaws.{every-at, every-intro}

@@ -2,7 +2,7 @@
 use mathlib.Core.Path.{_≡_, refl, sym, ap, subst, _∙_}
 use mathlib.Core.Bool.{Bool, true, false, cond, true≢false}
 use mathlib.Core.List.{List, map}
-use Prim.Native.Nat.{ℕ, zero, suc, _+_, _*_, _≤_, _<_}
+use Prim.Native.Nat.{ℕ, zero, suc, _+_, _≤_, _<_}
 use native.Mathlib.Omega.{arith}
 use borrow.Author.Tests.{eqb-true, eqb-false, eq-eqb, ne-eqb}
 use lib.Dec.{eqb}
@@ -21,7 +21,7 @@ use Rattle.format.specs.declared.Step.{Step}
 use Rattle.format.specs.declared.Step.the-variants.{Take, Refused}
 use Rattle.format.specs.declared.Reading.{Reading}
 use Rattle.format.specs.Format.{mostConstants, Result, refused, accepted, readAt, atomOf, fault, judged, taken, ended, go, stop, onward, turn, following, run, headFits, kindFrom, mostOf, inSection, opened, headOf, read}
-use Rattle.format.specs.Stored.{kindNumber, clauseBytes, sectionStart, readingsAt, Stored, stored, storedOf, countOf, definedBy, namedWord, Stands, readingOf, writtenOnward, writtenBy, clausesAfter, constantSize, leadingOf, isLeading, constantAt, placeOf, leading}
+use Rattle.format.specs.Stored.{kindNumber, clauseBytes, sectionStart, readingsAt, Stored, stored, storedOf, countOf, definedBy, namedWord, Stands, readingOf, writtenOnward, writtenBy, clausesAfter, leadingOf, isLeading, constantAt, placeOf, leading}
 use Rattle.format.specs.Keeping.{leadInto, keptConstants, constantCount, keptClauses, keptNames, clauseCounts, judgedOf, refusalOf, isEnd, wrongOf}
 use Rattle.format.specs.FormatLaws.{constant-fits, judged-take, size-some, Whole, read-whole, branch, Sound, Stay, Kept, turn-kept, head-fits, opened-sound, HeadRight, head-right}
 use Rattle.format.specs.Callers.{levels-are}

@@ -3,14 +3,13 @@
 use mathlib.Core.Path.{_≡_}
 use mathlib.Core.Bool.{Bool, true, false, not, _&&_, _||_}
 use mathlib.Core.List.{List}
-use Prim.Native.Nat.{ℕ, _+_, _*_, _/_, _%_, _≤_, _<_}
+use Prim.Native.Nat.{ℕ, _+_, _*_, _/_, _%_, _<_}
 use lib.Dec.{T}
 use lib.ListN.{getD}
 use Rattle.shares.specs.Below.{someBelow}
 use Rattle.shares.specs.Constant.{bit}
 use Rattle.format.specs.Stored.{Stored, stored}
 use Rattle.words.specs.Choices.{wordCount}
-use Rattle.words.specs.Kept.{numberAt}
 use Rattle.words.specs.Table.{Terms, Within}
 use Rattle.beside.specs.declared.Sizes.{Sizes}
 use Rattle.entries.specs.Entry.{Entry, WordOf, FullMark}

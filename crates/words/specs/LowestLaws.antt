@@ -1,4 +1,4 @@
--- The lowest set bit of a word, and the word without it. Assumes nothing.
+-- The lowest set bit of a word, and a word without one of its bits. Assumes nothing.
 use mathlib.Core.Path.{_≡_, refl, sym, ap, _∙_, subst, fun-ext}
 use mathlib.Core.Bool.{Bool, true, false, not, _&&_, _||_, and-true, and-false, or-false}
 use Prim.Native.Nat.{ℕ, zero, suc, _+_, _-_, _*_, _/_, _%_, _^_, _≤_, _<_}
@@ -9,14 +9,15 @@ use lib.Arith.{lt-of-le-ne}
 use lib.Bits.{bitAnd}
 use lib.Count.{trailingZeros, under}
 use lib.Dec.{T, T-not, eqb, eqb→eq, eqb-refl, ltb}
-use lib.Pow.{pow-pos, pow-mono, split}
+use lib.Pow.{pow-pos, pow-mono, pow-lt, split}
 use borrow.Author.Tests.{eq-eqb, ne-eqb, lt-ltb, le-ltb}
 use Rattle.shares.specs.Test.{is-true, is-false, and-right}
 use Rattle.shares.specs.Below.{firstBelow}
 use Rattle.shares.specs.BelowLaws.{first-below, first-least}
 use Rattle.shares.specs.Constant.{bit}
 use Rattle.shares.specs.BitLaws.{bit-and, bit-half, bits-zero}
-use Rattle.shares.specs.BitParts.{bit-beyond, bit-ones, bit-mod, bit-shift, bit-high}
+use Rattle.shares.specs.BitParts.{bit-beyond, bit-not, bit-ones, bit-mod, bit-shift, bit-high}
+use Rattle.shares.specs.Shifts.{power-shift, power-bit}
 
 -- the zeros below the lowest set bit of x
 lowest-bit : (x : ℕ) → bit x 0 ≡ eqb (x % 2) 1
@@ -141,3 +142,11 @@ moved-over r rest v i t j = go (ℕ-discrete j i)
     go : Dec (j ≡ i) → ((r j || (eqb j i && v i)) || ((rest j && not (eqb j i)) && v j)) ≡ (r j || (rest j && v j))
     go (yes e) = rw (e, eq-eqb i i refl, is-true (rest i) t) (or-false (r i || v i))
     go (no n) = rw (ne-eqb j i n, or-false (r j), and-true (rest j))
+
+-- bit j taken out of a word: every other bit stays
+pub other-bits : (x j k : ℕ) → j < 64 → k < 64 → (k ≡ j → ⊥) → bit (bitAnd x ((2 ^ 64 - 1) - (1 * 2 ^ j) % 2 ^ 64)) k ≡ bit x k
+other-bits x j k h l n =
+    bit-and x ((2 ^ 64 - 1) - (1 * 2 ^ j) % 2 ^ 64) k ∙ ap (_&&_ (bit x k)) (ap (λ y. bit ((2 ^ 64 - 1) - y) k) (power-shift j h) ∙ unset) ∙ and-true (bit x k)
+  where
+    unset : bit ((2 ^ 64 - 1) - 2 ^ j) k ≡ true
+    unset = bit-not 64 (2 ^ j) k (pow-lt {j = 64} h) l ∙ ap not (power-bit j k ∙ ne-eqb k j n)

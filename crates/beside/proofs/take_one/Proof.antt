@@ -6,7 +6,8 @@ use lib.Dec.{T, T-not}
 use lib.ListN.{getD}
 use Rattle.shares.specs.Test.{of-true, of-false, holds}
 use Rattle.shares.specs.Constant.{bit}
-use Rattle.beside.specs.TakeLaws.{taken-out, other-bits, taken-not, taken-set}
+use Rattle.words.specs.LowestLaws.{other-bits}
+use Rattle.beside.specs.TakeLaws.{taken-out, taken-not, taken-set}
 use borrow.Author.Needs.{needs}
 use Rattle.beside.proofs.take_one.Statement.{statement}
 use Rattle.beside.proofs.take_one.Tie as tie

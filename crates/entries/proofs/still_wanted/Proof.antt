@@ -5,7 +5,8 @@ use lib.Dec.{T-not}
 use borrow.Author.Needs.{needs}
 use Rattle.shares.specs.Test.{of-false}
 use Rattle.shares.specs.Constant.{bit}
-use Rattle.entries.specs.BitLaws.{other-bits, all-set}
+use Rattle.words.specs.LowestLaws.{other-bits}
+use Rattle.entries.specs.BitLaws.{all-set}
 use Rattle.entries.proofs.still_wanted.Statement.{statement}
 use Rattle.entries.proofs.still_wanted.Tie as tie
 

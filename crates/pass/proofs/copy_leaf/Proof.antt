@@ -1,5 +1,5 @@
 -- `pass::copy_leaf` meets its contract. Assumes nothing.
-use mathlib.Core.Path.{_≡_, subst, sym}
+use mathlib.Core.Path.{subst, sym}
 use native.Mathlib.Omega.{arith}
 use borrow.Author.Needs.{needs}
 use Rattle.pass.specs.Pass.{Put}

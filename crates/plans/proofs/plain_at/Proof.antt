@@ -1,6 +1,6 @@
 -- `plans::plain_at` meets its contract. Assumes nothing.
 use mathlib.Core.Path.{_≡_, sym, ap, _∙_}
-use Prim.Native.Nat.{_+_, _%_}
+use Prim.Native.Nat.{_%_}
 use native.Mathlib.Nat.{le-trans, mod-eq-of-lt}
 use Rattle.shares.specs.Test.{of-true}
 use Rattle.words.specs.Kept.{numberAt}

@@ -1,6 +1,6 @@
 -- `unfolded::way_at` meets its contract: the leaf is a bit of one word of each part. Assumes nothing.
 use mathlib.Core.Path.{_≡_, ap, _∙_}
-use Prim.Native.Nat.{ℕ, _+_, _*_, _/_, _%_}
+use Prim.Native.Nat.{_+_, _*_, _/_, _%_}
 use native.Mathlib.Omega.{arith}
 use borrow.Author.Needs.{needs}
 use Rattle.unfolded.specs.Unfolded.{joinWay}

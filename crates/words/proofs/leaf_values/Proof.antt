@@ -1,6 +1,6 @@
 -- `words::leaf_values` meets its contract. The loop's invariant: the bits that are there and the values of the constants that are left are all. Assumes nothing.
 use mathlib.Core.Path.{_≡_, refl, sym, ap, ap₂, _∙_}
-use mathlib.Core.Bool.{Bool, not, _&&_, _||_, or-false}
+use mathlib.Core.Bool.{not, _&&_, _||_, or-false}
 use Prim.Native.Nat.{ℕ, _*_, _/_, _%_, _^_, _≤_, _<_}
 use native.Mathlib.Nat.{le-refl, mod-lt}
 use native.Mathlib.Omega.{arith}

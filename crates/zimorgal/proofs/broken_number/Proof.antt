@@ -1,6 +1,5 @@
 -- `zimorgal::broken_number` gives the number of a broken clause: each of its numbers in bytes of its own. Assumes nothing.
 use mathlib.Core.Path.{_≡_, _∙_}
-use Prim.Native.Nat.{_<_}
 use native.Mathlib.Omega.{arith}
 use borrow.Author.Needs.{needs}
 use Rattle.shares.specs.Tree.{wayNumber}
