@@ -112,7 +112,7 @@ fn half(b: usize) -> u64
 fn mark_alike(
     table: &[u64; TABLE_WORDS],
     free: usize,
-    keys: &[u64; 64],
+    keys: &[u32; 64],
     b: usize,
     present: &mut [u64],
 )
@@ -203,12 +203,19 @@ fn look_words(
     rest
 }
 
+// The values that a key stands for.
+fn values_of(key: u32) -> u64
+    ensures { λ r. ⌜ r ≡ key ⌝ }
+{
+    key as u64
+}
+
 // What is left to find once the free choices below all leaves with the constants' values of leaf b are looked at; they are already if an earlier leaf has these.
 fn look_leaf(
     table: &[u64; TABLE_WORDS],
     clauses: &[u8; CLAUSE_BYTES],
     sizes: Sizes,
-    keys: &[u64; 64],
+    keys: &[u32; 64],
     b: usize,
     terms: &mut [u64; 64],
     wanted: u64,
@@ -223,12 +230,12 @@ fn look_leaf(
     }
     let mut present = [0u64; 64];
     mark_alike(table, sizes.free, keys, b, &mut present);
-    words::set_constants(keys[b], sizes.named, terms);
+    words::set_constants(values_of(keys[b]), sizes.named, terms);
     look_words(terms, clauses, sizes, &present, wanted)
 }
 
 // The values of the constants that are named, at each leaf.
-fn put_keys(constants: &[u64; 32], named: u64, keys: &mut [u64])
+fn put_keys(constants: &[u64; 32], named: u64, keys: &mut [u32])
     requires { ⌜ (named < 2 ^ 32) × (length (now keys) ≡ 64) ⌝ }
     ensures { λ _. ⌜ ((a : ℕ) → a < 2 ^ constantLevels → getD (now (keys .exit)) a 0 ≡ valuesAt constantLevels (now (constants .entry)) named constantLevels a) ⌝ }
 {
@@ -251,7 +258,7 @@ pub fn extends(
 {
     let mut terms = [0u64; 64];
     words::start_terms(sizes.free, sizes.own, &mut terms);
-    let mut keys = [0u64; 64];
+    let mut keys = [0u32; 64];
     put_keys(constants, sizes.named, &mut keys);
     let mut wanted: u64 = (1 << sizes.counts[3]) - 1;
     let mut b: usize = 0;

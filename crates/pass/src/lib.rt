@@ -166,7 +166,7 @@ fn visit(
 }
 
 // The first of the first b leaves whose values are these, or b.
-pub fn first_like(keys: &[u64; 64], values: u64, b: usize) -> usize
+pub fn first_like(keys: &[u32; 64], values: u32, b: usize) -> usize
     requires { ⌜ b ≤ 64 ⌝ }
     ensures { λ r. ⌜ (r ≤ b) × (r < b → getD (now (keys .entry)) r 0 ≡ values) ⌝ }
 {
@@ -196,7 +196,7 @@ pub fn pass_leaves(
 {
     let mut terms = [0u64; 64];
     words::start_terms(sizes.free, sizes.own, &mut terms);
-    let mut keys = [0u64; 64];
+    let mut keys = [0u32; 64];
     let leaves = basics::power(sizes.height);
     let mut seen = Seen {
         met: 0,
@@ -213,7 +213,7 @@ pub fn pass_leaves(
             search,
             number: b,
             like,
-            values,
+            values: values as u64,
         };
         seen = visit(&mut terms, clauses, sizes, leaf, seen, firsts, plains, rows);
         if !basics::digit(seen.met, 32) {

@@ -1,21 +1,23 @@
 -- Laws of terms: the digit of a variable, the values of the constants, a term's value by its kind, and the parts of a choice.
 -- Assumes nothing.
-use mathlib.Core.Path.{_≡_, sym, ap, ap₂, _∙_, fun-ext}
-use mathlib.Core.Bool.{not, _&&_}
+use mathlib.Core.Path.{_≡_, sym, ap, ap₂, _∙_, fun-ext, subst}
+use mathlib.Core.Bool.{Bool, not, _&&_}
 use mathlib.Core.List.{List}
 use Prim.Native.Nat.{ℕ, _+_, _-_, _*_, _%_, _^_, _≤_, _<_}
+use native.Mathlib.Nat.{lt-of-lt-of-le}
 use native.Mathlib.Decide.{decLt}
 use native.Mathlib.Omega.{arith}
 use lib.Dec.{eqb}
 use lib.ListN.{getD}
+use lib.Pow.{pow-mono}
 use borrow.Author.Tests.{lt-ltb, le-ltb}
 use Rattle.shares.specs.Blocks.{firstOf}
-use Rattle.shares.specs.Constant.{bit}
+use Rattle.shares.specs.Constant.{bit, numberOf}
 use Rattle.shares.specs.BitLaws.{bits-same, number-lt, bit-number}
 use Rattle.shares.specs.Parts.{fullPart}
 use Rattle.words.specs.Clause.{clauseTest, allClauses, position, termValue}
 use Rattle.words.specs.Choices.{valuesAt, allPass, clauseFails, allPassBut}
-use Rattle.shares.specs.BitParts.{bit-mod, bit-low, bit-high}
+use Rattle.shares.specs.BitParts.{bit-beyond, bit-mod, bit-low, bit-high}
 
 -- ---- the digit of a variable
 
@@ -53,6 +55,20 @@ pub values-is : (levels : ℕ) (constants : List ℕ) (named h b r : ℕ) → r 
     → ((i : ℕ) → bit r i ≡ (bit named i && bit (getD constants i 0) (firstOf h levels b))) → r ≡ valuesAt levels constants named h b
 unfolding valuesAt
 values-is levels constants named h b r small bits = bits-same 64 r _ small (number-lt 64 _) (λ i l. bits i ∙ sym (bit-number 64 _ i l))
+
+-- a word whose bits are set in another that is small is small
+module _ (w named r : ℕ) (f : ℕ → Bool) (below : named < 2 ^ w) (bits : (i : ℕ) → bit r i ≡ (bit named i && f i)) where
+  its-bits : (i : ℕ) → Dec (i < w) → bit r i ≡ bit (numberOf w (bit r)) i
+  its-bits i (yes k) = sym (bit-number w (bit r) i k)
+  its-bits i (no k) =
+      bits i ∙ ap (λ b. b && f i) (bit-beyond w named i below (omega arith))
+      ∙ sym (bit-beyond w (numberOf w (bit r)) i (number-lt w (bit r)) (omega arith))
+
+  pub within-lt : w ≤ 64 → r < 2 ^ 64 → r < 2 ^ w
+  within-lt few small =
+      let least = number-lt w (bit r) in
+      let same = bits-same 64 r (numberOf w (bit r)) small (lt-of-lt-of-le least (pow-mono few)) (λ i l. its-bits i (decLt i w)) in
+      subst (λ x. x < 2 ^ w) (sym same) least
 
 -- ---- a term's value by its kind
 

@@ -139,11 +139,11 @@ fn leaf_values(constants: &[u64; 32], named: u64, leaf: usize) -> u64
 }
 
 // The values of the constants that are named at leaf b of 2^h.
-pub fn values_at(constants: &[u64; 32], named: u64, h: usize, b: usize) -> u64
+pub fn values_at(constants: &[u64; 32], named: u64, h: usize, b: usize) -> u32
     requires { ⌜ (named < 2 ^ 32) × (h ≤ 5) × (b < 2 ^ h) ⌝ }
     ensures { λ r. ⌜ r ≡ valuesAt constantLevels (now (constants .entry)) named h b ⌝ }
 {
-    leaf_values(constants, named, b * (1 << (5 - h)))
+    leaf_values(constants, named, b * (1 << (5 - h))) as u32
 }
 
 // All ones where b is set, else 0.

@@ -1,6 +1,8 @@
 -- `extending::look_leaf` meets its contract. Assumes nothing.
 use mathlib.Core.List.{[]}
+use mathlib.Core.Path.{_≡_}
 use native.Mathlib.Omega.{arith}
+use Rattle.words.specs.Table.{Within}
 use lib.ListN.{getD}
 use borrow.Author.Needs.{needs}
 use Rattle.steps.specs.Steps.{storedBy}
@@ -33,11 +35,14 @@ slice-aggregate-mark-alike c = search needs
 mark-alike-requires : tie.Need-mark-alike-requires
 mark-alike-requires c κs = search needs
 
-mul-set-constants : tie.Need-mul-set-constants
-mul-set-constants c = search needs
+mul-values-of : tie.Need-mul-values-of
+mul-values-of c = search needs
 
-element-copy-out-set-constants : tie.Need-element-copy-out-set-constants
-element-copy-out-set-constants c = search needs
+element-copy-out-values-of : tie.Need-element-copy-out-values-of
+element-copy-out-values-of c = search needs
+
+values-of-requires : tie.Need-values-of-requires
+values-of-requires c κs = search needs
 
 set-constants-requires : tie.Need-set-constants-requires
 set-constants-requires c κs = search needs
@@ -47,17 +52,19 @@ look-words-requires c κs = search needs
 
 returns-2 : tie.Need-returns-2
 returns-2 c =
-    let s = c .before .before .before .before .before .before .before .before .before .before .before .before in
+    let s = c .before .before .before .before .before .before .before .before .before .before .before .before .before in
     let a = s .args in
     let (old, v, within, t) = s .pre .1 .3 in
-    let placed = c .before .before .before .set-constants .ensures (a .sizes .free) (a .sizes .own) old v (s .pre .0 .variables) within (s .pre .1 .2) t in
-    let looked = c .look-words .ensures in
-    let values = getD (a .keys .now) (a .b) 0 in (
-      (let (u, w) = looked [] values v placed .0 in (values, u, s .pre .1 .2, w)),
+    let values = c .before .before .before .before .before .values-of .result in
+    let same : values ≡ getD (a .keys .now) (a .b) 0 = c .before .before .before .before .before .values-of .ensures in
+    let inside : Within (a .sizes .named) values = rw same (s .pre .1 .2) in
+    let placed = c .before .before .before .set-constants .ensures (a .sizes .free) (a .sizes .own) old v (s .pre .0 .variables) within inside t in
+    let looked = c .look-words .ensures in (
+      (let (u, w) = looked [] values v placed .0 in (values, u, inside, w)),
       λ constants start K L.
           leaf-looked (storedBy (a .sizes) (a .clauses .now) constants) (a .table .now) (a .keys .now) (a .b) start (a .wanted) (s .pre .1 .0) K L 64 _ _
-          (omega (arith, s .pre .0 .few)) (c .before .before .before .before .before .before .before .mark-alike .ensures)
-          (looked constants values v placed .1),
+          (omega (arith, s .pre .0 .few)) (c .before .before .before .before .before .before .before .before .mark-alike .ensures)
+          (rw same at (looked constants values v placed .1)),
     )
 
 pub look-leaf-spec : {M : Type 1} → statement M
@@ -70,8 +77,9 @@ look-leaf-spec =
     returns
     slice-aggregate-mark-alike
     mark-alike-requires
-    mul-set-constants
-    element-copy-out-set-constants
+    mul-values-of
+    element-copy-out-values-of
+    values-of-requires
     set-constants-requires
     look-words-requires
     returns-2)

@@ -71,6 +71,9 @@ mul-keys c = omega (arith, few-leaves (c .before .before .before .before .before
 array-write-keys : tie.Need-array-write-keys Inv-loop μ-loop
 array-write-keys c = omega (arith, few-leaves (c .before .before .before .before .before .before .before .before .before .before), c .before .before .before .before .before .before .power .ensures)
 
+cast-t28 : tie.Need-cast-t28 Inv-loop μ-loop
+cast-t28 c = search needs
+
 visit-requires : tie.Need-visit-requires Inv-loop μ-loop
 visit-requires c κs =
     let s = c .before .before .before .before .before .before .before .before .before .before .before .before .before .before in
@@ -136,6 +139,7 @@ pass-leaves-spec =
     first-like-requires
     mul-keys
     array-write-keys
+    cast-t28
     visit-requires
     digit-requires
     returns

@@ -5,7 +5,7 @@ use native.Mathlib.Omega.{arith}
 use Rattle.shares.specs.Constant.{constantLevels}
 use Rattle.shares.specs.BlockLaws.{first-lt}
 use Rattle.shares.specs.Shifts.{power-shift}
-use Rattle.words.specs.TermLaws.{values-is}
+use Rattle.words.specs.TermLaws.{values-is, within-lt}
 use borrow.Author.Needs.{needs}
 use Rattle.words.proofs.values_at.Statement.{statement}
 use Rattle.words.proofs.values_at.Tie as tie
@@ -30,6 +30,11 @@ mul-leaf-values c = omega (arith, leaf-lt c)
 leaf-values-requires : tie.Need-leaf-values-requires
 leaf-values-requires c κs = (c .pre .0, omega (arith, leaf-lt c))
 
+-- it fits, since no more than 32 constants are named
+cast-result : tie.Need-cast-result
+cast-result c =
+    record { fits = within-lt 32 (c .before .args .named) (c .leaf-values .result) _ (c .before .pre .0) (c .leaf-values .ensures) (omega arith) (c .leaf-values .ok) }
+
 returns : tie.Need-returns
 returns c =
     values-is constantLevels _ _ _ _ (c .leaf-values .result) (c .leaf-values .ok) (λ i. rw (power (c .before)) at (c .leaf-values .ensures i))
@@ -37,4 +42,4 @@ returns c =
 pub values-at-spec : {M : Type 1} → statement M
 values-at-spec =
     tie.close
-    (tie.spec sub-leaf-values shl-leaf-values mul-leaf-values leaf-values-requires returns)
+    (tie.spec sub-leaf-values shl-leaf-values mul-leaf-values leaf-values-requires cast-result returns)
