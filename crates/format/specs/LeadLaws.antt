@@ -16,6 +16,7 @@ use Rattle.format.specs.declared.Step.the-variants.{Take, Refused}
 use Rattle.format.specs.Format.{mostConstants, entryOf, commandOf, wholeAt, readAt}
 use Rattle.format.specs.Stored.{constantSize, constantAt, placeOf, leading}
 use Rattle.format.specs.Keeping.{leadInto, faultOf, judgedOf}
+use Rattle.format.specs.Worked
 
 -- ---- where a constant stands
 
