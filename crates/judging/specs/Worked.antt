@@ -11,7 +11,7 @@ use Rattle.leaves.specs.Problem.{plainAt, specialAt, solvable}
 use Rattle.systems.specs.Clauses.{variable, joined, equal, isFull, isEmpty, together, positive, negated, System, positives, disequations}
 use Rattle.systems.specs.Questions.{Kind, satisfiability, entailment, Question}
 use Rattle.systems.specs.AtLeaves.{readingWay, termAt, partAt, allAt, bothAt}
-use Rattle.format.specs.Format.{accepted}
+use Rattle.format.specs.Format.{refused, accepted}
 use Rattle.rows.specs.Rows.{rowLeaf, rowRange, rowPart, zeros}
 use Rattle.judging.specs.Judging.{turnedAway, judged, isZero, handedTo, everywhere, failingLeaf, judgementOf}
 use Rattle.judging.specs.declared.Judgement.the-variants.{Accepted, Broken, Extending}
@@ -89,7 +89,8 @@ pub second-judged : (judgementOf (judged whole) (rowsWith last (zeros 4)) ≡ Ac
 unfolding everyBelow someBelow firstBelow joinLeaf leafTest bit someChoice at table pickRow plainAt specialAt solvable positives disequations readingWay termAt partAt allAt bothAt rowLeaf rowRange rowPart zeros everywhere
 second-judged = (refl, refl)
 
--- rows of another length are 18, whatever is set in them; a bit in the row of an own variable is 19
-pub turned-away : (handedTo (accepted parted) (full ++ last) ≡ turnedAway 18 0) × (handedTo (accepted parted) (rowsWith full last) ≡ turnedAway 19 0)
+-- rows of another length, shorter or longer, are 18, whatever is set in them; a bit in the row of an own variable is 19; but the reader's refusal comes first
+pub turned-away : (handedTo (accepted parted) (full ++ last) ≡ turnedAway 18 0) × (handedTo (accepted parted) (rowsWith full (zeros 5)) ≡ turnedAway 18 0)
+    × (handedTo (accepted parted) (rowsWith full last) ≡ turnedAway 19 0) × (handedTo (refused 3 4) [] ≡ turnedAway 3 4)
 unfolding isZero zeros
-turned-away = (refl, refl)
+turned-away = (refl, refl, refl, refl)
