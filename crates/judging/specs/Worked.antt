@@ -1,5 +1,6 @@
 -- Rows judged by hand, computed: constants of one leaf, so rows of 32. Assumes nothing.
 use mathlib.Core.Path.{_≡_, refl}
+use mathlib.Core.Bool.{true}
 use mathlib.Core.List.{List, [], _∷_, _++_}
 use Prim.Native.Nat.{ℕ}
 use Rattle.shares.specs.Below.{everyBelow, someBelow, firstBelow}
@@ -13,7 +14,7 @@ use Rattle.systems.specs.Questions.{Kind, satisfiability, entailment, Question}
 use Rattle.systems.specs.AtLeaves.{readingWay, termAt, partAt, allAt, bothAt}
 use Rattle.format.specs.Format.{refused, accepted}
 use Rattle.rows.specs.Rows.{rowLeaf, rowRange, rowPart, zeros}
-use Rattle.judging.specs.Judging.{turnedAway, judged, isZero, handedTo, everywhere, failingLeaf, judgementOf}
+use Rattle.judging.specs.Judging.{turnedAway, judged, isZero, handedTo, everywhere, failingLeaf, extendsAt, judgementOf}
 use Rattle.judging.specs.declared.Judgement.the-variants.{Accepted, Broken, Extending}
 
 -- ---- the questions
@@ -85,9 +86,10 @@ unfolding everyBelow firstBelow joinLeaf leafTest bit positives disequations rea
 ways-judged = (refl, refl, refl, refl, refl)
 
 -- a share with one full leaf is not full; but it is the join of two, which are taller than the rows
-pub second-judged : (judgementOf (judged whole) (rowsWith last (zeros 4)) ≡ Accepted) × (judgementOf (judged parted) (rowsWith last (zeros 4)) ≡ Extending)
+pub second-judged : (judgementOf (judged whole) (rowsWith last (zeros 4)) ≡ Accepted) × (extendsAt parted (rowsWith last (zeros 4)) ≡ true)
+    × (judgementOf (judged parted) (rowsWith last (zeros 4)) ≡ Extending)
 unfolding everyBelow someBelow firstBelow joinLeaf leafTest bit someChoice at table pickRow plainAt specialAt solvable positives disequations readingWay termAt partAt allAt bothAt rowLeaf rowRange rowPart zeros everywhere
-second-judged = (refl, refl)
+second-judged = (refl, refl, refl)
 
 -- rows of another length, shorter or longer, are 18, whatever is set in them; a bit in the row of an own variable is 19; but the reader's refusal comes first
 pub turned-away : (handedTo (accepted parted) (full ++ last) ≡ turnedAway 18 0) × (handedTo (accepted parted) (rowsWith full (zeros 5)) ≡ turnedAway 18 0)
