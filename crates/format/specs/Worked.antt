@@ -41,8 +41,9 @@ announced = refl
 rooms : map mostOf (FirstPositive ∷ FirstDisequation ∷ SecondPositive ∷ SecondDisequation ∷ []) ≡ 64 ∷ 31 ∷ 64 ∷ 31 ∷ []
 rooms = refl
 
--- no first byte; no byte where a command is due, at the length; an unknown byte with nothing behind it; a byte after the end, at its own place
-places : (read [] ≡ refused 1 0) × (read alone ≡ refused 2 4) × (read (alone ++ (0x02 ∷ [])) ≡ refused 3 4) × (read (alone ++ (0x00 ∷ 0x99 ∷ [])) ≡ refused 10 5)
+-- no first byte; no byte where a command is due, at the length; an unknown byte with nothing behind it; a byte after the end
+places : (read [] ≡ refused 1 0) × (read alone ≡ refused 2 4) × (read (alone ++ (0x02 ∷ [])) ≡ refused 3 4)
+    × (read (alone ++ (0x00 ∷ 0x99 ∷ [])) ≡ refused 10 5)
 unfolding read headOf headFits opened run turn ended fault readAt wholeAt commandOf entryOf
 places = (refl, refl, refl, refl)
 

@@ -86,13 +86,16 @@ unfolding everyBelow firstBelow joinLeaf leafTest bit positives disequations rea
 ways-judged = (refl, refl, refl, refl, refl)
 
 -- a share with one full leaf is not full; but it is the join of two, which are taller than the rows
-pub second-judged : (judgementOf (judged whole) (rowsWith last (zeros 4)) ≡ Accepted) × (extendsAt parted (rowsWith last (zeros 4)) ≡ true)
+pub second-judged : (judgementOf (judged whole) (rowsWith last (zeros 4)) ≡ Accepted)
+    × (extendsAt parted (rowsWith last (zeros 4)) ≡ true)
     × (judgementOf (judged parted) (rowsWith last (zeros 4)) ≡ Extending)
 unfolding everyBelow someBelow firstBelow joinLeaf leafTest bit someChoice at table pickRow plainAt specialAt solvable positives disequations readingWay termAt partAt allAt bothAt rowLeaf rowRange rowPart zeros everywhere
 second-judged = (refl, refl, refl)
 
--- rows of another length, shorter or longer, are 18, whatever is set in them; a bit in the row of an own variable is 19; but the reader's refusal comes first
-pub turned-away : (handedTo (accepted parted) (full ++ last) ≡ turnedAway 18 0) × (handedTo (accepted parted) (rowsWith full (zeros 5)) ≡ turnedAway 18 0)
+-- rows of another length, shorter or longer, are 18, whatever is set in them; a bit in the row of an own variable is 19;
+-- but the reader's refusal comes first
+pub turned-away : (handedTo (accepted parted) (full ++ last) ≡ turnedAway 18 0)
+    × (handedTo (accepted parted) (rowsWith full (zeros 5)) ≡ turnedAway 18 0)
     × (handedTo (accepted parted) (rowsWith full last) ≡ turnedAway 19 0) × (handedTo (refused 3 4) [] ≡ turnedAway 3 4)
 unfolding isZero zeros
 turned-away = (refl, refl, refl, refl)

@@ -16,7 +16,14 @@ use Rattle.systems.specs.Decide.{decideKind, decide}
 
 -- of one free variable, without constants
 abbrev entails : System → System → Question
-entails s t = record { kind = entailment; free = 1; own = 0; constants = record { levels = 0; numbers = [] }; first = s; second = t }
+entails s t = record {
+  kind = entailment;
+  free = 1;
+  own = 0;
+  constants = record { levels = 0; numbers = [] };
+  first = s;
+  second = t;
+}
 
 abbrev writes : System
 writes = mayWrite (variable 0) ∷ []
@@ -24,8 +31,8 @@ writes = mayWrite (variable 0) ∷ []
 abbrev reads : System
 reads = mayRead (variable 0) ∷ []
 
--- who may write may read; who may read need not write; nobody need read; and who may write holds nothing: there is no such share
-pub decided : (decide (entails writes reads) ≡ entailed) × (decide (entails reads writes) ≡ unmet) × (decide (entails [] reads) ≡ missed 0)
-    × (decide (entails (positive (isEmpty (variable 0)) ∷ writes) reads) ≡ vacuous)
+-- who may write may read; who may read need not write; nobody need read; no empty share may write
+pub decided : (decide (entails writes reads) ≡ entailed) × (decide (entails reads writes) ≡ unmet)
+    × (decide (entails [] reads) ≡ missed 0) × (decide (entails (positive (isEmpty (variable 0)) ∷ writes) reads) ≡ vacuous)
 unfolding decideKind namedIn tallestAmong leafTest joinLeaf positives disequations readingWay termAt partAt allAt bothAt solvable plainAt specialAt someChoice everyBelow someBelow firstBelow pickRow at meets meetsWith canBeUnmet canBeMissed firstMissed
 decided = (refl, refl, refl, refl)
