@@ -17,6 +17,7 @@ use Rattle.format.specs.FormatLaws.{Limited}
 use Rattle.format.specs.declared.Section.the-variants.{FirstDisequation}
 use Rattle.rows.specs.Rows.{rowLevels, answerBytes, zeros}
 use Rattle.asking.specs.Asking.{workBytes, turnedAway, answered, lentTo, asked}
+use Rattle.asking.specs.Worked
 
 -- ---- the cases
 

@@ -25,6 +25,7 @@ use Rattle.format.specs.declared.Step.{Step}
 use Rattle.format.specs.declared.Step.the-variants.{Take, Refused}
 use Rattle.format.specs.SectionLaws.{both-counts, added, Alike, same, other, alike, constant-sections, clause-keeps}
 use Rattle.format.specs.Format.{Result, refused, accepted, mostVariables, mostConstants, mostPositive, mostDisequations, entryOf, termCount, operands, commandOf, wholeAt, readAt, isSecond, mostOf, inSection, termOf, names, variablesFor, termNamed, allNamed, atomOf, isForeign, clauseFault, constantFault, fault, judged, begun, withFirst, withSecond, withClause, withConstant, taken, ended, Turn, go, stop, onward, turn, following, run, headFits, opened, headOf, afterHead, read}
+use Rattle.format.specs.Worked
 
 -- ---- the statements
 

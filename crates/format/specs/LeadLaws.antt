@@ -20,6 +20,7 @@ use Rattle.format.specs.declared.Leading.the-variants.{Other}
 use Rattle.format.specs.Format.{mostConstants, entryOf, termCount, clauseAt, commandOf, wholeAt, readAt}
 use Rattle.format.specs.Stored.{constantSize, leadingOf, isLeading, constantAt, placeOf, leading}
 use Rattle.format.specs.Keeping.{leadInto, faultOf, judgedOf}
+use Rattle.format.specs.Worked
 
 -- ---- where a constant stands
 

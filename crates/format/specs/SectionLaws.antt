@@ -12,6 +12,7 @@ use Rattle.format.specs.declared.Section.the-variants.{FirstPositive, Fi
 use Rattle.format.specs.Format.{mostOf, inSection, variablesFor, withClause, withConstant}
 use Rattle.format.specs.Stored.{sectionNumber, clauseBytes, sectionStart, countOf}
 use Rattle.format.specs.Keeping.{nextSlot}
+use Rattle.format.specs.Worked
 
 -- ---- lists
 

@@ -6,7 +6,10 @@ use lib.ListN.{replicate}
 use Rattle.shares.specs.Constant.{constantLevels, numberOf, number}
 use Rattle.systems.specs.Clauses.{variable, constant, joined, equal, isFull, isEmpty, together, positive, negated, positives, disequations}
 use Rattle.systems.specs.Questions.{Question, satisfiability, entailment, namedIn, isAmong}
-use Rattle.format.specs.Format.{Result, refused, accepted, entryOf, commandOf, wholeAt, readAt, termOf, names, fault, taken, ended, turn, run, headFits, opened, headOf, read}
+use Rattle.format.specs.declared.Section.the-variants.{FirstPositive, FirstDisequation, SecondPositive, SecondDisequation}
+use Rattle.format.specs.declared.Shape.{Shape}
+use Rattle.format.specs.declared.Entry.the-variants.{Known, Unknown}
+use Rattle.format.specs.Format.{Result, refused, accepted, mostOf, entryOf, commandOf, wholeAt, readAt, termOf, names, fault, taken, ended, turn, run, headFits, opened, headOf, read}
 use Rattle.format.specs.Stored.{clauseBytes, namedWord, readingOf, writtenBy, clausesAfter}
 
 pub record Worked : Type 0 where
@@ -26,6 +29,25 @@ both = 0x01 ∷ 0x01 ∷ 0x01 ∷ 0x01 ∷ []
 -- v0 is v0, in the first system
 abbrev itself : List ℕ
 itself = 0x12 ∷ 0x00 ∷ 0x00 ∷ []
+
+-- ---- short ones, each by itself, so that a wrong definition shows in two values
+
+-- what a byte announces
+announced : map entryOf (0x02 ∷ 0x03 ∷ 0x14 ∷ []) ≡ Unknown ∷ Known Shape.Constant ∷ Unknown ∷ []
+unfolding entryOf
+announced = refl
+
+-- how many clauses each section may have
+rooms : map mostOf (FirstPositive ∷ FirstDisequation ∷ SecondPositive ∷ SecondDisequation ∷ []) ≡ 64 ∷ 31 ∷ 64 ∷ 31 ∷ []
+rooms = refl
+
+-- no first byte; no byte where a command is due, at the length; an unknown byte with nothing behind it; a byte after the end
+places : (read [] ≡ refused 1 0) × (read alone ≡ refused 2 4) × (read (alone ++ (0x02 ∷ [])) ≡ refused 3 4)
+    × (read (alone ++ (0x00 ∷ 0x99 ∷ [])) ≡ refused 10 5)
+unfolding read headOf headFits opened run turn ended fault readAt wholeAt commandOf entryOf
+places = (refl, refl, refl, refl)
+
+-- ---- a table
 
 -- the printing program's example, and its question: v0 join the left half is full
 abbrev example : List ℕ
@@ -74,14 +96,11 @@ table =
     gives example (accepted exampleQuestion)
     ∷ gives entails (accepted entailsQuestion)
     ∷ gives policies (accepted policiesQuestion)
-    -- 1: no first byte; not 01, though its operands are cut short
-    ∷ gives [] (refused 1 0)
+    -- 1: not 01, though its operands are cut short
     ∷ gives (0x03 ∷ 0x00 ∷ []) (refused 1 0)
     -- 2: no byte where a command is due, at the length
-    ∷ gives alone (refused 2 4)
     ∷ gives (alone ++ itself) (refused 2 7)
     -- 3: an unknown byte, whatever follows it
-    ∷ gives (alone ++ (0x02 ∷ [])) (refused 3 4)
     ∷ gives (alone ++ (0x14 ∷ 0x00 ∷ 0x00 ∷ 0x00 ∷ [])) (refused 3 4)
     ∷ gives (alone ++ (0x33 ∷ 0x00 ∷ [])) (refused 3 4)
     ∷ gives (both ++ (0x3B ∷ 0x00 ∷ 0x00 ∷ [])) (refused 3 4)

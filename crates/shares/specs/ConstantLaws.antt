@@ -18,6 +18,7 @@ use Rattle.shares.specs.JoinLaws.{join-iff, join-none-iff}
 use Rattle.shares.specs.Constant.{bit, setInBoth, numberTree, treeNumber}
 use Rattle.shares.specs.BitLaws.{bit-and, bit-or, bit-zero, bits-same, bits-zero, number-lt, bit-number}
 use Rattle.shares.specs.BitParts.{bit-ones}
+use Rattle.shares.specs.Examples
 
 -- ---- a number is its tree's, and a tree its number's
 

@@ -3,10 +3,10 @@ use mathlib.Core.Path.{_≡_, refl}
 use mathlib.Core.Bool.{true, false}
 use mathlib.Core.List.{[], _∷_}
 use mathlib.Core.Option.{none, some}
-use Rattle.shares.specs.Below.{everyBelow}
+use Rattle.shares.specs.Below.{everyBelow, someBelow}
 use Rattle.shares.specs.Tree.{Tree, leaf, pair, twins, fold, height, half, full, leafAt, treeOf, joinLeaf, treeIf, joinAt, join, leafTest}
 use Rattle.shares.specs.declared.Way.the-variants.{Holds, Overlap, Surplus, Shortfall}
-use Rattle.shares.specs.Constant.{bit, numberTree, constantLevels, number}
+use Rattle.shares.specs.Constant.{bit, setInBoth, numberTree, constantLevels, number}
 use Rattle.shares.specs.Text.{text}
 
 -- the left half
@@ -51,6 +51,11 @@ constants = (refl, refl, refl, refl)
 constants-joined : join (numberTree constantLevels 0x00000001) (numberTree constantLevels 0x00000002) ≡ some (numberTree constantLevels 0x00000003)
 unfolding treeOf fold twins bit joinLeaf treeIf join joinAt everyBelow leafAt half full height
 constants-joined = refl
+
+-- bit 2 is set in both; none is
+in-both : (setInBoth 4 5 6 ≡ true) × (setInBoth 4 5 10 ≡ false)
+unfolding setInBoth someBelow bit
+in-both = (refl, refl)
 
 constant-heights : (height (numberTree constantLevels 0xFFFF0001) ≡ 5) × (height (numberTree constantLevels 0x80000000) ≡ 5)
     × (height (numberTree constantLevels 0x00FF00FF) ≡ 2) × (height (numberTree constantLevels 0) ≡ 0)

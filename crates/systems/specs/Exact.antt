@@ -27,6 +27,7 @@ use Rattle.systems.specs.SystemLaws.{parts}
 use Rattle.systems.specs.AtLeaves.{firstAt, secondAt}
 use Rattle.systems.specs.AtomLaws.{Reads}
 use Rattle.systems.specs.Link.{rowsAt, rows-read, shares-read, shares-low, Read, read-any, first-iff, extension-iff, meets-iff, with-iff}
+use Rattle.systems.specs.DecideExamples
 use Rattle.systems.specs.Decide.{canSolve, someUnmet, lowestMissed, decideKind, decideAt, sharesOf}
 
 -- what extends can meet the positive clauses, and have each disequation beside them

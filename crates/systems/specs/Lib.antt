@@ -5,6 +5,7 @@ pub mod Solutions
 pub mod Answers
 pub mod AtLeaves
 pub mod Decide
+pub mod DecideExamples
 pub mod ShownWords
 pub mod ShownLaws
 pub mod Policies

@@ -1,4 +1,5 @@
 -- `commands::read_at` meets its contract: test by test. Assumes nothing.
+use mathlib.Core.Path.{refl}
 use borrow.Author.Tests.{le-ltb, lt-ltb}
 use borrow.Author.Needs.{needs}
 use Rattle.format.specs.Format.{readAt, wholeAt}
@@ -23,7 +24,7 @@ enum-told c = search needs
 
 returns-2 : tie.Need-returns-2
 unfolding readAt wholeAt
-returns-2 c = simp (lt-ltb _ _ (c .before .before .before .before .if1 .left), ← c .before .before .entry-of .ensures, c .enum-told .given .1)
+returns-2 c = simp (lt-ltb _ _ (c .before .before .before .before .if1 .left), ← c .before .before .entry-of .ensures, c .enum-told .given .1) refl
 
 operand-count-requires : tie.Need-operand-count-requires
 operand-count-requires c κs = search needs
@@ -37,7 +38,7 @@ sub-if2 c = search needs
 returns-3 : tie.Need-returns-3
 unfolding readAt wholeAt
 returns-3 c =
-    simp (lt-ltb _ _ (c .before .before .before .before .before .before .before .if1 .left), ← c .before .before .before .before .before .entry-of .ensures, c .before .before .before .entry .given .1, ← c .before .operand-count .ensures, lt-ltb _ _ (c .if2 .taken))
+    simp (lt-ltb _ _ (c .before .before .before .before .before .before .before .if1 .left), ← c .before .before .before .before .before .entry-of .ensures, c .before .before .before .entry .given .1, ← c .before .operand-count .ensures, lt-ltb _ _ (c .if2 .taken)) refl
 
 command-of-requires : tie.Need-command-of-requires
 command-of-requires c κs = search needs

@@ -14,7 +14,9 @@ digit-requires : tie.Need-digit-requires
 digit-requires c κs = search needs
 
 returns : tie.Need-returns
-returns c = kept-before _ _ _ _ _ (sym (c .before .digit .ensures) ∙ c .if1 .taken)
+returns c =
+    let a = c .before .before .before .args in
+    kept-before (a .e) (a .turn) _ (a .met) (a .firsts .now) (sym (c .before .digit .ensures) ∙ c .if1 .taken)
 
 returns-2 : tie.Need-returns-2
 returns-2 c = kept-none _ _ _ _ _ (λ i l. ap (λ y. bit y i) (c .if2 .taken) ∙ bit-zero i)

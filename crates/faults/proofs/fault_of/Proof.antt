@@ -1,5 +1,5 @@
 -- `faults::fault_of` meets its contract, by cases on the command. Assumes nothing.
-use mathlib.Core.Path.{sym, ap, _∙_}
+use mathlib.Core.Path.{refl, sym, ap, _∙_}
 use borrow.Author.Needs.{needs}
 use Rattle.format.specs.Keeping.{faultOf}
 use Rattle.faults.proofs.ClauseFacts.{clause-judged}
@@ -44,11 +44,11 @@ clause-fault-requires c κs = search needs
 
 returns : tie.Need-returns
 unfolding faultOf
-returns c = simp (c .enum-told .given .1)
+returns c = rw (c .enum-told .given .1) refl
 
 returns-2 : tie.Need-returns-2
 unfolding faultOf
-returns-2 c = simp (c .enum-told2 .given .1)
+returns-2 c = rw (c .enum-told2 .given .1) refl
 
 returns-3 : tie.Need-returns-3
 unfolding faultOf

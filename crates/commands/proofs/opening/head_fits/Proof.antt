@@ -1,4 +1,5 @@
 -- `commands::opening::head_fits` meets its contract: test by test. Assumes nothing.
+use mathlib.Core.Path.{refl}
 use borrow.Author.Tests.{le-ltb, lt-ltb, eq-eqb, ne-eqb}
 use borrow.Author.Needs.{needs}
 use Rattle.format.specs.Format.{headFits}
@@ -18,7 +19,7 @@ returns-2 c = simp (le-ltb 1 _ (c .before .if1 .left), lt-ltb 12 _ (c .if2 .take
 
 returns-3 : tie.Need-returns-3
 unfolding headFits
-returns-3 c = simp (le-ltb _ _ (c .before .before .if1 .left), le-ltb _ _ (c .before .if2 .left), eq-eqb _ _ (c .if3 .taken))
+returns-3 c = simp (le-ltb _ _ (c .before .before .if1 .left), le-ltb _ _ (c .before .if2 .left), eq-eqb _ _ (c .if3 .taken)) refl
 
 returns-4 : tie.Need-returns-4
 unfolding headFits

@@ -21,7 +21,7 @@ returns-2 c = simp (lt-ltb 0 _ (c .before .before .if1 .left), ne-eqb _ 1 (c .if
 
 returns-3 : tie.Need-returns-3
 unfolding headOf
-returns-3 c = simp (lt-ltb 0 _ (c .before .before .before .if1 .left), eq-eqb _ _ (c .before .if2 .left), lt-ltb _ _ (c .if3 .taken))
+returns-3 c = simp (lt-ltb 0 _ (c .before .before .before .if1 .left), eq-eqb _ _ (c .before .if2 .left), lt-ltb _ 4 (c .if3 .taken))
 
 shared-slice-read-kind : tie.Need-shared-slice-read-kind
 shared-slice-read-kind c = search needs
