@@ -48,6 +48,13 @@ parted =
     asks entailment 1 2 (negated (isEmpty (variable 0)) ∷ [])
     (positive (joined (variable 1) (variable 2) (variable 0)) ∷ negated (isEmpty (variable 1)) ∷ negated (isEmpty (variable 2)) ∷ [])
 
+-- entails: own v2 may be held together with v0, is not empty, and does not fill it up to v1
+abbrev filled : Question
+filled =
+    asks entailment 2 1 []
+    (positive (together (variable 0) (variable 2)) ∷ negated (isEmpty (variable 2))
+    ∷ negated (joined (variable 0) (variable 2) (variable 1)) ∷ [])
+
 -- ---- the rows, four bytes each
 
 -- a full row; the same without its last leaf; that leaf alone
@@ -85,9 +92,10 @@ pub ways-judged : (judgementOf (judged alike) (rowsWith (leaves 0x08) (leaves 0x
 unfolding everyBelow firstBelow joinLeaf leafTest bit positives disequations readingWay termAt partAt rowLeaf rowRange rowPart zeros everywhere failingLeaf
 ways-judged = (refl, refl, refl, refl, refl)
 
--- a share with one full leaf is not full; but it is the join of two, which are taller than the rows
+-- a share with one full leaf is not full; but it is the join of two, which are taller than the rows; and so is a share that
+-- is neither empty nor full within one leaf
 pub second-judged : (judgementOf (judged whole) (rowsWith last (zeros 4)) ≡ Accepted)
-    × (extendsAt parted (rowsWith last (zeros 4)) ≡ true)
+    × (extendsAt filled (rowsWith less full) ≡ true)
     × (judgementOf (judged parted) (rowsWith last (zeros 4)) ≡ Extending)
 unfolding everyBelow someBelow firstBelow joinLeaf leafTest bit someChoice at table pickRow plainAt specialAt solvable positives disequations readingWay termAt partAt allAt bothAt rowLeaf rowRange rowPart zeros everywhere
 second-judged = (refl, refl, refl)
