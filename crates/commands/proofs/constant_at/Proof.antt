@@ -7,6 +7,7 @@ use lib.ListN.{length}
 use borrow.Author.Tests.{le-ltb, lt-ltb}
 use borrow.Author.Needs.{needs}
 use Rattle.format.specs.declared.Shape.{Shape}
+use Rattle.format.specs.declared.Leading.{Leading}
 use Rattle.format.specs.Format.{readAt, wholeAt, commandOf, operands}
 use Rattle.format.specs.LeadLaws.{other-stands}
 use Rattle.commands.proofs.constant_at.Statement.{statement}
@@ -81,8 +82,8 @@ returns-5 c =
       c .before .before .before .enum-told2 .given .1,
       width,
       le-ltb (length (start .args .bytes .now) - (start .args .at + 1)) 4 (omega (arith, width, c .before .if2 .left)),
-      c .four-bytes .ensures .0,
     )
+    (ap (λ v. Leading.Constant v (start .args .at + 1 + 4)) (c .four-bytes .ensures .0))
 
 pub constant-at-spec : {M : Type 1} → statement M
 constant-at-spec =
