@@ -1,6 +1,6 @@
 -- Laws of clauses: the tests by Boolean operations, and the parts that a section reads. Assumes nothing.
 use mathlib.Core.Path.{_≡_, refl, sym, ap, ap₂, _∙_, subst}
-use mathlib.Core.Bool.{Bool, true, false, not, xor, cond, _&&_, _||_, Bool·not-not}
+use mathlib.Core.Bool.{Bool, true, false, not, xor, cond, _&&_, _||_, or-comm, Bool·not-not}
 use mathlib.Core.List.{List}
 use mathlib.Core.Option.{none, some}
 use Prim.Native.Nat.{ℕ, _+_, _-_, _*_, _^_, _≤_, _<_}
@@ -101,13 +101,13 @@ module _ (a b c : ℕ) (x : a < 2 ^ 64) (y : b < 2 ^ 64) (z : c < 2 ^ 64) where
 
 -- the test holds where none of the three words has its bit
 pub holds-word : (form a b c : ℕ) (w : Ways) → WaysOf form a b c w
-    → w .overlap < 2 ^ 64 → w .surplus < 2 ^ 64 → w .shortfall < 2 ^ 64
-    → (i : ℕ) → i < 64 → bit ((2 ^ 64 - 1) - bitOr (w .overlap) (bitOr (w .surplus) (w .shortfall))) i ≡ testValue form (bit a i) (bit b i) (bit c i)
+    → w .overlap < 2 ^ 64 → w .surplus < 2 ^ 64 → w .shortfall < 2 ^ 64 → (i : ℕ) → i < 64
+    → bit ((2 ^ 64 - 1) - bitOr (bitOr (w .surplus) (w .shortfall)) (w .overlap)) i ≡ testValue form (bit a i) (bit b i) (bit c i)
 holds-word form a b c w W x y z i h =
-    not-bits (bitOr (w .overlap) (bitOr (w .surplus) (w .shortfall))) i _ (or-lt 64 _ _ x (or-lt 64 _ _ y z)) h
-    (bit-or (w .overlap) (bitOr (w .surplus) (w .shortfall)) i
-    ∙ ap (λ d. bit (w .overlap) i || d) (bit-or (w .surplus) (w .shortfall) i)
-    ∙ W .fails i h)
+    let off = bitOr (w .surplus) (w .shortfall) in
+    not-bits (bitOr off (w .overlap)) i _ (or-lt 64 _ _ (or-lt 64 _ _ y z) x) h
+    (bit-or off (w .overlap) i ∙ or-comm (bit off i) (bit (w .overlap) i)
+    ∙ ap (λ d. bit (w .overlap) i || d) (bit-or (w .surplus) (w .shortfall) i) ∙ W .fails i h)
     ∙ Bool·not-not (testValue form (bit a i) (bit b i) (bit c i))
 
 -- ---- the way at one leaf from the three words

@@ -61,7 +61,7 @@ pub fn test_word(form: u8, a: u64, b: u64, c: u64) -> u64
     ensures { λ r. ⌜ ((i : ℕ) → i < 64 → bit r i ≡ testValue form (bit a i) (bit b i) (bit c i)) ⌝ }
 {
     let ways = ways_word(form, a, b, c);
-    !(ways.overlap | (ways.surplus | ways.shortfall))
+    !((ways.surplus | ways.shortfall) | ways.overlap)
 }
 
 // How the test comes out at leaf i.
