@@ -23,16 +23,7 @@ taken-out x y s l e i h = bit-and x ((2 ^ 64 - 1) - y) i ∙ ap (_&&_ (bit x i))
 -- ---- one word
 
 module _ (j : ℕ) (s : ℕ → Bool) (wanted : ℕ) (left : List ℕ) where
-  -- a word that is not wanted
-  pub taken-not : T (not (bit wanted j)) → Taken j s wanted left wanted left
-  taken-not u = record {
-    word = λ t. absurd (T-not (bit wanted j) u t);
-    empty = λ t v. absurd (T-not (bit wanted j) u t);
-    wanted-kept = λ k l n. refl;
-    left-kept = λ k h. refl;
-  }
-
-  -- a word that is: z is what is left of it
+  -- z is what is left of a word that is wanted
   pub taken-set : (wanted′ z : ℕ) → j < length left → T (bit wanted j) → Left (getD left j 0) s z → (T (not (bit wanted′ j)) → z ≡ 0)
       → ((k : ℕ) → k < 64 → (k ≡ j → ⊥) → bit wanted′ k ≡ bit wanted k) → Taken j s wanted left wanted′ (set left j z)
   taken-set wanted′ z room t word empty kept = record {

@@ -6,6 +6,7 @@ use basics::SECOND_POSITIVES;
 ghost use mathlib.Core.Path.{_≡_};
 ghost use mathlib.Core.Bool.{_&&_, not};
 ghost use Prim.Native.Nat.{ℕ, _+_, _*_, _%_, _<_, _≤_};
+ghost use lib.Dec.{T};
 ghost use lib.ListN.{length, getD};
 ghost use Rattle.shares.specs.Constant.{bit};
 ghost use Rattle.words.specs.Clause.{clauseTest, Clauses};
@@ -97,7 +98,7 @@ fn own_words(n: usize, m: usize) -> usize
     basics::power(m)
 }
 
-// Takes the choices of y in which the clause at byte `at` fails out of word j, if bit j of `wanted` is set. Bit j stays set only if some choice is left.
+// Takes the choices of y in which the clause at byte `at` fails out of word j, which is wanted. Bit j of `wanted` stays set only if some choice is left.
 fn take_one(
     terms: &[u64; 64],
     clauses: &[u8; CLAUSE_BYTES],
@@ -107,13 +108,10 @@ fn take_one(
     j: usize,
     left: &mut [u64],
 ) -> u64
-    requires { ⌜ (j < 32) × (32 ≤ length (now left)) ⌝ }
+    requires { ⌜ (j < 32) × (32 ≤ length (now left)) × T (bit wanted j) ⌝ }
     requires { ⌜ Clauses (now clauses) at 1 ⌝ }
     ensures { λ r. ⌜ Taken j (λ i. bit y i && not (clauseTest (now (clauses .entry)) (λ t. bit (getD (now (terms .entry)) t 0) i) at)) wanted (now (left .entry)) r (now (left .exit)) ⌝ }
 {
-    if !basics::digit(wanted, j) {
-        return wanted;
-    }
     let z = left[j] & !words::failing_word(terms, clauses, at, y);
     left[j] = z;
     if z == 0 {

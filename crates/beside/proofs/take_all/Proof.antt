@@ -1,5 +1,5 @@
 -- `beside::take_all` meets its contract. The loop's invariant: the words that are no longer among the rest are done. Assumes nothing.
-use mathlib.Core.Path.{_≡_, refl, ap, _∙_}
+use mathlib.Core.Path.{_≡_, refl, sym, ap, _∙_, subst}
 use mathlib.Core.Bool.{not, _&&_}
 use Prim.Native.Nat.{ℕ, _+_, _*_, _^_, _<_}
 use native.Mathlib.Omega.{arith}
@@ -58,7 +58,8 @@ take-one-requires c κs =
     let s = c .before .before .before .before .before .before .before in
     let l = c .before .before .before .loop in
     let low = here (c .before) in
-    ((low .0, omega (arith, s .pre .0 .1, l .inv .1)), clauses-at (s .pre .1) (c .before .lowest .result) (l .inv .2 .inside _ (low .1) .0))
+    let wanted = subst T (sym (l .inv .2 .wanted-same _ (low .1))) (l .inv .2 .inside _ (low .1) .1) in
+    ((low .0, omega (arith, s .pre .0 .1, l .inv .1), wanted), clauses-at (s .pre .1) (c .before .lowest .result) (l .inv .2 .inside _ (low .1) .0))
 
 without-lowest-requires : tie.Need-without-lowest-requires Inv-loop μ-loop
 without-lowest-requires c κs = nonzero _ (c .before .before .before .before .before .loop-test .taken)
