@@ -33,7 +33,12 @@ class Cadical {
   public:
     static constexpr bool quantifies = false;
 
-    explicit Cadical(const Deadline &deadline) : deadline(deadline) {}
+    static std::string version() { return std::string("CaDiCaL ") + CaDiCaL::Solver::version(); }
+
+    // Without its messages: it writes them to standard output, where the table is.
+    explicit Cadical(const Deadline &deadline) : deadline(deadline) {
+        if (!solver.set("quiet", 1)) throw std::runtime_error("CaDiCaL has no option quiet");
+    }
 
     int fresh() { return ++variables; }
 
@@ -61,6 +66,12 @@ class Cadical {
 class Z3 {
   public:
     static constexpr bool quantifies = true;
+
+    static std::string version() {
+        unsigned major, minor, build, revision;
+        Z3_get_version(&major, &minor, &build, &revision);
+        return "Z3 " + std::to_string(major) + "." + std::to_string(minor) + "." + std::to_string(build);
+    }
 
     explicit Z3(const Deadline &deadline) : deadline(deadline), solver(context(), z3::solver::simple()) {}
 

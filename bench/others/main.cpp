@@ -1,6 +1,6 @@
 // Prints one table: nanoseconds per question for the library and for general solvers, family by family, and
-// how many times the library's time theirs is. Reads the families from standard input. All must decide every
-// question alike.
+// how many times the library's time theirs is; then the solvers' versions. Reads the families from standard
+// input. All must decide every question alike.
 
 #include <cstdio>
 #include <cstdlib>
@@ -111,4 +111,5 @@ int main() {
         print_other(family, "CaDiCaL", by<Cadical>, library);
         std::printf("\n");
     }
+    std::printf("%s, %s\n", Z3::version().c_str(), Cadical::version().c_str());
 }
