@@ -48,6 +48,10 @@ common a b = someBelow 64 (λ k. bit a k && bit b k)
 abbrev pub some : ℕ → Bool
 some a = someBelow 64 (bit a)
 
+-- each bit of the words of the first system's disequations is one of `any`
+abbrev pub InAny : ℕ → ℕ → List ℕ → Type 0
+InAny count any rows = (i : ℕ) → i < count → (k : ℕ) → k < 64 → T (bit (getD rows (32 + i) 0) k) → T (bit any k)
+
 -- the first `count` bits of a mark are all set
 abbrev pub FullMark : ℕ → ℕ → Type 0
 FullMark count mark = (i : ℕ) → i < count → bit mark i ≡ true

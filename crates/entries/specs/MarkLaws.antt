@@ -6,17 +6,17 @@ use Prim.Native.Nat.{ℕ, _+_, _^_, _≤_, _<_}
 use native.Mathlib.Decide.{ℕ-discrete}
 use native.Mathlib.Omega.{arith}
 use lib.Bits.{bitAnd, bitOr, and-lt}
-use lib.Dec.{T, T-not, eqb, ltb, ltb→lt}
+use lib.Dec.{T, T-not, not-T, eqb, ltb, ltb→lt}
 use lib.ListN.{length, getD, set}
 use lib.Seq.{getD-set-same, getD-set-other}
 use borrow.Author.Tests.{eq-eqb, ne-eqb, lt-ltb}
-use Rattle.shares.specs.Test.{is-true, of-true, of-false, and-left, and-right}
-use Rattle.shares.specs.BelowLaws.{some-none, some-ext, first-some}
+use Rattle.shares.specs.Test.{is-true, is-false, of-true, of-false, and-intro, and-left, and-right, or-left, or-right}
+use Rattle.shares.specs.BelowLaws.{some-intro, some-none, some-ext, first-some}
 use Rattle.shares.specs.Constant.{bit}
-use Rattle.shares.specs.BitLaws.{bit-zero, bit-and}
+use Rattle.shares.specs.BitLaws.{bit-zero, bit-and, bit-or}
 use Rattle.words.specs.LowestLaws.{lowest-lt}
 use Rattle.entries.specs.BitLaws.{bit-added}
-use Rattle.entries.specs.Entry.{common, some, FullMark, Settling, Marked, MarkedAll, MarkedBut}
+use Rattle.entries.specs.Entry.{common, some, InAny, FullMark, Settling, Marked, MarkedAll, MarkedBut}
 
 -- a word has a set bit exactly if it is not 0
 pub some-zero : (x : ℕ) → x ≡ 0 → some x ≡ false
@@ -40,6 +40,33 @@ common-test a b ha hb = go (ℕ-discrete (bitAnd a b) 0)
 pub common-zero : (a b : ℕ) → b ≡ 0 → common a b ≡ false
 unfolding common
 common-zero a b e = some-none 64 (λ k. bit a k && bit b k) (λ k l. ap (λ y. bit a k && bit y k) e ∙ ap (_&&_ (bit a k)) (bit-zero k) ∙ and-false (bit a k))
+
+-- where nothing of any of them is common, nothing of one of them is
+pub common-none : (count any j : ℕ) (rows : List ℕ) → InAny count any rows → common any (getD rows j 0) ≡ false
+    → (i : ℕ) → i < count → common (getD rows (32 + i) 0) (getD rows j 0) ≡ false
+unfolding common
+common-none count any j rows A e i l = some-none 64 both (λ k m. is-false (both k) (not-T (both k) (none k m)))
+  where
+    both : ℕ → Bool
+    both k = bit (getD rows (32 + i) 0) k && bit (getD rows j 0) k
+
+    none : (k : ℕ) → k < 64 → T (both k) → ⊥
+    none k m t =
+        T-not (common any (getD rows j 0)) (of-false e)
+        (some-intro 64 (λ k. bit any k && bit (getD rows j 0) k) k m
+        (and-intro (bit any k) (bit (getD rows j 0) k) (A i l k m (and-left (bit (getD rows (32 + i) 0) k) (bit (getD rows j 0) k) t))
+        (and-right (bit (getD rows (32 + i) 0) k) (bit (getD rows j 0) k) t)))
+
+-- one word more is among them
+pub any-more : (i any y : ℕ) (rows : List ℕ) → 32 + i < length rows → InAny i any rows → InAny (i + 1) (bitOr any y) (set rows (32 + i) y)
+any-more i any y rows room A j l k m t = subst T (sym (bit-or any y k)) (go (ℕ-discrete j i))
+  where
+    there : (x : ℕ) → getD (set rows (32 + i) y) (32 + j) 0 ≡ x → T (bit x k)
+    there x e = subst T (ap (λ z. bit z k) e) t
+
+    go : Dec (j ≡ i) → T (bit any k || bit y k)
+    go (yes e) = or-right (bit any k) (bit y k) (there y (ap (λ n. getD (set rows (32 + i) y) (32 + n) 0) e ∙ getD-set-same rows (32 + i) y 0 room))
+    go (no n) = or-left (bit any k) (bit y k) (A j (omega arith) k m (there (getD rows (32 + j) 0) (getD-set-other rows (32 + i) (32 + j) y 0 (λ q. n (omega arith)))))
 
 -- ---- one mark
 

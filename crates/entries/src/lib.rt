@@ -9,7 +9,7 @@ ghost use lib.Dec.{T, eqb};
 ghost use lib.ListN.{length, getD};
 ghost use Rattle.shares.specs.Constant.{bit};
 ghost use Rattle.words.specs.Clause.{clauseTest, Clauses};
-ghost use Rattle.entries.specs.Entry.{Kept, KeptAll, common, Settling, Marked, MarkedAll};
+ghost use Rattle.entries.specs.Entry.{Kept, KeptAll, common, InAny, Settling, Marked, MarkedAll};
 
 // Keeps word number `turn` as that of search e, with the choices y in it that pass, if there are any and the search has found none yet.
 pub fn keep_word(e: usize, turn: usize, y: u64, met: u64, firsts: &mut [u64]) -> u64
@@ -69,24 +69,29 @@ pub fn keep_all(
     r
 }
 
-// Puts the choices of x in which disequation i of the first system holds into word 32 + i.
+// Puts the choices of x in which disequation i of the first system holds into word 32 + i, and gives those in which any of them does.
 pub fn fill_failing(
     terms: &[u64; 64],
     clauses: &[u8; CLAUSE_BYTES],
     count: usize,
     x: u64,
     rows: &mut [u64],
-)
+) -> u64
     requires { ⌜ (count ≤ 32) × (length (now rows) ≡ 96) ⌝ }
     requires { ⌜ Clauses (now clauses) 256 count ⌝ }
     ensures { λ _. ⌜ ((i : ℕ) → i < count → (k : ℕ) → k < 64 → bit (getD (now (rows .exit)) (32 + i) 0) k ≡ (bit x k && not (clauseTest (now (clauses .entry)) (λ t. bit (getD (now (terms .entry)) t 0) k) (256 + 4 * i)))) ⌝ }
     ensures { λ _. ⌜ ((k : ℕ) → (32 ≤ k → 32 + count ≤ k) → getD (now (rows .exit)) k 0 ≡ getD (now (rows .entry)) k 0) ⌝ }
+    ensures { λ r. ⌜ InAny count r (now (rows .exit)) ⌝ }
 {
+    let mut any: u64 = 0;
     let mut i: usize = 0;
     while i < count {
-        rows[32 + i] = words::failing_word(terms, clauses, FIRST_DISEQUATIONS + 4 * i, x);
+        let y = words::failing_word(terms, clauses, FIRST_DISEQUATIONS + 4 * i, x);
+        rows[32 + i] = y;
+        any = any | y;
         i += 1;
     }
+    any
 }
 
 // Whether two words have a bit in common.
@@ -131,6 +136,19 @@ fn mark_row(rows: &[u64], j: usize, count: usize, mark: u64) -> u64
     r
 }
 
+// Mark j, which is word 64 + j, with bit i set for each i below `count` whose word 32 + i has a bit in common with word j. It is as it was where word j has
+// no bit of any of them.
+fn mark_of(rows: &[u64], any: u64, j: usize, count: usize) -> u64
+    requires { ⌜ (j < 32) × (count ≤ 32) × (length (now rows) ≡ 96) × InAny count any (now rows) ⌝ }
+    ensures { λ r. ⌜ ((i : ℕ) → i < count → bit r i ≡ (bit (getD (now (rows .entry)) (64 + j) 0) i || common (getD (now (rows .entry)) (32 + i) 0) (getD (now (rows .entry)) j 0))) ⌝ }
+{
+    let mark = word_of(rows, 64 + j);
+    if have_common(any, word_of(rows, j)) {
+        return mark_row(rows, j, count, mark);
+    }
+    mark
+}
+
 // What is known of the disequations of the second system at a leaf.
 pub struct Marks {
     // which of them some choice of the leaf misses so far
@@ -152,14 +170,14 @@ fn still_wanted(mark: u64, count: usize, wanted: u64, j: usize) -> u64
 
 // If word j is not empty: sets bit j of `here`, and adds to mark j, which is word 64 + j, the disequations of the first system that have a choice in common
 // with word j. Once its mark is full it is no longer wanted.
-fn mark_one(rows: &mut [u64], count: usize, j: usize, marks: Marks) -> Marks
-    requires { ⌜ (j < 32) × (count ≤ 32) × (length (now rows) ≡ 96) × T (bit (marks .wanted) j) ⌝ }
+fn mark_one(rows: &mut [u64], any: u64, count: usize, j: usize, marks: Marks) -> Marks
+    requires { ⌜ (j < 32) × (count ≤ 32) × (length (now rows) ≡ 96) × T (bit (marks .wanted) j) × InAny count any (now rows) ⌝ }
     ensures { λ r. ⌜ Marked j count (marks .wanted) (marks .here) (now (rows .entry)) (r .wanted) (r .here) (now (rows .exit)) ⌝ }
 {
     if word_of(rows, j) == 0 {
         return marks;
     }
-    let mark = mark_row(rows, j, count, word_of(rows, 64 + j));
+    let mark = mark_of(rows, any, j, count);
     rows[64 + j] = mark;
     Marks {
         here: marks.here | (1 << j),
@@ -167,16 +185,22 @@ fn mark_one(rows: &mut [u64], count: usize, j: usize, marks: Marks) -> Marks
     }
 }
 
-// The same for each disequation of the second system that is wanted.
-pub fn mark_all(rows: &mut [u64], first_count: usize, second_count: usize, marks: Marks) -> Marks
-    requires { ⌜ («first_count» ≤ 32) × («second_count» ≤ 32) × (length (now rows) ≡ 96) ⌝ }
+// The same for each disequation of the second system that is wanted. `any` has the bits of the first system's words.
+pub fn mark_all(
+    rows: &mut [u64],
+    any: u64,
+    first_count: usize,
+    second_count: usize,
+    marks: Marks,
+) -> Marks
+    requires { ⌜ («first_count» ≤ 32) × («second_count» ≤ 32) × (length (now rows) ≡ 96) × InAny «first_count» any (now rows) ⌝ }
     ensures { λ r. ⌜ MarkedAll «second_count» «first_count» (marks .wanted) (marks .here) (now (rows .entry)) (r .wanted) (r .here) (now (rows .exit)) ⌝ }
 {
     let mut r = marks;
     let mut rest = words::first_bits(marks.wanted, second_count);
     while rest != 0 {
         let j = words::lowest(rest);
-        r = mark_one(rows, first_count, j, r);
+        r = mark_one(rows, any, first_count, j, r);
         rest = words::without_lowest(rest);
     }
     r

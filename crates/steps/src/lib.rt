@@ -139,12 +139,12 @@ fn second_word(
             wanted: seen.wanted,
         };
     }
-    entries::fill_failing(terms, clauses, sizes.counts[1], at.choices, rows);
+    let any = entries::fill_failing(terms, clauses, sizes.counts[1], at.choices, rows);
     let marks = Marks {
         here: seen.here,
         wanted: seen.wanted,
     };
-    let more = entries::mark_all(rows, sizes.counts[1], sizes.counts[3], marks);
+    let more = entries::mark_all(rows, any, sizes.counts[1], sizes.counts[3], marks);
     Seen {
         met,
         possible: seen.possible,

@@ -4,7 +4,8 @@ use mathlib.Core.Path.{_≡_, refl}
 use Prim.Native.Nat.{ℕ, _+_, _-_, _*_, _≤_, _<_}
 use native.Mathlib.Omega.{arith}
 use lib.ListN.{length, getD, length-set}
-use Rattle.entries.specs.MarkLaws.{failing-more, failing-kept}
+use Rattle.entries.specs.MarkLaws.{failing-more, failing-kept, any-more}
+use Rattle.entries.specs.Entry.{InAny}
 use Rattle.shares.specs.Constant.{bit}
 use Rattle.words.specs.Clause.{clauseTest}
 use Rattle.words.specs.ClauseLaws.{clauses-at}
@@ -12,15 +13,15 @@ use Rattle.entries.proofs.fill_failing.Statement.{statement}
 use Rattle.entries.proofs.fill_failing.Tie as tie
 
 abbrev Inv-loop : tie.InvT-loop
-Inv-loop terms clauses count x rows₀ i₀ rows i = (i ≤ count) × (length rows ≡ 96)
+Inv-loop terms clauses count x rows₀ any₀ i₀ rows any i = (i ≤ count) × (length rows ≡ 96)
     × ((j : ℕ) → j < i → (k : ℕ) → k < 64 → bit (getD rows (32 + j) 0) k ≡ (bit x k && not (clauseTest clauses (λ t. bit (getD terms t 0) k) (256 + 4 * j))))
-    × ((k : ℕ) → (32 ≤ k → 32 + i ≤ k) → getD rows k 0 ≡ getD rows₀ k 0)
+    × ((k : ℕ) → (32 ≤ k → 32 + i ≤ k) → getD rows k 0 ≡ getD rows₀ k 0) × InAny i any rows
 
 abbrev μ-loop : tie.MeasureT-loop
-μ-loop terms clauses count x rows₀ i₀ rows i = count - i
+μ-loop terms clauses count x rows₀ any₀ i₀ rows any i = count - i
 
 loop-holds : tie.Need-loop-holds Inv-loop μ-loop
-loop-holds c = (omega arith, c .before .pre .0 .1, λ j l. absurd (omega arith), λ k h. refl)
+loop-holds c = (omega arith, c .before .pre .0 .1, λ j l. absurd (omega arith), λ k h. refl, λ j l. absurd (omega arith))
 
 mul-failing-word : tie.Need-mul-failing-word Inv-loop μ-loop
 mul-failing-word c = omega arith
@@ -55,6 +56,7 @@ loop-again c =
       simp length-set (l .inv .1),
       failing-more (λ j k. bit (a .x) k && not (clauseTest (a .clauses .now) (λ t. bit (getD (a .terms .now) t 0) k) (256 + 4 * j))) (l .rows) (l .i) (c .failing-word .result) room (c .failing-word .ensures) (l .inv .2),
       failing-kept (a .rows .now) (l .rows) (l .i) (c .failing-word .result) room (l .inv .3),
+      any-more (l .i) (l .any) (c .failing-word .result) (l .rows) room (l .inv .4),
     )
 
 same-length : tie.Need-same-length Inv-loop μ-loop
@@ -63,7 +65,7 @@ same-length c = omega arith
 returns : tie.Need-returns Inv-loop μ-loop
 returns c =
     let l = c .before .loop in
-    (λ i m. l .inv .2 i (omega arith), λ k h. l .inv .3 k (λ q. omega (arith, h q)))
+    (λ i m. l .inv .2 i (omega arith), (λ k h. l .inv .3 k (λ q. omega (arith, h q)), λ i m. l .inv .4 i (omega arith)))
 
 pub fill-failing-spec : {M : Type 1} → statement M
 fill-failing-spec =

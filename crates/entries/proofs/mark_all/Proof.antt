@@ -1,23 +1,23 @@
 -- `entries::mark_all` meets its contract. The loop's invariant: the marks that are no longer among the rest are seen to. Assumes nothing.
 use mathlib.Core.Bool.{_&&_, not}
 use mathlib.Core.Path.{_≡_, sym, _∙_, subst}
-use Prim.Native.Nat.{ℕ, _^_, _<_}
+use Prim.Native.Nat.{ℕ, _+_, _^_, _<_}
 use native.Mathlib.Omega.{arith}
 use lib.Dec.{T, eqb}
 use lib.ListN.{length}
 use Rattle.shares.specs.Constant.{bit}
 use Rattle.words.specs.LowestLaws.{nonzero, lowest-below, without-less}
-use Rattle.entries.specs.Entry.{MarkedBut}
+use Rattle.entries.specs.Entry.{InAny, MarkedBut}
 use Rattle.entries.specs.MarkLaws.{but-start, but-more, but-none}
 use Rattle.entries.proofs.mark_all.Statement.{statement}
 use Rattle.entries.proofs.mark_all.Tie as tie
 
 abbrev Inv-loop : tie.InvT-loop
-Inv-loop rows₀ first-count second-count r₀ rest₀ rows r rest =
+Inv-loop rows₀ any first-count second-count r₀ rest₀ rows r rest =
     (rest < 2 ^ 32) × (length rows ≡ 96) × MarkedBut rest second-count first-count (r₀ .wanted) (r₀ .here) rows₀ (r .wanted) (r .here) rows
 
 abbrev μ-loop : tie.MeasureT-loop
-μ-loop rows₀ first-count second-count r₀ rest₀ rows r rest = rest
+μ-loop rows₀ any first-count second-count r₀ rest₀ rows r rest = rest
 
 -- the lowest bit that is left
 here : (c : tie.After-lowest Inv-loop μ-loop) → (c .lowest .result < 32) × T (bit (c .before .before .loop .rest) (c .lowest .result))
@@ -43,7 +43,8 @@ mark-one-requires c κs =
     let l = c .before .before .before .loop in
     let low = here (c .before) in
     let A = l .inv .2 in
-    (low .0, s .pre .0, l .inv .1, subst T (sym (A .wanted-kept _ (low .1))) (A .inside _ (low .1) .1))
+    let any : InAny (s .args .first-count) (s .args .any) (l .rows) = λ i m k h t. s .pre .3 i m k h (subst (λ x. T (bit x k)) (A .rows-kept (32 + i) (omega (arith, s .pre .0))) t) in
+    (low .0, s .pre .0, l .inv .1, subst T (sym (A .wanted-kept _ (low .1))) (A .inside _ (low .1) .1), any)
 
 without-lowest-requires : tie.Need-without-lowest-requires Inv-loop μ-loop
 without-lowest-requires c κs = nonzero _ (c .before .before .before .before .before .loop-test .taken)

@@ -16,14 +16,8 @@ same-length c = search needs
 returns : tie.Need-returns
 returns c = marked-none _ _ _ _ _ (c .before .before .before .before .pre .3) (sym (c .before .word-of .ensures) ∙ c .if1 .taken)
 
-add-word-of : tie.Need-add-word-of
-add-word-of c = search needs
-
-word-of-requires-2 : tie.Need-word-of-requires-2
-word-of-requires-2 c κs = search needs
-
-mark-row-requires : tie.Need-mark-row-requires
-mark-row-requires c κs = search needs
+mark-of-requires : tie.Need-mark-of-requires
+mark-of-requires c κs = let s = c .before .before .before .before .before in (s .pre .0, s .pre .1, s .pre .2, s .pre .4)
 
 add-rows : tie.Need-add-rows
 add-rows c = search needs
@@ -34,8 +28,8 @@ mul-rows c = search needs
 slice-write-rows : tie.Need-slice-write-rows
 slice-write-rows c = search needs
 
-shl-t17 : tie.Need-shl-t17
-shl-t17 c = search needs
+shl-t16 : tie.Need-shl-t16
+shl-t16 c = search needs
 
 still-wanted-requires : tie.Need-still-wanted-requires
 still-wanted-requires c κs = search needs
@@ -45,14 +39,14 @@ same-length-2 c = search needs
 
 returns-2 : tie.Need-returns-2
 returns-2 c =
-    let s = c .before .before .before .before .before .before .before .before .before in
+    let s = c .before .before .before .before .before .before .before .before in
     let a = s .args in
-    let w = c .before .before .before .before .before .before .word-of in
-    let m = c .before .before .mark-row in
+    let w = c .before .before .before .before .before .word-of in
+    let m = c .before .before .mark-of in
     rw (power-shift (a .j) (omega (arith, s .pre .0)))
     (marked-more (a .j) (a .count) (a .marks .wanted) (a .marks .here) (a .rows .now) (m .result) (c .still-wanted .result) (s .pre .3) (omega (arith, s .pre .0, s .pre .2))
-    (rw (w .ensures) at (w .ok)) (λ e. c .before .before .before .before .before .if1 .left (w .ensures ∙ e))
-    (λ i l. rw (c .before .before .before .word-of2 .ensures) at (m .ensures i l)) (c .still-wanted .ensures))
+    (rw (w .ensures) at (w .ok)) (λ e. c .before .before .before .before .if1 .left (w .ensures ∙ e))
+    (m .ensures) (c .still-wanted .ensures))
 
 pub mark-one-spec : {M : Type 1} → statement M
 mark-one-spec =
@@ -61,13 +55,11 @@ mark-one-spec =
     word-of-requires
     same-length
     returns
-    add-word-of
-    word-of-requires-2
-    mark-row-requires
+    mark-of-requires
     add-rows
     mul-rows
     slice-write-rows
-    shl-t17
+    shl-t16
     still-wanted-requires
     same-length-2
     returns-2)

@@ -59,7 +59,7 @@ returns-3 c =
         M .0 values t .0,
         λ first Z.
             second-marked (a .t3) (a .clauses .now) (s .pre .0) values (a .at) (a .seen) _ _ first _ _ (M .0 values t .1) (M .1) (sym (c .before .before .before .before .before .before .before .before .before .before .before .before .before .before .before .before .digit .ensures) ∙ c .before .before .before .before .before .before .before .before .before .before .before .before .before .before .before .if1 .left) Z _ _ K
-            (c .before .before .before .before .before .before .before .before .before .before .before .before .missing .last .0) _ (M .0 values t .0) (F .0) (F .1) _ _ _ (c .mark-all .ensures),
+            (c .before .before .before .before .before .before .before .before .before .before .before .before .missing .last .0) _ (M .0 values t .0) (F .0) (F .1 .0) _ _ _ (c .mark-all .ensures),
       ),
       (refl, K .met-kept, K .firsts-kept),
     )
