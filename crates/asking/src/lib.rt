@@ -20,7 +20,7 @@ const WORK_BYTES: usize = 4096;
 
 // The verdict (0 refused, 1 yes, 2 no), the refusal's number and its place, the height given, the reason and the disequation
 // number. A field without a meaning is 0.
-#[derive(Drop)]
+#[derive(Clone, Copy)]
 pub struct Outcome {
     pub verdict: u8,
     pub refusal: u8,

@@ -10,7 +10,7 @@ ghost use Rattle.beside.specs.Beside.{Merged, Shared, SameFree, Taken, TakenAll,
 use basics::{CLAUSE_BYTES, SECOND_DISEQUATIONS, SECOND_POSITIVES};
 
 // The numbers of a question.
-#[derive(Drop)]
+#[derive(Clone, Copy)]
 pub struct Sizes {
     // how many free variables, and how many own variables of the second system
     pub free: usize,

@@ -15,7 +15,7 @@ const LEVELS: usize = 5;
 const LONGEST_TEXT: usize = 94;
 
 // What a text gives: the constant that it writes, or why it is turned away.
-#[derive(Drop)]
+#[derive(Clone, Copy)]
 pub enum FromText {
     Constant(u32),
     NotTreeText,
@@ -24,7 +24,7 @@ pub enum FromText {
 }
 
 // What is told of a tree: its leaves as a number, its height, and whether it is folded.
-#[derive(Drop)]
+#[derive(Clone, Copy)]
 struct Told {
     leaves: u32,
     height: usize,
@@ -32,7 +32,7 @@ struct Told {
 }
 
 // What is told of a stack: how many items it has, how many pairs are open, the most that were open at once, and whether all its trees are folded.
-#[derive(Drop)]
+#[derive(Clone, Copy)]
 struct Scan {
     top: usize,
     pairs: usize,
@@ -41,7 +41,7 @@ struct Scan {
 }
 
 // What a sign more gives.
-#[derive(Drop)]
+#[derive(Clone, Copy)]
 enum Step {
     Goes(Scan),
     Stops,

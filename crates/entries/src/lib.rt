@@ -146,7 +146,7 @@ fn mark_of(rows: &[u64], any: u64, j: usize, count: usize) -> u64
 }
 
 // What is known of the disequations of the second system at a leaf.
-#[derive(Drop)]
+#[derive(Clone, Copy)]
 pub struct Marks {
     // which of them some choice of the leaf misses so far
     pub here: u64,

@@ -25,14 +25,14 @@ const LEAVES: usize = 32;
 
 // What is left to find: whether each free choice so far has an own choice that meets the second system's positive clauses, and bit j for each of its
 // disequations that no own choice so far meets beside them.
-#[derive(Drop)]
+#[derive(Clone, Copy)]
 pub struct Rest {
     pub met: bool,
     pub wanted: u64,
 }
 
 // The free choice at a leaf of the rows, variable 0 the highest digit, and which leaves of a word have it.
-#[derive(Drop)]
+#[derive(Clone, Copy)]
 pub struct Same {
     pub choice: usize,
     pub leaves: u64,

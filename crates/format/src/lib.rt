@@ -1,6 +1,6 @@
 // The byte format of a question: its types; what reading gives, and how a question is stored, in specs/. No functions.
 // The positive clauses and the disequations of each system.
-#[derive(Drop)]
+#[derive(Clone, Copy)]
 pub enum Section {
     FirstPositive,
     FirstDisequation,
@@ -9,7 +9,7 @@ pub enum Section {
 }
 
 // What a clause says or denies: "a join b is c", "a is b", "a is full", "a is empty", or "a and b may be held together".
-#[derive(Drop)]
+#[derive(Clone, Copy)]
 pub enum Test {
     Join,
     Equality,
@@ -20,7 +20,7 @@ pub enum Test {
 
 // How a test reads as a join at one leaf. Form 0: the first part join the second is the sum; form 1: the two do not overlap. A part is a
 // term's byte, 0C for one that is always empty, or 0D for one that is always full.
-#[derive(Drop)]
+#[derive(Clone, Copy)]
 pub struct LeafJoin {
     pub form: u8,
     pub first: u8,
@@ -29,7 +29,7 @@ pub struct LeafJoin {
 }
 
 // What a command byte announces.
-#[derive(Drop)]
+#[derive(Clone, Copy)]
 pub enum Shape {
     End,
     Head,
@@ -37,14 +37,14 @@ pub enum Shape {
     Clause(Section, Test),
 }
 
-#[derive(Drop)]
+#[derive(Clone, Copy)]
 pub enum Entry {
     Known(Shape),
     Unknown,
 }
 
 // A command with its operands.
-#[derive(Drop)]
+#[derive(Clone, Copy)]
 pub enum Command {
     End,
     Head,
@@ -59,20 +59,20 @@ pub enum Command {
 }
 
 // What reading one command gives: the command and the offset after it, or the number of its refusal.
-#[derive(Drop)]
+#[derive(Clone, Copy)]
 pub enum Step {
     Take { command: Command, next: usize },
     Refused(u8),
 }
 
 // What stands where one more constant may stand: the constant with the offset after it, or something else.
-#[derive(Drop)]
+#[derive(Clone, Copy)]
 pub enum Leading {
     Constant { number: u64, next: usize },
     Other,
 }
 
-#[derive(Drop)]
+#[derive(Clone, Copy)]
 pub enum Head {
     Opens { kind: u8, free: usize, own: usize },
     Wrong(u8),
@@ -82,7 +82,7 @@ pub enum Head {
 // defined, which of them some clause names, constant i at bit i, and how many clauses each section has. The clauses themselves are bytes
 // beside it, four a clause: how it reads as a join at a leaf. Sections: 0 first positive, from byte 0; 1 first disequations, from 256;
 // 2 second positive, from 384; 3 second disequations, from 640.
-#[derive(Drop)]
+#[derive(Clone, Copy)]
 pub struct Question {
     pub kind: u8,
     pub free: usize,
@@ -94,7 +94,7 @@ pub struct Question {
 }
 
 // What reading gives: refusal 0 and the question, or a refusal with its place and a question whose fields are 0.
-#[derive(Drop)]
+#[derive(Clone, Copy)]
 pub struct Reading {
     pub refusal: u8,
     pub place: usize,

@@ -4,7 +4,7 @@ ghost use Rattle.std.specs.Prelude.{◌≡◌, ◌^◌, ◌<◌, ◌≤◌, ltb}
 ghost use Rattle.guesses.specs.Guesses.{Values, choice_number, least_number};
 
 // A word of choices in which some pass: its number, and the bits of those that do. In no word before it any do.
-#[derive(Drop)]
+#[derive(Clone, Copy)]
 pub struct Passing {
     pub word: usize,
     pub choices: u64,

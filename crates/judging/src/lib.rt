@@ -25,7 +25,7 @@ use unfolded::{ROW_WORDS, TABLE_WORDS};
 // What judging gives. Refused: the question with the reader's number and place, or the rows with 18 or 19. Accepted. Rejected because clause number k of the
 // first system is broken, the lowest such; or because the rows extend. Of a broken positive clause: how its test comes out at the lowest leaf where it does not hold,
 // and that leaf; of a disequation neither.
-#[derive(Drop)]
+#[derive(Clone, Copy)]
 pub enum Judgement {
     Refused {
         number: u8,

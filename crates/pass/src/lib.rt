@@ -13,7 +13,7 @@ use steps::{Search, Seen, Spot};
 use words::{FIRST_WORDS, LEAF_WORDS};
 
 // A leaf: what is searched for, its number, the first leaf that looks like it, and the values of the constants there.
-#[derive(Drop)]
+#[derive(Clone, Copy)]
 pub struct Leaf {
     pub search: Search,
     pub number: usize,

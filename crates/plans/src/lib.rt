@@ -11,7 +11,7 @@ use guesses::Passing;
 use words::{FIRST_WORDS, LEAF_WORDS};
 
 // Which choice of values stands at each sub-leaf of a shown solution. The value of a variable is one binary digit of a choice.
-#[derive(Drop)]
+#[derive(Clone, Copy)]
 pub struct Plan {
     // the height of the leaves
     pub low: usize,
@@ -29,7 +29,7 @@ pub struct Plan {
 
 // What is to be planned: a solution of n free variables at 2^height leaves, each of which is split `splits` times, with so many extra disequations
 // before the first system's.
-#[derive(Drop)]
+#[derive(Clone, Copy)]
 pub struct Outline {
     pub free: usize,
     pub height: usize,

@@ -16,7 +16,7 @@ pub const ROW_COUNT: usize = 12;
 pub const ANSWER_BYTES: usize = 1536;
 
 // A part of a buffer.
-#[derive(Drop)]
+#[derive(Clone, Copy)]
 pub struct Range {
     pub offset: usize,
     pub bytes: usize,

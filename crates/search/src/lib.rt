@@ -14,7 +14,7 @@ use words::{FIRST_WORDS, LEAF_WORDS};
 
 // What a pass over an entailment finds: whether the first system has a solution; whether some solution cannot meet the second system's positive
 // clauses; and the lowest disequation of the second that some solution cannot have beside them, their count if there is none.
-#[derive(Drop)]
+#[derive(Clone, Copy)]
 pub struct Survey {
     pub solvable: bool,
     pub unmet: bool,

@@ -7,7 +7,7 @@ ghost use Rattle.shares.specs.Answer.{join_of};
 ghost use Rattle.shares.specs.declared.Joined.TheVariants.{Constant, Undefined};
 
 // What joining two constants gives.
-#[derive(Drop)]
+#[derive(Clone, Copy)]
 pub enum Joined {
     Constant(u32),
     Undefined,
@@ -33,7 +33,7 @@ fn overlap(a: u32, b: u32) -> bool
 
 // How the test of a join comes out at one leaf. It holds, or fails by overlap: both parts are full; by surplus: just one part is full and the sum is empty; or by
 // shortfall: both parts are empty and the sum is full.
-#[derive(Drop)]
+#[derive(Clone, Copy)]
 pub enum Way {
     Holds,
     Overlap,

@@ -14,7 +14,7 @@ use entries::Marks;
 use words::FIRST_WORDS;
 
 // What is searched for.
-#[derive(Drop)]
+#[derive(Clone, Copy)]
 pub enum Search {
     // a solution of the first system
     First,
@@ -25,7 +25,7 @@ pub enum Search {
 }
 
 // What a pass has seen.
-#[derive(Drop)]
+#[derive(Clone, Copy)]
 pub struct Seen {
     // which searches have found a choice: bit i for disequation i of the first system, bit 31 for an unmet choice, bit 32 for the least of this leaf
     pub met: u64,
@@ -38,7 +38,7 @@ pub struct Seen {
 }
 
 // A word of choices: what is searched for, the leaf, and the word of its choices.
-#[derive(Drop)]
+#[derive(Clone, Copy)]
 pub struct Spot {
     pub search: Search,
     pub leaf: usize,
@@ -46,7 +46,7 @@ pub struct Spot {
 }
 
 // Choices of a word that are allowed, its number in its leaf and its number among those of all leaves.
-#[derive(Drop)]
+#[derive(Clone, Copy)]
 pub struct Allowed {
     pub word: usize,
     pub turn: usize,

@@ -4,7 +4,7 @@ use Rattle.std.specs.Prelude.{◌≡◌, Bool, true, false, not, ◌↔◌, T, l
 use Rattle.std.proofs.Math.Path.{refl, sym}
 use Rattle.std.proofs.Common.{ap, ◌∙◌, le_trans}
 use mathlib.Core.List.{List, [], ◌∷◌, map}
-use Rattle.std.proofs.Math.Logic.{Iff·rfl, Iff·symm, Iff·trans}
+use Rattle.std.proofs.Math.Logic.Iff
 use Rattle.std.proofs.Math.Option.{some}
 use Prim.Native.Nat.{ℕ, ◌^◌, ◌≤◌, ◌<◌, zero-le}
 use Rattle.shares.specs.Test.{and_intro, and_left, and_right}
@@ -146,11 +146,11 @@ module _ (n h : ℕ) (cs : Constants) (hw : h ≤ cs.levels) (k : ℕ) (hk : h �
 
   -- an atom holds of trees exactly if its reading does
   reads_iff : (a : Atom) → Holds cs ρ a ↔ ReadingHolds cs ρ (read_as a)
-  reads_iff (joined u v w) = Iff·rfl
-  reads_iff (equal u v) = Iff·symm (join_empty_iff (value_of cs ρ u) (value_of cs ρ v) (value_folded cs ρ u) (value_folded cs ρ v))
-  reads_iff (is_full u) = Iff·symm (join_empty_iff (value_of cs ρ u) (leaf true) (value_folded cs ρ u) tt)
-  reads_iff (is_empty u) = Iff·symm (join_empty_iff (value_of cs ρ u) (leaf false) (value_folded cs ρ u) tt)
-  reads_iff (together u v) = Iff·rfl
+  reads_iff (joined u v w) = Iff.rfl
+  reads_iff (equal u v) = Iff.symm (join_empty_iff (value_of cs ρ u) (value_of cs ρ v) (value_folded cs ρ u) (value_folded cs ρ v))
+  reads_iff (is_full u) = Iff.symm (join_empty_iff (value_of cs ρ u) (leaf true) (value_folded cs ρ u) tt)
+  reads_iff (is_empty u) = Iff.symm (join_empty_iff (value_of cs ρ u) (leaf false) (value_folded cs ρ u) tt)
+  reads_iff (together u v) = Iff.rfl
 
   -- an atom comes out at a leaf as it does at that leaf of trees
   pub atom_way_lem : (a : Atom) → InAtom (Good n h cs) a → (i : ℕ) → i < 2 ^ k → atom_way h cs (block_of h k i) (x i) a ≡ tree_way k cs ρ a i
@@ -159,7 +159,7 @@ module _ (n h : ℕ) (cs : Constants) (hw : h ≤ cs.levels) (k : ℕ) (hk : h �
   -- it holds exactly if it does at every leaf
   pub atom_iff : (a : Atom) → InAtom (Good n h cs) a → Holds cs ρ a ↔ ((i : ℕ) → i < 2 ^ k → T (atom_at h cs (block_of h k i) (x i) a))
   atom_iff a g =
-      let E = Iff·trans (reads_iff a) (reading_iff (read_as a) (in_reading (Good n h cs) a g)) in (
+      let E = Iff.trans (reads_iff a) (reading_iff (read_as a) (in_reading (Good n h cs) a g)) in (
         λ e i l. (is_way_iff way.Holds _).1 (atom_way_lem a g i l ∙ E.0 e i l),
         λ f. E.1 (λ i l. sym (atom_way_lem a g i l) ∙ (is_way_iff way.Holds _).0 (f i l)),
       )

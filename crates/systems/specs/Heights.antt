@@ -1,7 +1,7 @@
 -- The rule of heights holds of every well-formed question, and so does exactness. Assumes nothing.
 use Rattle.std.specs.Prelude.{◌≡◌, refl, Bool, false, ◌↔◌, ◌⊎◌, List, [], ◌∷◌, ℕ, zero, suc, ◌+◌, ◌^◌, ◌≤◌, ◌<◌, max, T, length, get_or}
 use Rattle.std.proofs.Common.{sym, subst, inl, inr, le_refl, le_trans, le-add_right, not-suc-le-zero, le_of_suc-le-suc, arith}
-use Rattle.std.proofs.Math.Logic.{Iff·trans, Iff·symm}
+use Rattle.std.proofs.Math.Logic.Iff
 use Rattle.std.proofs.Math.Nat.{le-max_left, le-max_right, max-le}
 use Rattle.shares.specs.Tree.{height}
 use Rattle.shares.specs.TreeLaws.{tree_of_height}
@@ -173,9 +173,9 @@ module _ (h : ℕ) (q : Question) (F : WellFormed q) (B : Bounds h q) where
 
   held_rule : (k : ℕ) → h + c (needed q.kind (first_count q)) ≤ k → (a : Answer) → Answers (at_most k) q a ↔ Answers any_height q a
   held_rule k l a =
-      Iff·trans
+      Iff.trans
       (answers_iff h q F B (at_most k) (exactly k) (read_from (needed q.kind (first_count q)) l) (room_at l) a)
-      (Iff·symm (answers_iff h q F B any_height any_height (read_any h) (room_any h _) a))
+      (Iff.symm (answers_iff h q F B any_height any_height (read_any h) (room_any h _) a))
 
   -- ---- the solution that is shown
 

@@ -14,7 +14,7 @@ use rows::{ROW_BYTES, ROW_LEVELS};
 pub const LONGEST_TEXT: usize = 3070;
 
 // What writing a text gives: its length, or the number of the refusal.
-#[derive(Drop)]
+#[derive(Clone, Copy)]
 pub enum Written {
     Length(usize),
     Refused(u8),

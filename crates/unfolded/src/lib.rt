@@ -146,7 +146,7 @@ fn part_word(table: &[u64; TABLE_WORDS], part: u8, w: usize) -> u64
 }
 
 // A word of each part of a join.
-#[derive(Drop)]
+#[derive(Clone, Copy)]
 struct PartWords {
     first: u64,
     second: u64,

@@ -26,7 +26,7 @@ fn term_word(terms: &[u64; 64], clauses: &[u8; CLAUSE_BYTES], at: usize) -> u64
 }
 
 // How a test comes out at 64 leaves: those where the parts overlap, those with a surplus, and those with a shortfall. It holds at the others.
-#[derive(Drop)]
+#[derive(Clone, Copy)]
 pub struct Ways {
     pub overlap: u64,
     pub surplus: u64,
