@@ -1,4 +1,6 @@
 // Asking: reads a question, decides it, and leaves its answer in the lent bytes.
+#![tactic(auto)]
+
 ghost use Rattle.std.specs.Prelude.{◌≡◌, ◌++◌, ◌≤◌, length, drop};
 ghost use Rattle.shares.specs.Constant.{constant_levels};
 ghost use Rattle.systems.specs.Questions as model;

@@ -1,4 +1,6 @@
 // Numbers and bytes: small functions and numbers that several crates use.
+#![tactic(auto)]
+
 ghost use Rattle.std.specs.Prelude.{◌≡◌, ◌+◌, ◌^◌, ◌≤◌, ◌<◌, length, take, drop, replicate};
 ghost use Rattle.shares.specs.Constant.{bit, number};
 

@@ -1,5 +1,7 @@
 // Beside one word of free choices: which of them no own choice meets the second system with. Own variables are the digits above the free
 // ones, so that where there are fewer than six free variables a word holds own choices too.
+#![tactic(auto)]
+
 ghost use Rattle.std.specs.Prelude.{◌≡◌, ◌&&◌, not, ℕ, ◌+◌, ◌*◌, ◌%◌, ◌<◌, ◌≤◌, T, length, get_or};
 ghost use Rattle.shares.specs.Constant.{bit};
 ghost use Rattle.words.specs.Clause.{clause_test, Clauses};

@@ -1,4 +1,6 @@
 // One command with its operands, where one is due.
+#![tactic(auto)]
+
 pub mod opening;
 pub mod table;
 

@@ -1,5 +1,7 @@
 // Constants from tree text: a whole text is read as one tree, in one pass, and gives the tree's leaves as a number. What was read stands on a
 // stack, an opening bracket or a tree an item; a closing bracket makes two trees and the bracket below them one.
+#![tactic(auto)]
+
 ghost use Rattle.std.specs.Prelude.{◌≡◌, List, [], ℕ, ◌+◌, ◌-◌, ◌%◌, ◌^◌, ◌≤◌, ◌<◌, max, length, get_or, set};
 ghost use Rattle.std.proofs.Math.Option.{some};
 ghost use Rattle.shares.specs.Tree.{Tree};

@@ -1,4 +1,6 @@
 // Deciding a question that was read: which searches have a solution, and the plan of the one to show.
+#![tactic(auto)]
+
 ghost use Rattle.std.specs.Prelude.{◌≡◌, ℕ, ◌^◌, ◌<◌, ◌≤◌, T, get_or};
 ghost use Rattle.shares.specs.Constant.{constant_levels, bit};
 ghost use Rattle.systems.specs.Questions.{satisfiability, entailment, Question as Asked, WellFormed, question_height};

@@ -1,5 +1,7 @@
 // What is kept of the words of choices that a pass goes over: for each of up to 33 searches the first word that has a choice for it, and for each
 // disequation of the second system which disequations of the first were met.
+#![tactic(auto)]
+
 ghost use Rattle.std.specs.Prelude.{◌≡◌, ◌&&◌, ◌||◌, not, ℕ, ◌+◌, ◌*◌, ◌<◌, ◌≤◌, T, eqb, length, get_or};
 ghost use Rattle.shares.specs.Constant.{bit};
 ghost use Rattle.words.specs.Clause.{clause_test, Clauses};

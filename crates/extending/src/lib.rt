@@ -1,5 +1,7 @@
 // Whether the rows of a solution extend to the second system: each free choice that stands at a leaf of the rows is tried once with the values that the constants
 // have there, beside all own choices, 64 at a time.
+#![tactic(auto)]
+
 ghost use Rattle.std.specs.Prelude.{◌≡◌, ◌&&◌, ◌||◌, not, List, ℕ, ◌+◌, ◌*◌, ◌/◌, ◌%◌, ◌^◌, ◌≤◌, ◌<◌, ltb, eqb, length, get_or};
 ghost use Rattle.std.specs.Bool.{beq};
 ghost use Rattle.shares.specs.Below.{one};

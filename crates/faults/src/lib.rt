@@ -1,4 +1,6 @@
 // What is wrong with a command, by what was read before it.
+#![tactic(auto)]
+
 pub mod sections;
 
 ghost use Rattle.std.specs.Prelude.{◌≡◌, ◌+◌, ◌≤◌};

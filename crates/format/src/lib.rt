@@ -1,5 +1,7 @@
 // The byte format of a question: its types; what reading gives, and how a question is stored, in specs/. No functions.
 // The positive clauses and the disequations of each system.
+#![tactic(auto)]
+
 #[derive(Clone, Copy)]
 pub enum Section {
     FirstPositive,

@@ -1,4 +1,6 @@
 // Judging: whether the rows that someone hands over solve a question's first system and, for an entailment, do not extend to the second.
+#![tactic(auto)]
+
 ghost use Rattle.std.specs.Prelude.{◌≡◌, true, List, ℕ, ◌+◌, ◌≤◌, length};
 ghost use Rattle.shares.specs.Constant.{constant_levels};
 ghost use Rattle.systems.specs.Questions as model;

@@ -1,4 +1,6 @@
 // One pass over the leaves of a question, and over the words of choices of each leaf that does not look like an earlier one: no set of choices is stored.
+#![tactic(auto)]
+
 ghost use Rattle.std.specs.Prelude.{◌≡◌, true, List, ℕ, ◌+◌, ◌*◌, ◌^◌, ◌<◌, ◌≤◌, length, get_or, set};
 ghost use Rattle.words.specs.Choices.{word_count};
 ghost use Rattle.words.specs.Table.{Terms, Within};

@@ -1,4 +1,6 @@
 // The plan of a solution that was found: which choice stands at each leaf, and at which sub-leaf each disequation stands with its own.
+#![tactic(auto)]
+
 ghost use Rattle.std.specs.Prelude.{◌≡◌, ℕ, ◌+◌, ◌-◌, ◌*◌, ◌/◌, ◌%◌, ◌^◌, ◌<◌, ◌≤◌, ◌&&◌, eqb, length, get_or, set};
 ghost use Rattle.leaves.specs.Heights.{c};
 ghost use Rattle.leaves.specs.Problem.{Problem};

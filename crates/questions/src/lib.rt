@@ -1,4 +1,6 @@
 // The reader of questions: a byte string becomes a question, or is refused with a number and a place.
+#![tactic(auto)]
+
 mod keep;
 
 ghost use Rattle.std.specs.Prelude.{◌≡◌, true, ◌≤◌, length};

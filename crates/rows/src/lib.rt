@@ -1,4 +1,6 @@
 // Rows: trees unfolded to a height, eight leaves to a byte, and the row of one variable in an answer buffer.
+#![tactic(auto)]
+
 pub mod blocks;
 
 ghost use Rattle.std.specs.Prelude.{◌≡◌, ◌+◌, length};

@@ -1,4 +1,6 @@
 // What a pass over the leaves finds: whether a search has a solution, and the first words of it.
+#![tactic(auto)]
+
 ghost use Rattle.std.specs.Prelude.{◌≡◌, ◌+◌, ◌^◌, ◌<◌, ◌≤◌};
 ghost use Rattle.shares.specs.Below.{every_below, first_below};
 ghost use Rattle.shares.specs.Constant.{bit};

@@ -1,4 +1,6 @@
 // Constants are shares of 32 leaves, held in one number with leaf i at bit i: their join and their height, both without a loop.
+#![tactic(auto)]
+
 ghost use Rattle.std.specs.Prelude.{◌≡◌, cond, ◌+◌, ◌^◌, eqb};
 ghost use Rattle.shares.specs.Tree.{height, way_number, join};
 ghost use Rattle.shares.specs.Constant.{constant_levels, number_tree, set_in_both};

@@ -1,4 +1,6 @@
 // Showing a plan: the rows of its trees, written to the answer buffer.
+#![tactic(auto)]
+
 ghost use Rattle.std.specs.Prelude.{◌≡◌, ℕ, ◌-◌, ◌/◌, ◌^◌, ◌<◌, ◌≤◌, length, get_or};
 ghost use Rattle.shares.specs.Constant.{constant_levels, bit};
 ghost use Rattle.plans.specs.Shown.{Showable, plan_tree};

@@ -1,4 +1,6 @@
 // One word of choices at a leaf: which of them a search allows, and what is kept of them.
+#![tactic(auto)]
+
 ghost use Rattle.std.specs.Prelude.{◌≡◌, List, [], ℕ, ◌+◌, ◌*◌, ◌<◌, get_or};
 ghost use Rattle.shares.specs.Constant.{bit};
 ghost use Rattle.words.specs.Choices.{word_count};

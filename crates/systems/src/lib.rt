@@ -1,1 +1,3 @@
 // Systems of share clauses over trees: definitions and theorems in specs/, no code.
+#![tactic(auto)]
+

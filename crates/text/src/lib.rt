@@ -1,4 +1,6 @@
 // The tree text of a row: `o` an empty leaf, `*` a full one, `(` left right `)` a pair, always folded. A pair is written as its two halves are.
+#![tactic(auto)]
+
 ghost use Rattle.std.specs.Prelude.{◌≡◌, ◌+◌, ◌*◌, ◌^◌, ◌≤◌, leb, length, get_or};
 ghost use Rattle.shares.specs.Constant.{constant_levels};
 ghost use Rattle.shares.specs.Text.{text};

@@ -1,5 +1,7 @@
 // The rows of a solution and the constants of its question, unfolded to one height: 64 leaves to a word, 16 words to a part of a join. Word w of part t is
 // entry 16 * t + w of a table.
+#![tactic(auto)]
+
 ghost use Rattle.std.specs.Prelude.{◌≡◌, true, ◌↔◌, ℕ, ◌+◌, ◌*◌, ◌^◌, ◌≤◌, ◌<◌, T, eqb, length};
 ghost use Rattle.std.proofs.Math.ListN.{get_or};
 ghost use Rattle.shares.specs.Constant.{constant_levels, bit};

@@ -1,4 +1,6 @@
 // Clauses at one leaf for 64 choices of Boolean values at a time: bit i of word w is choice 64 * w + i.
+#![tactic(auto)]
+
 ghost use Rattle.std.specs.Prelude.{◌≡◌, ◌&&◌, not, ℕ, ◌+◌, ◌-◌, ◌*◌, ◌^◌, ◌<◌, ◌≤◌, eqb, ltb, length, get_or};
 ghost use Rattle.shares.specs.Below.{first_below};
 ghost use Rattle.shares.specs.Constant.{constant_levels, bit};

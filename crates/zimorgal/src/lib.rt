@@ -1,4 +1,6 @@
 // Every call that other programs link.
+#![tactic(auto)]
+
 ghost use Rattle.std.specs.Prelude.{◌≡◌, cond, ◌≤◌, ◌+◌, ◌/◌, ◌%◌, ◌^◌, length, take, drop};
 ghost use Rattle.shares.specs.Tree.{height, join};
 ghost use Rattle.shares.specs.Constant.{constant_levels, number_tree, set_in_both};

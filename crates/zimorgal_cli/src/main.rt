@@ -1,4 +1,6 @@
 // The printing program: reads one question from standard input, asks it, and prints the answer.
+#![tactic(auto)]
+
 ghost use Rattle.std.specs.Prelude.{◌≡◌, cond, [], ◌∷◌, ◌+◌, ◌/◌, ◌%◌, eqb, get_or};
 ghost use Rattle.shares.specs.Constant.{constant_levels};
 ghost use Rattle.rows.specs.Rows.{row_levels};

@@ -1,4 +1,6 @@
 // The judging program: reads 1,536 bytes of rows and then one question from standard input, judges the rows, and prints what it finds.
+#![tactic(auto)]
+
 ghost use Rattle.io.specs.Counts.{IsPrefixLen};
 
 use judging::Judgement;

@@ -3,14 +3,14 @@ use borrow.Author.Rules.{rules}
 use Rattle.asking.proofs.found.Statement.{statement}
 use Rattle.asking.proofs.found.Tie as tie
 
-height-given-requires : tie.Need-height-given-requires
+height-given-requires : tie.Need-height_given-requires
 height-given-requires c κs = search rules
 
-outcome-of-requires : tie.Need-outcome-of-requires
+outcome-of-requires : tie.Need-outcome_of-requires
 outcome-of-requires c κs = search rules
 
 returns : tie.Need-returns
-returns c = λ q S. rw (← (c.before.height-given.ensures q S)) c.outcome-of.ensures
+returns c = λ q S. rw (← (c.before.height_given.ensures q S)) c.outcome_of.ensures
 
-pub found-spec : {M : Type 1} → statement M
-found-spec = tie.close (tie.spec height-given-requires outcome-of-requires returns)
+pub found_spec : {M : Type 1} → statement M
+found_spec = tie.close (tie.spec height-given-requires outcome-of-requires returns)

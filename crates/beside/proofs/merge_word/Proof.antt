@@ -13,59 +13,59 @@ use Rattle.beside.specs.Beside.{MergedTo}
 use Rattle.beside.proofs.merge_word.Statement.{statement}
 use Rattle.beside.proofs.merge_word.Tie as tie
 
-abbrev invariant-loop : tie.invariant-loop
-invariant-loop x n r₀ p₀ r p = (n ≤ p) × (p ≤ 6) × MergedTo n p x r
+abbrev invariant-loop-p : tie.invariant-loop-p
+invariant-loop-p x n r₀ p₀ r p = (n ≤ p) × (p ≤ 6) × MergedTo n p x r
 
-abbrev decreases-loop : tie.decreases-loop
-decreases-loop x n r₀ p₀ r p = 6 - p
+abbrev decreases-loop-p : tie.decreases-loop-p
+decreases-loop-p x n r₀ p₀ r p = 6 - p
 
-returns : tie.Need-returns invariant-loop decreases-loop
-returns c = merged_same c.before.args.n c.before.args.x c.if1.true
+returns : tie.Need-returns-then-n-ge6 invariant-loop-p decreases-loop-p
+returns c = merged_same c.before.args.n c.before.args.x c.if-n-ge6.true
 
-loop-holds : tie.Need-loop-init invariant-loop decreases-loop
+loop-holds : tie.Need-loop-p-init invariant-loop-p decreases-loop-p
 loop-holds c = (omega arith, omega arith, merge_start c.before.args.n c.before.args.x)
 
-shl-turned : tie.Need-overflow-shl-turned invariant-loop decreases-loop
+shl-turned : tie.Need-overflow_shl-p invariant-loop-p decreases-loop-p
 shl-turned c = omega arith
 
 -- the turn is by 2 ^ p
-turn : (c : tie.In-loop invariant-loop decreases-loop) → (1 * 2 ^ c.before.loop.p) % 2 ^ 64 ≡ 2 ^ c.before.loop.p
-turn c = power_shift c.before.loop.p (omega arith)
+turn : (c : tie.In-loop-p invariant-loop-p decreases-loop-p) → (1 * 2 ^ c.before.loop-p.p) % 2 ^ 64 ≡ 2 ^ c.before.loop-p.p
+turn c = power_shift c.before.loop-p.p (omega arith)
 
-turned-requires : tie.Need-turned-requires invariant-loop decreases-loop
+turned-requires : tie.Need-turned-r-requires invariant-loop-p decreases-loop-p
 turned-requires c κs =
-    subst (λ k. (0 < k) × (k < 64)) (sym (turn c)) (pow_pos c.before.loop.p, pow-lt {j = 6} c.loop-test.true)
+    subst (λ k. (0 < k) × (k < 64)) (sym (turn c)) (pow_pos c.before.loop-p.p, pow-lt {j = 6} c.loop-p-test.true)
 
-add-p : tie.Need-overflow-add-p invariant-loop decreases-loop
+add-p : tie.Need-overflow_add-p invariant-loop-p decreases-loop-p
 add-p c = omega arith
 
-loop-less : tie.Need-loop-smaller invariant-loop decreases-loop
+loop-less : tie.Need-loop-p-smaller invariant-loop-p decreases-loop-p
 loop-less c = omega arith
 
-loop-again : tie.Need-loop-preserved invariant-loop decreases-loop
+loop-again : tie.Need-loop-p-preserved invariant-loop-p decreases-loop-p
 loop-again c =
-    let l = c.before.before.loop in (
+    let l = c.before.before.loop-p in (
       omega arith,
       omega arith,
       merge_more _ l.p _ l.r _ l.invariant.0 l.invariant.2
           (λ i h.
-          bit_of_or l.r c.turned.result i
-          ∙ ap (◌||◌ (bit l.r i)) (c.turned.ensures i h ∙ ap (λ k. bit l.r ((i + k) % 64)) (turn c.before))),
+          bit_of_or l.r c.turned-r.result i
+          ∙ ap (◌||◌ (bit l.r i)) (c.turned-r.ensures i h ∙ ap (λ k. bit l.r ((i + k) % 64)) (turn c.before))),
     )
 
-returns-2 : tie.Need-returns-2 invariant-loop decreases-loop
+returns-2 : tie.Need-returns invariant-loop-p decreases-loop-p
 returns-2 c =
-    let l = c.before.loop in
+    let l = c.before.loop-p in
     let e : l.p ≡ 6 = omega arith in
     let a = c.before.before.before.args in
     merge_whole a.n a.x l.r (omega arith) (subst (λ k. MergedTo a.n k a.x l.r) e l.invariant.2)
 
-pub merge-word-spec : {M : Type 1} → statement M
-merge-word-spec =
+pub merge_word_spec : {M : Type 1} → statement M
+merge_word_spec =
     tie.close
     (tie.spec
-    invariant-loop
-    decreases-loop
+    invariant-loop-p
+    decreases-loop-p
     returns
     loop-holds
     shl-turned

@@ -6,48 +6,48 @@ use borrow.Author.Rules.{rules}
 use Rattle.beside.proofs.missing.Statement.{statement}
 use Rattle.beside.proofs.missing.Tie as tie
 
-element-copy-out-count : tie.Need-element-copy-out-count
+element-copy-out-count : tie.Need-bounds-sizes-3
 element-copy-out-count c = search rules
 
-put-all-requires : tie.Need-put-all-requires
+put-all-requires : tie.Need-put_all-requires
 put-all-requires c κs = search rules
 
-sweep-requires : tie.Need-sweep-requires
+sweep-requires : tie.Need-sweep-none-requires
 sweep-requires c κs =
     let p = c.before.before.before.before.before.before.before.before.requires in
-    let put = c.before.before.before.before.put_all_lem in
+    let put = c.before.before.before.before.put_all in
     (p.0, (p.1.0, omega (arith, put.auto.0, p.1.1), put.ensures.0))
 
-move-terms-requires : tie.Need-move-terms-requires
+move-terms-requires : tie.Need-move_terms-requires
 move-terms-requires c κs = search rules
 
-share-words-requires : tie.Need-share-words-requires
+share-words-requires : tie.Need-share_words-requires
 share-words-requires c κs = search rules
 
-share-word-requires : tie.Need-share-word-requires
+share-word-requires : tie.Need-share_word-requires
 share-word-requires c κs = search rules
 
-same_length : tie.Need-same-length
+same_length : tie.Need-shape_of-left
 same_length c = search rules
 
 returns : tie.Need-returns
 returns c =
     let s = c.before.before.before.before.before.before.before.before.before.before.before.before.before.before.before.before.before.before in
     let a = s.args in
-    let put = c.before.before.before.before.before.before.before.before.before.before.before.before.before.before.put_all_lem in
-    let sweep = c.before.before.before.before.before.before.before.before.before.sweep in
-    let share = c.before.before.before.share-words in (
+    let put = c.before.before.before.before.before.before.before.before.before.before.before.before.before.before.put_all in
+    let sweep = c.before.before.before.before.before.before.before.before.before.sweep-none in
+    let share = c.before.before.before.share_words in (
       λ values t.
           let S = sweep.ensures.0 values t in (
-            c.before.before.before.before.before.move-terms.ensures values S.swept.at S.swept.table,
-            swept_missing a.clauses.now a.t3.counts a.t3.free a.t3.own values a.w a.x a.wanted sweep.result c.share-word.result _ sweep.new.1.1.1.1.1.1.0 share.new.0
-                s.requires.1.0 s.requires.1.2 c.share-word.ensures share.ensures.0 S,
+            c.before.before.before.before.before.move_terms.ensures values S.swept.at S.swept.table,
+            swept_missing a.clauses.now a.t3.counts a.t3.free a.t3.own values a.w a.x a.wanted sweep.result c.share_word.result _ sweep.new.1.1.1.1.1.1.0 share.new.0
+                s.requires.1.0 s.requires.1.2 c.share_word.ensures share.ensures.0 S,
           ),
       λ k h. share.ensures.1 k (omega (arith, s.requires.0.few)) ∙ sweep.ensures.1 k h ∙ put.ensures.1 k (omega (arith, s.requires.0.few)),
     )
 
-pub missing-spec : {M : Type 1} → statement M
-missing-spec =
+pub missing_spec : {M : Type 1} → statement M
+missing_spec =
     tie.close
     (tie.spec
     element-copy-out-count

@@ -9,13 +9,13 @@ use Rattle.words.specs.Choices.{word_count}
 use Rattle.beside.proofs.own_words.Statement.{statement}
 use Rattle.beside.proofs.own_words.Tie as tie
 
-add-word-count : tie.Need-overflow-add-word-count
+add-word-count : tie.Need-overflow_add-n
 add-word-count c = search rules
 
-word-count-requires : tie.Need-word-count-requires
+word-count-requires : tie.Need-word_count-requires
 word-count-requires c κs = search rules
 
-returns : tie.Need-returns
+returns : tie.Need-returns-then-n-lt6
 unfolding word_count
 returns c =
     let e : c.before.before.args.n - 6 ≡ 0 = omega arith in
@@ -24,13 +24,13 @@ returns c =
 power-requires : tie.Need-power-requires
 power-requires c κs = search rules
 
-returns-2 : tie.Need-returns-2
+returns-2 : tie.Need-returns
 unfolding word_count
 returns-2 c =
     let a = c.before.before.args in
     let e : a.m + (a.n - 6) ≡ a.n + a.m - 6 = omega arith in
     ap (λ k. k * 2 ^ (a.n - 6)) c.power.ensures ∙ sym (pow-add 2 a.m (a.n - 6)) ∙ ap (λ k. 2 ^ k) e
 
-pub own-words-spec : {M : Type 1} → statement M
-own-words-spec =
+pub own_words_spec : {M : Type 1} → statement M
+own_words_spec =
     tie.close (tie.spec add-word-count word-count-requires returns power-requires returns-2)

@@ -4,11 +4,11 @@ use Rattle.beside.specs.MergeLaws.{shared_not}
 use Rattle.beside.proofs.share_word.Statement.{statement}
 use Rattle.beside.proofs.share_word.Tie as tie
 
-merge-word-requires : tie.Need-merge-word-requires
+merge-word-requires : tie.Need-merge_word-requires
 merge-word-requires c κs = search rules
 
 returns : tie.Need-returns
-returns c = shared_not c.before.args.n c.before.args.x c.merge-word.result c.before.ranges.x.fits c.merge-word.type-inv c.merge-word.ensures
+returns c = shared_not c.before.args.n c.before.args.x c.merge_word.result c.before.ranges.x.fits c.merge_word.type-inv c.merge_word.ensures
 
-pub share-word-spec : {M : Type 1} → statement M
-share-word-spec = tie.close (tie.spec merge-word-requires returns)
+pub share_word_spec : {M : Type 1} → statement M
+share_word_spec = tie.close (tie.spec merge-word-requires returns)

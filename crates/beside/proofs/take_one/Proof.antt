@@ -10,51 +10,51 @@ use borrow.Author.Rules.{rules}
 use Rattle.beside.proofs.take_one.Statement.{statement}
 use Rattle.beside.proofs.take_one.Tie as tie
 
-mul-z : tie.Need-overflow-mul-z
+mul-z : tie.Need-offset_bounds-left-j
 mul-z c = search rules
 
-slice-read-z : tie.Need-slice-read-z
+slice-read-z : tie.Need-bounds-left-j
 slice-read-z c = search rules
 
-failing-word-requires : tie.Need-failing-word-requires
+failing-word-requires : tie.Need-failing_word-requires
 failing-word-requires c κs = search rules
 
-mul_left : tie.Need-overflow-mul-left
+mul_left : tie.Need-offset_bounds-left-j-2
 mul_left c = search rules
 
-slice-write-left : tie.Need-slice-write-left
+slice-write-left : tie.Need-bounds-left-j-2
 slice-write-left c = search rules
 
-shl-result : tie.Need-overflow-shl-result
+shl-result : tie.Need-overflow_shl-result
 shl-result c = search rules
 
-same_length : tie.Need-same-length
+same_length : tie.Need-shape_of-left-then-z-eq0
 same_length c = search rules
 
-returns : tie.Need-returns
+returns : tie.Need-returns-then-z-eq0
 returns c =
     let start = c.before.before.before.before in
     let a = start.args in
-    let f = c.before.failing-word in
+    let f = c.before.failing_word in
     taken_set a.j _ a.wanted a.left.now _ _ (omega (arith, start.requires.0)) start.requires.0.2
     (taken_out (get_or a.left.now a.j 0) f.result _ f.type-inv f.ensures)
-    (λ u. c.if1.true) (λ k h n. other_bits a.wanted a.j k (omega (arith, start.requires.0)) h n)
+    (λ u. c.if-z-eq0.true) (λ k h n. other_bits a.wanted a.j k (omega (arith, start.requires.0)) h n)
 
-same-length-2 : tie.Need-same-length-2
+same-length-2 : tie.Need-shape_of-left
 same-length-2 c = search rules
 
-returns-2 : tie.Need-returns-2
+returns-2 : tie.Need-returns
 returns-2 c =
     let start = c.before.before.before.before in
     let a = start.args in
-    let f = c.before.failing-word in
+    let f = c.before.failing_word in
     let t = start.requires.0.2 in
     taken_set a.j _ a.wanted a.left.now a.wanted _ (omega (arith, start.requires.0)) t
     (taken_out (get_or a.left.now a.j 0) f.result _ f.type-inv f.ensures)
     (λ u. absurd (T_not (bit a.wanted a.j) u t)) (λ k h n. refl)
 
-pub take-one-spec : {M : Type 1} → statement M
-take-one-spec =
+pub take_one_spec : {M : Type 1} → statement M
+take_one_spec =
     tie.close
     (tie.spec
     mul-z

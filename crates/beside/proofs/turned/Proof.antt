@@ -4,17 +4,17 @@ use Rattle.beside.specs.MergeLaws.{turned_bit}
 use Rattle.beside.proofs.turned.Statement.{statement}
 use Rattle.beside.proofs.turned.Tie as tie
 
-shr-result : tie.Need-overflow-shr-result
+shr-result : tie.Need-overflow_shr-result
 shr-result c = search rules
 
-sub-result : tie.Need-overflow-sub-result
+sub-result : tie.Need-overflow_sub-result
 sub-result c = search rules
 
-shl-result : tie.Need-overflow-shl-result
+shl-result : tie.Need-overflow_shl-result
 shl-result c = search rules
 
 returns : tie.Need-returns
 returns c i h = turned_bit c.args.x c.args.k i c.ranges.x.fits c.requires.1 h
 
-pub turned-spec : {M : Type 1} → statement M
-turned-spec = tie.close (tie.spec shr-result sub-result shl-result returns)
+pub turned_spec : {M : Type 1} → statement M
+turned_spec = tie.close (tie.spec shr-result sub-result shl-result returns)

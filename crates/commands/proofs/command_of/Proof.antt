@@ -6,42 +6,42 @@ use Rattle.format.specs.Format.{operands, command_of}
 use Rattle.commands.proofs.command_of.Statement.{statement}
 use Rattle.commands.proofs.command_of.Tie as tie
 
-enum_told : tie.Need-enum-told
+enum_told : tie.Need-enum_told-1
 enum_told c = search rules
 
-enum-told-2 : tie.Need-enum-told-2
+enum-told-2 : tie.Need-enum_told-in-Head
 enum-told-2 c = search rules
 
-enum-told-3 : tie.Need-enum-told-3
+enum-told-3 : tie.Need-enum_told-in-Constant
 enum-told-3 c = search rules
 
-four-bytes-requires : tie.Need-four-bytes-requires
-four-bytes-requires c κs = omega (arith, ap operands c.enum-told3.given.1)
+four-bytes-requires : tie.Need-four_bytes-requires
+four-bytes-requires c κs = omega (arith, ap operands c.enum_told-in-Constant-1.given.1)
 
-enum-known-shape : tie.Need-enum-known-shape
+enum-known-shape : tie.Need-enum_known-shape
 enum-known-shape c = search rules
 
-clause-at-requires : tie.Need-clause-at-requires
-clause-at-requires c κs = omega (arith, ap operands c.before.shape.given.1)
+clause-at-requires : tie.Need-clause_at-requires
+clause-at-requires c κs = omega (arith, ap operands c.before.shape-1.given.1)
 
-returns : tie.Need-returns
+returns : tie.Need-returns-in-End
 unfolding command_of
-returns c = simp c.enum_told.given.1
+returns c = simp c.enum_told-1.given.1
 
-returns-2 : tie.Need-returns-2
+returns-2 : tie.Need-returns-in-Head
 unfolding command_of
-returns-2 c = simp c.enum-told2.given.1
+returns-2 c = simp c.enum_told-in-Head-1.given.1
 
-returns-3 : tie.Need-returns-3
+returns-3 : tie.Need-returns-in-Constant
 unfolding command_of
-returns-3 c = simp (c.before.enum-told3.given.1, ← c.four_bytes.ensures.0)
+returns-3 c = simp (c.before.enum_told-in-Constant-1.given.1, ← c.four_bytes.ensures.0)
 
-returns-4 : tie.Need-returns-4
+returns-4 : tie.Need-returns-in-Clause
 unfolding command_of
-returns-4 c = simp (c.before.before.shape.given.1, c.clause_at_lem.ensures)
+returns-4 c = simp (c.before.before.shape-1.given.1, c.clause_at.ensures)
 
-pub command-of-spec : {M : Type 1} → statement M
-command-of-spec =
+pub command_of_spec : {M : Type 1} → statement M
+command_of_spec =
     tie.close
     (tie.spec
     enum_told

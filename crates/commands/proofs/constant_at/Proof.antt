@@ -14,79 +14,79 @@ use Rattle.commands.proofs.constant_at.Statement.{statement}
 use Rattle.commands.proofs.constant_at.Tie as tie
 
 -- the shape's number is another than that of a constant
-told : (c : tie.At-match2-keys2) → ¬ (c.before.before.entry.given.0.0 ≡ Shape.Constant)
-told c e = ⊎_elim (λ z. omega arith) (⊎_elim (λ z. omega arith) (λ z. omega arith)) (rw e at c.match2.keys2)
+told : (c : tie.In_default-shape) → ¬ (c.before.before.entry-1.given.0.0 ≡ Shape.Constant)
+told c e = ⊎_elim (λ z. omega arith) (⊎_elim (λ z. omega arith) (λ z. omega arith)) (rw e at c.in-Constant.keys2)
 
-returns : tie.Need-returns
+returns : tie.Need-returns-then-bytes-at
 unfolding read_at
-returns c = simp (le-ltb _ _ c.if1.true)
+returns c = simp (le-ltb _ _ c.if-bytes-at.true)
 
-shared-slice-read-entry-of : tie.Need-shared-slice-read-entry-of
+shared-slice-read-entry-of : tie.Need-bounds-bytes-at
 shared-slice-read-entry-of c = search rules
 
-entry-of-requires : tie.Need-entry-of-requires
+entry-of-requires : tie.Need-entry_of-entry-requires
 entry-of-requires c κs = search rules
 
-enum-known-entry : tie.Need-enum-known-entry
+enum-known-entry : tie.Need-enum_known-entry
 enum-known-entry c = search rules
 
-enum_told : tie.Need-enum-told
+enum_told : tie.Need-enum_told-1
 enum_told c = search rules
 
-returns-2 : tie.Need-returns-2
+returns-2 : tie.Need-returns-in_default
 unfolding read_at whole_at
-returns-2 c = simp (lt-ltb _ _ c.before.before.before.before.if1.false, ← c.before.before.entry_of.ensures, c.enum_told.given.1)
+returns-2 c = simp (lt-ltb _ _ c.before.before.before.before.if-bytes-at.false, ← c.before.before.entry_of-entry.ensures, c.enum_told-1.given.1)
 
-enum-told-2 : tie.Need-enum-told-2
+enum-told-2 : tie.Need-enum_told-in-Constant
 enum-told-2 c = search rules
 
-returns-3 : tie.Need-returns-3
+returns-3 : tie.Need-returns-in_default-shape
 unfolding read_at
 returns-3 c =
     let start = c.before.before.before.before.before.before.before.before in
-    let h = c.before.before.entry.given.0.0 in
-    simp (lt-ltb _ _ c.before.before.before.before.before.before.if1.false, ← c.before.before.before.before.entry_of.ensures, c.before.before.entry.given.1)
+    let h = c.before.before.entry-1.given.0.0 in
+    simp (lt-ltb _ _ c.before.before.before.before.before.before.if-bytes-at.false, ← c.before.before.before.before.entry_of-entry.ensures, c.before.before.entry-1.given.1)
     (other_stands start.args.bytes.now start.args.at h (told c))
 
-operand-count-requires : tie.Need-operand-count-requires
+operand-count-requires : tie.Need-operand_count-width-requires
 operand-count-requires c κs = search rules
 
-add-from : tie.Need-overflow-add-from
+add-from : tie.Need-overflow_add-from
 add-from c = search rules
 
-sub-if2 : tie.Need-overflow-sub-if2
+sub-if2 : tie.Need-overflow_sub-bytes
 sub-if2 c = search rules
 
-returns-4 : tie.Need-returns-4
+returns-4 : tie.Need-returns-then-bytes-from
 unfolding read_at whole_at
 returns-4 c =
     let told = c.before.before.before.before.before in
-    simp (lt-ltb _ _ told.before.before.before.before.if1.false, ← told.before.before.entry_of.ensures, told.entry.given.1, ← c.before.operand-count.ensures, lt-ltb _ _ c.if2.true)
+    simp (lt-ltb _ _ told.before.before.before.before.if-bytes-at.false, ← told.before.before.entry_of-entry.ensures, told.entry-1.given.1, ← c.before.operand_count-width.ensures, lt-ltb _ _ c.if-bytes-from.true)
 
-four-bytes-requires : tie.Need-four-bytes-requires
-four-bytes-requires c κs = omega (arith, c.before.operand-count.ensures ∙ ap operands c.before.before.enum-told2.given.1, c.if2.false)
+four-bytes-requires : tie.Need-four_bytes-requires
+four-bytes-requires c κs = omega (arith, c.before.operand_count-width.ensures ∙ ap operands c.before.before.enum_told-in-Constant-1.given.1, c.if-bytes-from.false)
 
-add-t7 : tie.Need-overflow-add-t7
+add-t7 : tie.Need-overflow_add-result
 add-t7 c = search rules
 
-returns-5 : tie.Need-returns-5
+returns-5 : tie.Need-returns
 unfolding read_at whole_at command_of
 returns-5 c =
     let told = c.before.before.before.before.before.before in
     let start = told.before.before.before.before.before.before in
-    let width : c.before.before.operand-count.result ≡ 4 = c.before.before.operand-count.ensures ∙ ap operands c.before.before.before.enum-told2.given.1 in
+    let width : c.before.before.operand_count-width.result ≡ 4 = c.before.before.operand_count-width.ensures ∙ ap operands c.before.before.before.enum_told-in-Constant-1.given.1 in
     simp (
-      lt-ltb _ _ told.before.before.before.before.if1.false,
-      ← told.before.before.entry_of.ensures,
-      told.entry.given.1,
-      c.before.before.before.enum-told2.given.1,
+      lt-ltb _ _ told.before.before.before.before.if-bytes-at.false,
+      ← told.before.before.entry_of-entry.ensures,
+      told.entry-1.given.1,
+      c.before.before.before.enum_told-in-Constant-1.given.1,
       width,
-      le-ltb (length start.args.bytes.now - (start.args.at + 1)) 4 (omega (arith, width, c.before.if2.false)),
+      le-ltb (length start.args.bytes.now - (start.args.at + 1)) 4 (omega (arith, width, c.before.if-bytes-from.false)),
     )
     (ap (λ v. Leading.Constant v (start.args.at + 1 + 4)) c.four_bytes.ensures.0)
 
-pub constant-at-spec : {M : Type 1} → statement M
-constant-at-spec =
+pub constant_at_spec : {M : Type 1} → statement M
+constant_at_spec =
     tie.close
     (tie.spec
     returns

@@ -6,53 +6,53 @@ use Rattle.format.specs.Format.{read_at, whole_at}
 use Rattle.commands.proofs.read_at.Statement.{statement}
 use Rattle.commands.proofs.read_at.Tie as tie
 
-returns : tie.Need-returns
+returns : tie.Need-returns-then-bytes-at
 unfolding read_at
-returns c = simp (le-ltb _ _ c.if1.true)
+returns c = simp (le-ltb _ _ c.if-bytes-at.true)
 
-shared-slice-read-entry-of : tie.Need-shared-slice-read-entry-of
+shared-slice-read-entry-of : tie.Need-bounds-bytes-at
 shared-slice-read-entry-of c = search rules
 
-entry-of-requires : tie.Need-entry-of-requires
+entry-of-requires : tie.Need-entry_of-entry-requires
 entry-of-requires c κs = search rules
 
-enum-known-entry : tie.Need-enum-known-entry
+enum-known-entry : tie.Need-enum_known-entry
 enum-known-entry c = search rules
 
-enum_told : tie.Need-enum-told
+enum_told : tie.Need-enum_told-1
 enum_told c = search rules
 
-returns-2 : tie.Need-returns-2
+returns-2 : tie.Need-returns-in_default
 unfolding read_at whole_at
-returns-2 c = simp (lt-ltb _ _ c.before.before.before.before.if1.false, ← c.before.before.entry_of.ensures, c.enum_told.given.1) refl
+returns-2 c = simp (lt-ltb _ _ c.before.before.before.before.if-bytes-at.false, ← c.before.before.entry_of-entry.ensures, c.enum_told-1.given.1) refl
 
-operand-count-requires : tie.Need-operand-count-requires
+operand-count-requires : tie.Need-operand_count-width-requires
 operand-count-requires c κs = search rules
 
-add-from : tie.Need-overflow-add-from
+add-from : tie.Need-overflow_add-from
 add-from c = search rules
 
-sub-if2 : tie.Need-overflow-sub-if2
+sub-if2 : tie.Need-overflow_sub-bytes
 sub-if2 c = search rules
 
-returns-3 : tie.Need-returns-3
+returns-3 : tie.Need-returns-then-bytes-from
 unfolding read_at whole_at
 returns-3 c =
-    simp (lt-ltb _ _ c.before.before.before.before.before.before.before.if1.false, ← c.before.before.before.before.before.entry_of.ensures, c.before.before.before.entry.given.1, ← c.before.operand-count.ensures, lt-ltb _ _ c.if2.true) refl
+    simp (lt-ltb _ _ c.before.before.before.before.before.before.before.if-bytes-at.false, ← c.before.before.before.before.before.entry_of-entry.ensures, c.before.before.before.entry-1.given.1, ← c.before.operand_count-width.ensures, lt-ltb _ _ c.if-bytes-from.true) refl
 
-command-of-requires : tie.Need-command-of-requires
+command-of-requires : tie.Need-command_of-command-requires
 command-of-requires c κs = search rules
 
-add-t8 : tie.Need-overflow-add-t8
+add-t8 : tie.Need-overflow_add-result
 add-t8 c = search rules
 
-returns-4 : tie.Need-returns-4
+returns-4 : tie.Need-returns
 unfolding read_at whole_at
 returns-4 c =
-    simp (lt-ltb _ _ c.before.before.before.before.before.before.before.before.if1.false, ← c.before.before.before.before.before.before.entry_of.ensures, c.before.before.before.before.entry.given.1, ← c.before.before.operand-count.ensures, le-ltb _ _ c.before.if2.false, ← c.command-of.ensures)
+    simp (lt-ltb _ _ c.before.before.before.before.before.before.before.before.if-bytes-at.false, ← c.before.before.before.before.before.before.entry_of-entry.ensures, c.before.before.before.before.entry-1.given.1, ← c.before.before.operand_count-width.ensures, le-ltb _ _ c.before.if-bytes-from.false, ← c.command_of-command.ensures)
 
-pub read-at-spec : {M : Type 1} → statement M
-read-at-spec =
+pub read_at_spec : {M : Type 1} → statement M
+read_at_spec =
     tie.close
     (tie.spec
     returns

@@ -5,13 +5,13 @@ use Rattle.constants.specs.Stacks.{equal_leaves}
 use Rattle.constants.proofs.equal_leaves.Statement.{statement}
 use Rattle.constants.proofs.equal_leaves.Tie as tie
 
-returns : tie.Need-returns
+returns : tie.Need-returns-then-left-right
 unfolding equal_leaves
-returns c = rw (eq-eqb _ _ c.if1.true) refl
+returns c = rw (eq-eqb _ _ c.if-left-right.true) refl
 
-returns-2 : tie.Need-returns-2
+returns-2 : tie.Need-returns
 unfolding equal_leaves
-returns-2 c = rw (ne_eqb _ _ c.if1.false)
+returns-2 c = rw (ne_eqb _ _ c.if-left-right.false)
 
-pub equal-leaves-spec : {M : Type 1} → statement M
-equal-leaves-spec = tie.close (tie.spec returns returns-2)
+pub equal_leaves_spec : {M : Type 1} → statement M
+equal_leaves_spec = tie.close (tie.spec returns returns-2)

@@ -9,27 +9,27 @@ use borrow.Author.Rules.{rules}
 use Rattle.constants.proofs.from_stack.Statement.{statement}
 use Rattle.constants.proofs.from_stack.Tie as tie
 
-returns : tie.Need-returns
-returns c items σ s S e runs-s short = sym (text_none constant_levels s (whole_none s (ended s σ runs-s ∙ not_alone constant_levels items _ σ S (λ one. omega (arith, c.if1.true)))))
+returns : tie.Need-returns-then-scan-ne1
+returns c items σ s S e runs-s short = sym (text_none constant_levels s (whole_none s (ended s σ runs-s ∙ not_alone constant_levels items _ σ S (λ one. omega (arith, c.if-scan-ne1.true)))))
 
-returns-2 : tie.Need-returns-2
-returns-2 c items σ s S e runs-s short = sym (text_none constant_levels s (whole_none s (ended s σ runs-s ∙ bracket_alone constant_levels items _ σ S _ e c.before.if1.false c.if2.true)))
+returns-2 : tie.Need-returns-then-item-eq0
+returns-2 c items σ s S e runs-s short = sym (text_none constant_levels s (whole_none s (ended s σ runs-s ∙ bracket_alone constant_levels items _ σ S _ e c.before.if-scan-ne1.false c.if-item-eq0.true)))
 
-leaves-of-requires : tie.Need-leaves-of-requires
+leaves-of-requires : tie.Need-leaves_of-requires
 leaves-of-requires c κs = search rules
 
-cast-t5 : tie.Need-overflow-cast-t5
-cast-t5 c = omega (arith, c.Leaves-of.ensures.1)
+cast-t5 : tie.Need-overflow_cast-leaves_of
+cast-t5 c = omega (arith, c.leaves_of.ensures.1)
 
-from-told-requires : tie.Need-from-told-requires
+from-told-requires : tie.Need-from_told-requires
 from-told-requires c κs = search rules
 
-returns-3 : tie.Need-returns-3
+returns-3 : tie.Need-returns
 returns-3 c items σ s S e runs-s short =
-    let (t, alone, leaves, height, folded) = tree_alone constant_levels items _ σ S _ e c.before.before.before.if1.false c.before.before.if2.false in
-    c.from_told.ensures t (record { leaves = c.before.Leaves-of.ensures.0 ∙ leaves; height = height; folded = folded })
+    let (t, alone, leaves, height, folded) = tree_alone constant_levels items _ σ S _ e c.before.before.before.if-scan-ne1.false c.before.before.if-item-eq0.false in
+    c.from_told.ensures t (record { leaves = c.before.leaves_of.ensures.0 ∙ leaves; height = height; folded = folded })
     ∙ sym (text_tree constant_levels s short t (text_whole s t (ended s σ runs-s ∙ alone)))
 
-pub from-stack-spec : {M : Type 1} → statement M
-from-stack-spec =
+pub from_stack_spec : {M : Type 1} → statement M
+from_stack_spec =
     tie.close (tie.spec returns returns-2 leaves-of-requires cast-t5 from-told-requires returns-3)

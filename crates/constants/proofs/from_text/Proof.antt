@@ -14,77 +14,77 @@ use Rattle.constants.specs.FromTextLaws.{text_long, text_none}
 use Rattle.constants.proofs.from_text.Statement.{statement}
 use Rattle.constants.proofs.from_text.Tie as tie
 
-abbrev invariant-loop : tie.invariant-loop
-invariant-loop text items₀ scan₀ at₀ items scan at =
+abbrev invariant-loop-at : tie.invariant-loop-at
+invariant-loop-at text items₀ scan₀ at₀ items scan at =
     (length items ≡ 94) × (at ≤ length text) × ((σ : List Item) × Stacked constant_levels items scan σ × (length σ ≤ at) × (runs (drop at text) (some σ) ≡ runs text (some [])))
 
-abbrev decreases-loop : tie.decreases-loop
-decreases-loop text items₀ scan₀ at₀ items scan at = length text - at
+abbrev decreases-loop-at : tie.decreases-loop-at
+decreases-loop-at text items₀ scan₀ at₀ items scan at = length text - at
 
-returns : tie.Need-returns invariant-loop decreases-loop
-returns c = sym (text_long constant_levels c.before.before.args.text.now (omega (arith, c.if1.true)))
+returns : tie.Need-returns-then-text-gt-LONGEST_TEXT invariant-loop-at decreases-loop-at
+returns c = sym (text_long constant_levels c.before.before.args.text.now (omega (arith, c.if-text-gt-LONGEST_TEXT.true)))
 
-loop-holds : tie.Need-loop-init invariant-loop decreases-loop
+loop-holds : tie.Need-loop-at-init invariant-loop-at decreases-loop-at
 loop-holds c = (refl, omega arith, ([], none_yet, omega arith, refl))
 
-slice-aggregate-take-sign : tie.Need-slice-aggregate-take-sign invariant-loop decreases-loop
-slice-aggregate-take-sign c = sym c.before.before.loop.invariant.0
+slice-aggregate-take-sign : tie.Need-slice_bounds-take_sign-end invariant-loop-at decreases-loop-at
+slice-aggregate-take-sign c = sym c.before.before.loop-at.invariant.0
 
-shared-slice-read-take-sign : tie.Need-shared-slice-read-take-sign invariant-loop decreases-loop
+shared-slice-read-take-sign : tie.Need-bounds-text-at invariant-loop-at decreases-loop-at
 shared-slice-read-take-sign c = search rules
 
-take-sign-requires : tie.Need-take-sign-requires invariant-loop decreases-loop
-take-sign-requires c κs = let i = c.before.before.before.loop.invariant in (i.2.0, i.2.1, omega (arith, i.0, i.2.2, c.before.before.loop-test.true, c.before.before.before.before.if1.false))
+take-sign-requires : tie.Need-take_sign-requires invariant-loop-at decreases-loop-at
+take-sign-requires c κs = let i = c.before.before.before.loop-at.invariant in (i.2.0, i.2.1, omega (arith, i.0, i.2.2, c.before.before.loop-at-test.true, c.before.before.before.before.if-text-gt-LONGEST_TEXT.false))
 
-enum-known-next : tie.Need-enum-known-next invariant-loop decreases-loop
+enum-known-next : tie.Need-enum_known-next invariant-loop-at decreases-loop-at
 enum-known-next c = search rules
 
-enum_told : tie.Need-enum-told invariant-loop decreases-loop
+enum_told : tie.Need-enum_told-1 invariant-loop-at decreases-loop-at
 enum_told c = search rules
 
-returns-2 : tie.Need-returns-2 invariant-loop decreases-loop
+returns-2 : tie.Need-returns-in_default invariant-loop-at decreases-loop-at
 returns-2 c =
-    let l = c.before.before.before.before.before.before.before.loop in
+    let l = c.before.before.before.before.before.before.before.loop-at in
     let s = c.before.before.before.before.before.before.before.before.before.before.args.text.now in
     let (σ, S, few, so_far) = l.invariant.2 in
-    let stops = subst (Stepped constant_levels _ _ σ) c.enum_told.given.1 (c.before.before.before.take-sign.ensures σ S (omega (arith, l.invariant.0, few, c.before.before.before.before.before.before.loop-test.true, c.before.before.before.before.before.before.before.before.if1.false))) in
-    sym (text_none constant_levels s (whole_none s (turn_stops s l.at c.before.before.before.before.before.before.loop-test.true σ so_far stops)))
+    let stops = subst (Stepped constant_levels _ _ σ) c.enum_told-1.given.1 (c.before.before.before.take_sign.ensures σ S (omega (arith, l.invariant.0, few, c.before.before.before.before.before.before.loop-at-test.true, c.before.before.before.before.before.before.before.before.if-text-gt-LONGEST_TEXT.false))) in
+    sym (text_none constant_levels s (whole_none s (turn_stops s l.at c.before.before.before.before.before.before.loop-at-test.true σ so_far stops)))
 
-add_at : tie.Need-overflow-add-at invariant-loop decreases-loop
-add_at c = omega (arith, c.before.before.before.before.before.before.before.loop-test.true, c.before.before.before.before.before.before.before.before.before.before.before.well-formed)
+add_at : tie.Need-overflow_add-at invariant-loop-at decreases-loop-at
+add_at c = omega (arith, c.before.before.before.before.before.before.before.loop-at-test.true, c.before.before.before.before.before.before.before.before.before.before.before.well-formed)
 
-loop-less : tie.Need-loop-smaller invariant-loop decreases-loop
-loop-less c = omega (arith, c.before.before.before.before.before.before.before.loop-test.true)
+loop-less : tie.Need-loop-at-smaller invariant-loop-at decreases-loop-at
+loop-less c = omega (arith, c.before.before.before.before.before.before.before.loop-at-test.true)
 
-loop-again : tie.Need-loop-preserved invariant-loop decreases-loop
+loop-again : tie.Need-loop-at-preserved invariant-loop-at decreases-loop-at
 loop-again c =
-    let l = c.before.before.before.before.before.before.before.before.loop in
+    let l = c.before.before.before.before.before.before.before.before.loop-at in
     let s = c.before.before.before.before.before.before.before.before.before.before.before.args.text.now in
     let (σ, S, few, so_far) = l.invariant.2 in
-    let inside = c.before.before.before.before.before.before.before.loop-test.true in
-    let (τ, e, T) = subst (Stepped constant_levels _ _ σ) c.before.next.given.1 (c.before.before.before.before.take-sign.ensures σ S (omega (arith, l.invariant.0, few, inside, c.before.before.before.before.before.before.before.before.before.if1.false))) in
+    let inside = c.before.before.before.before.before.before.before.loop-at-test.true in
+    let (τ, e, T) = subst (Stepped constant_levels _ _ σ) c.before.next-1.given.1 (c.before.before.before.before.take_sign.ensures σ S (omega (arith, l.invariant.0, few, inside, c.before.before.before.before.before.before.before.before.before.if-text-gt-LONGEST_TEXT.false))) in
     let turn = turn_goes s l.at inside σ so_far τ e few in
-    (c.before.before.before.before.take-sign.auto.0 ∙ l.invariant.0, omega arith, (τ, T, turn.0, turn.1))
+    (c.before.before.before.before.take_sign.auto.0 ∙ l.invariant.0, omega arith, (τ, T, turn.0, turn.1))
 
-array-read-from-stack : tie.Need-array-read-from-stack invariant-loop decreases-loop
+array-read-from-stack : tie.Need-bounds-items-0 invariant-loop-at decreases-loop-at
 array-read-from-stack c = search rules
 
-from-stack-requires : tie.Need-from-stack-requires invariant-loop decreases-loop
+from-stack-requires : tie.Need-from_stack-requires invariant-loop-at decreases-loop-at
 from-stack-requires c κs = tt
 
-returns-3 : tie.Need-returns-3 invariant-loop decreases-loop
+returns-3 : tie.Need-returns invariant-loop-at decreases-loop-at
 returns-3 c =
-    let l = c.before.before.loop in
+    let l = c.before.before.loop-at in
     let s = c.before.before.before.before.before.args.text.now in
     let (σ, S, few, so_far) = l.invariant.2 in
-    c.from-stack.ensures l.items σ s S refl (all_read s l.at σ c.before.loop-test.false so_far) c.before.before.before.if1.false
+    c.from_stack.ensures l.items-1 σ s S refl (all_read s l.at σ c.before.loop-at-test.false so_far) c.before.before.before.if-text-gt-LONGEST_TEXT.false
 
-pub from-text-spec : {M : Type 1} → statement M
-from-text-spec =
+pub from_text_spec : {M : Type 1} → statement M
+from_text_spec =
     tie.close
     (tie.spec
-    invariant-loop
-    decreases-loop
+    invariant-loop-at
+    decreases-loop-at
     returns
     loop-holds
     slice-aggregate-take-sign

@@ -9,14 +9,14 @@ use Rattle.constants.specs.declared.FromText.TheVariants.{Constant}
 use Rattle.constants.proofs.from_told.Statement.{statement}
 use Rattle.constants.proofs.from_told.Tie as tie
 
-returns : tie.Need-returns
-returns c t o = sym (tree_tall constant_levels t ((folded_iff t).0 (of_true (sym o.folded ∙ c.before.before.if1.true))) (omega (arith, o.height, c.if2.true)))
+returns : tie.Need-returns-then-told-gt-LEVELS
+returns c t o = sym (tree_tall constant_levels t ((folded_iff t).0 (of_true (sym o.folded ∙ c.before.before.if-told.true))) (omega (arith, o.height, c.if-told-gt-LEVELS.true)))
 
-returns-2 : tie.Need-returns-2
-returns-2 c t o = sym (tree_constant constant_levels t ((folded_iff t).0 (of_true (sym o.folded ∙ c.before.before.if1.true))) (omega (arith, o.height, c.if2.false)) ∙ ap Constant (sym o.leaves))
+returns-2 : tie.Need-returns-then-told
+returns-2 c t o = sym (tree_constant constant_levels t ((folded_iff t).0 (of_true (sym o.folded ∙ c.before.before.if-told.true))) (omega (arith, o.height, c.if-told-gt-LEVELS.false)) ∙ ap Constant (sym o.leaves))
 
-returns-3 : tie.Need-returns-3
-returns-3 c t o = sym (tree_not_folded constant_levels t (λ f. rw (← o.folded, c.if1.false) at ((folded_iff t).1 f)))
+returns-3 : tie.Need-returns
+returns-3 c t o = sym (tree_not_folded constant_levels t (λ f. rw (← o.folded, c.if-told.false) at ((folded_iff t).1 f)))
 
-pub from-told-spec : {M : Type 1} → statement M
-from-told-spec = tie.close (tie.spec returns returns-2 returns-3)
+pub from_told_spec : {M : Type 1} → statement M
+from_told_spec = tie.close (tie.spec returns returns-2 returns-3)

@@ -8,30 +8,30 @@ use borrow.Author.Rules.{rules}
 use Rattle.constants.proofs.pair_leaves.Statement.{statement}
 use Rattle.constants.proofs.pair_leaves.Tie as tie
 
-returns : tie.Need-returns
+returns : tie.Need-returns-then-levels-eq0
 unfolding pair_number
-returns c = rw c.if1.true (refl, omega arith)
+returns c = rw c.if-levels-eq0.true (refl, omega arith)
 
-sub-full-leaves : tie.Need-overflow-sub-full-leaves
+sub-full-leaves : tie.Need-overflow_sub-levels
 sub-full-leaves c = search rules
 
-full-leaves-requires : tie.Need-full-leaves-requires
+full-leaves-requires : tie.Need-full_leaves-requires
 full-leaves-requires c κs = search rules
 
-add_result : tie.Need-overflow-add-result
-add_result c = omega (arith, scale_room _ _ c.full-leaves.ensures c.before.if1.false constant_levels c.before.before.requires.0)
+add_result : tie.Need-overflow_add-result
+add_result c = omega (arith, scale_room _ _ c.full_leaves.ensures c.before.if-levels-eq0.false constant_levels c.before.before.requires.0)
 
-add_result_2 : tie.Need-overflow-add-result-2
-add_result_2 c = omega (arith, pair_room _ _ c.full-leaves.ensures c.before.if1.false c.before.before.args.left c.before.before.args.right constant_levels c.before.before.requires.0 c.before.before.requires.1.0 c.before.before.requires.1.1)
+add_result_2 : tie.Need-overflow_add-result-2
+add_result_2 c = omega (arith, pair_room _ _ c.full_leaves.ensures c.before.if-levels-eq0.false c.before.before.args.left c.before.before.args.right constant_levels c.before.before.requires.0 c.before.before.requires.1.0 c.before.before.requires.1.1)
 
-mul-result : tie.Need-overflow-mul-result
+mul-result : tie.Need-overflow_mul-result
 mul-result c = omega (arith, add_result_2 c)
 
-returns-2 : tie.Need-returns-2
-returns-2 c = (pair_number_lem _ _ c.full-leaves.ensures c.before.if1.false c.before.before.args.left c.before.before.args.right, pair_room _ _ c.full-leaves.ensures c.before.if1.false c.before.before.args.left c.before.before.args.right constant_levels c.before.before.requires.0 c.before.before.requires.1.0 c.before.before.requires.1.1)
+returns-2 : tie.Need-returns
+returns-2 c = (pair_number_lem _ _ c.full_leaves.ensures c.before.if-levels-eq0.false c.before.before.args.left c.before.before.args.right, pair_room _ _ c.full_leaves.ensures c.before.if-levels-eq0.false c.before.before.args.left c.before.before.args.right constant_levels c.before.before.requires.0 c.before.before.requires.1.0 c.before.before.requires.1.1)
 
-pub pair-leaves-spec : {M : Type 1} → statement M
-pair-leaves-spec =
+pub pair_leaves_spec : {M : Type 1} → statement M
+pair_leaves_spec =
     tie.close
     (tie.spec
     returns

@@ -14,23 +14,23 @@ searchable s =
     let (q, St, _) = s.requires.0 in
     rw s.requires.1 (readable _ q St, named_lt _ q St, omega (arith, question_low _ q St, height_is _ q St))
 
-decide-satisfiability-requires : tie.Need-decide-satisfiability-requires
+decide-satisfiability-requires : tie.Need-decide_satisfiability-requires
 decide-satisfiability-requires c κs = searchable c.before.before.before.before
 
-returns : tie.Need-returns
+returns : tie.Need-returns-then-question-eq0
 returns c =
     let s = c.before.before.before.before.before in
-    λ q St F. (rw (s.requires.1, s.requires.2) at c.decide-satisfiability.ensures) _ q St (kind_satisfiability _ q St c.before.before.before.if1.true) (height_is _ q St)
+    λ q St F. (rw (s.requires.1, s.requires.2) at c.decide_satisfiability.ensures) _ q St (kind_satisfiability _ q St c.before.before.before.if-question-eq0.true) (height_is _ q St)
 
-decide-entailment-requires : tie.Need-decide-entailment-requires
+decide-entailment-requires : tie.Need-decide_entailment-requires
 decide-entailment-requires c κs = searchable c.before.before.before.before
 
-returns-2 : tie.Need-returns-2
+returns-2 : tie.Need-returns
 returns-2 c =
     let s = c.before.before.before.before.before in
-    λ q St F. (rw (s.requires.1, s.requires.2) at c.decide-entailment.ensures) _ q St (kind_entailment _ q St c.before.before.before.if1.false) (height_is _ q St)
+    λ q St F. (rw (s.requires.1, s.requires.2) at c.decide_entailment.ensures) _ q St (kind_entailment _ q St c.before.before.before.if-question-eq0.false) (height_is _ q St)
 
-pub decide-spec : {M : Type 1} → statement M
-decide-spec =
+pub decide_spec : {M : Type 1} → statement M
+decide_spec =
     tie.close
     (tie.spec decide-satisfiability-requires returns decide-entailment-requires returns-2)

@@ -5,43 +5,43 @@ use Rattle.decide.specs.DecideLaws.{flip, decided_vacuous, decided_unmet, decide
 use Rattle.decide.proofs.decide_entailment.Statement.{statement}
 use Rattle.decide.proofs.decide_entailment.Tie as tie
 
-survey-leaves-requires : tie.Need-survey-leaves-requires
+survey-leaves-requires : tie.Need-survey_leaves-survey-requires
 survey-leaves-requires c κs = (c.before.before.requires.0, (c.before.before.requires.1, c.before.before.requires.2))
 
-returns : tie.Need-returns
+returns : tie.Need-returns-then-not-survey
 returns c =
     λ k q St kind e.
-    decided_vacuous _ q St _ _ _ (rw e at c.before.before.survey-leaves.ensures) kind (flip _ c.if1.true)
+    decided_vacuous _ q St _ _ _ (rw e at c.before.before.survey_leaves-survey.ensures) kind (flip _ c.if-not-survey.true)
 
-returns-2 : tie.Need-returns-2
+returns-2 : tie.Need-returns-then-survey
 returns-2 c =
     λ k q St kind e.
-    decided_unmet _ q St _ _ _ (rw e at c.before.before.before.survey-leaves.ensures) kind (flip _ c.before.if1.false) c.if2.true
+    decided_unmet _ q St _ _ _ (rw e at c.before.before.before.survey_leaves-survey.ensures) kind (flip _ c.before.if-not-survey.false) c.if-survey.true
 
-element-copy-out-if3 : tie.Need-element-copy-out-if3
+element-copy-out-if3 : tie.Need-bounds-sizes-3
 element-copy-out-if3 c = search rules
 
 solve-requires : tie.Need-solve-requires
 solve-requires c κs =
     let start = c.before.before.before.before.before.before.before.before.before.before in
-    (start.requires.0, (c.before.before.if3.true, start.requires.1, start.requires.2, refl))
+    (start.requires.0, (c.before.before.if-j-sizes.true, start.requires.1, start.requires.2, refl))
 
-returns-3 : tie.Need-returns-3
+returns-3 : tie.Need-returns-then-j-sizes
 returns-3 c =
     let tests = c.before.before.before.before.before in
     λ k q St kind e.
-    decided_missed _ q St _ _ _ (rw e at tests.before.before.before.survey-leaves.ensures) kind (flip _ tests.before.if1.false) tests.if2.false
-    c.before.before.before.if3.true _ _ _ (rw e at c.solve.ensures)
+    decided_missed _ q St _ _ _ (rw e at tests.before.before.before.survey_leaves-survey.ensures) kind (flip _ tests.before.if-not-survey.false) tests.if-survey.false
+    c.before.before.before.if-j-sizes.true _ _ _ (rw e at c.solve.ensures)
 
-returns-4 : tie.Need-returns-4
+returns-4 : tie.Need-returns
 returns-4 c =
     let tests = c.before.before in
     λ k q St kind e.
-    decided_entailed _ q St _ _ _ (rw e at tests.before.before.before.survey-leaves.ensures) kind (flip _ tests.before.if1.false) tests.if2.false
-    c.if3.false
+    decided_entailed _ q St _ _ _ (rw e at tests.before.before.before.survey_leaves-survey.ensures) kind (flip _ tests.before.if-not-survey.false) tests.if-survey.false
+    c.if-j-sizes.false
 
-pub decide-entailment-spec : {M : Type 1} → statement M
-decide-entailment-spec =
+pub decide_entailment_spec : {M : Type 1} → statement M
+decide_entailment_spec =
     tie.close
     (tie.spec
     survey-leaves-requires

@@ -4,23 +4,23 @@ use borrow.Author.Rules.{rules}
 use Rattle.decide.proofs.extra_of.Statement.{statement}
 use Rattle.decide.proofs.extra_of.Tie as tie
 
-enum_told : tie.Need-enum-told
+enum_told : tie.Need-enum_told-1
 enum_told c = search rules
 
-enum-told-2 : tie.Need-enum-told-2
+enum-told-2 : tie.Need-enum_told-in-Unmet
 enum-told-2 c = search rules
 
-enum-told-3 : tie.Need-enum-told-3
+enum-told-3 : tie.Need-enum_told-in-Missed
 enum-told-3 c = search rules
 
-returns : tie.Need-returns
-returns c = rw c.enum_told.given.1 refl
+returns : tie.Need-returns-in-First
+returns c = rw c.enum_told-1.given.1 refl
 
-returns-2 : tie.Need-returns-2
-returns-2 c = rw c.enum-told2.given.1 refl
+returns-2 : tie.Need-returns-in-Unmet
+returns-2 c = rw c.enum_told-in-Unmet-1.given.1 refl
 
-returns-3 : tie.Need-returns-3
-returns-3 c = rw c.enum-told3.given.1 refl
+returns-3 : tie.Need-returns-in-Missed
+returns-3 c = rw c.enum_told-in-Missed-1.given.1 refl
 
-pub extra-of-spec : {M : Type 1} → statement M
-extra-of-spec = tie.close (tie.spec enum_told enum-told-2 enum-told-3 returns returns-2 returns-3)
+pub extra_of_spec : {M : Type 1} → statement M
+extra_of_spec = tie.close (tie.spec enum_told enum-told-2 enum-told-3 returns returns-2 returns-3)

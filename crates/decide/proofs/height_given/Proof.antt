@@ -9,32 +9,32 @@ use Rattle.decide.specs.Decision.{outline_of}
 use Rattle.decide.proofs.height_given.Statement.{statement}
 use Rattle.decide.proofs.height_given.Tie as tie
 
-is-shown-requires : tie.Need-is-shown-requires
+is-shown-requires : tie.Need-is_shown-requires
 is-shown-requires c κs = search rules
 
-returns : tie.Need-returns
+returns : tie.Need-returns-then-not-is_shown
 returns c =
-    λ q S. sym (no_height q c.before.before.args.finding (sym c.before.is-shown.ensures ∙ flip _ c.if1.true))
+    λ q S. sym (no_height q c.before.before.args.finding (sym c.before.is_shown.ensures ∙ flip _ c.if-not-is_shown.true))
 
-search-of-requires : tie.Need-search-of-requires
+search-of-requires : tie.Need-search_of-requires
 search-of-requires c κs = search rules
 
-outline-requires : tie.Need-outline-requires
+outline-requires : tie.Need-outline-outline-requires
 outline-requires c κs = search rules
 
-add_result : tie.Need-overflow-add-result
+add_result : tie.Need-overflow_add-result
 add_result c =
     let (q, S) = c.before.before.before.before.before.requires in
-    omega (arith, ap (λ o. o.height + o.splits) (c.before.outline.ensures q S), heights_low _ q S c.before.before.search-of.result)
+    omega (arith, ap (λ o. o.height + o.splits) (c.before.outline-outline.ensures q S), heights_low _ q S c.before.before.search_of.result)
 
-returns-2 : tie.Need-returns-2
+returns-2 : tie.Need-returns
 returns-2 c =
     λ q S.
-    ap (λ o. o.height + o.splits) (c.before.outline.ensures q S)
-    ∙ ap (λ s. (outline_of q s).height + (outline_of q s).splits) c.before.before.search-of.ensures
-    ∙ shown_height q c.before.before.before.before.before.args.finding (sym c.before.before.before.before.is-shown.ensures ∙ flip _ c.before.before.before.if1.false)
+    ap (λ o. o.height + o.splits) (c.before.outline-outline.ensures q S)
+    ∙ ap (λ s. (outline_of q s).height + (outline_of q s).splits) c.before.before.search_of.ensures
+    ∙ shown_height q c.before.before.before.before.before.args.finding (sym c.before.before.before.before.is_shown.ensures ∙ flip _ c.before.before.before.if-not-is_shown.false)
 
-pub height-given-spec : {M : Type 1} → statement M
-height-given-spec =
+pub height_given_spec : {M : Type 1} → statement M
+height_given_spec =
     tie.close
     (tie.spec is-shown-requires returns search-of-requires outline-requires add_result returns-2)

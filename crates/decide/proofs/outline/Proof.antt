@@ -6,10 +6,10 @@ use Rattle.decide.specs.OutlineLaws.{room_most, count_sized, outline_sized}
 use Rattle.decide.proofs.outline.Statement.{statement}
 use Rattle.decide.proofs.outline.Tie as tie
 
-element-copy-out-room-of : tie.Need-element-copy-out-room-of
+element-copy-out-room-of : tie.Need-bounds-sizes-1
 element-copy-out-room-of c = search rules
 
-room-of-requires : tie.Need-room-of-requires
+room-of-requires : tie.Need-room_of-requires
 room-of-requires c κs = let (q, S) = c.before.requires in count_sized _ q S
 
 splits-requires : tie.Need-splits-requires
@@ -18,19 +18,19 @@ splits-requires c κs =
     let (q, S) = start.requires in
     omega (arith, c.room_of.ensures, room_most start.args.search (get_or start.args.t1.counts 1 0), count_sized _ q S)
 
-extra-of-requires : tie.Need-extra-of-requires
+extra-of-requires : tie.Need-extra_of-requires
 extra-of-requires c κs = search rules
 
-element-copy-out-t14 : tie.Need-element-copy-out-t14
+element-copy-out-t14 : tie.Need-bounds-sizes-1-2
 element-copy-out-t14 c = search rules
 
 returns : tie.Need-returns
 returns c =
     λ q S.
-    outline_sized _ q S c.before.before.before.before.before.args.search _ _ _ c.before.before.before.room_of.ensures c.before.before.splits.ensures c.before.extra-of.ensures
+    outline_sized _ q S c.before.before.before.before.before.args.search _ _ _ c.before.before.before.room_of.ensures c.before.before.splits.ensures c.before.extra_of.ensures
 
-pub outline-spec : {M : Type 1} → statement M
-outline-spec =
+pub outline_spec : {M : Type 1} → statement M
+outline_spec =
     tie.close
     (tie.spec
     element-copy-out-room-of

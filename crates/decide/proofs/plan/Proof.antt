@@ -7,7 +7,7 @@ use Rattle.decide.specs.Decision.{outline_of}
 use Rattle.decide.proofs.plan.Statement.{statement}
 use Rattle.decide.proofs.plan.Tie as tie
 
-search-of-requires : tie.Need-search-of-requires
+search-of-requires : tie.Need-search_of-requires
 search-of-requires c κs = search rules
 
 outline-requires : tie.Need-outline-requires
@@ -15,19 +15,19 @@ outline-requires c κs =
     let (q, D) = c.before.requires.0 in
     (q, D.sizing)
 
-plan-of-requires : tie.Need-plan-of-requires
+plan-of-requires : tie.Need-plan_of-requires
 plan-of-requires c κs =
     let start = c.before.before in
     let (q, D) = start.requires.0 in
-    rw (c.outline.ensures q D.sizing ∙ ap (outline_of q) c.before.search-of.ensures)
+    rw (c.outline.ensures q D.sizing ∙ ap (outline_of q) c.before.search_of.ensures)
     (decided_fits _ q D.sizing.standing.stands (lit≤ tt) _ _ _ D.decided start.requires.1)
 
 returns : tie.Need-returns
 returns c =
     λ q D.
-    let e = c.before.outline.ensures q D.sizing ∙ ap (outline_of q) c.before.before.search-of.ensures in
+    let e = c.before.outline.ensures q D.sizing ∙ ap (outline_of q) c.before.before.search_of.ensures in
     decided_planned _ q D.sizing.standing.stands (lit≤ tt) _ _ _ D.decided c.before.before.before.requires.1 _
-    (rw e at c.plan-of.ensures)
+    (rw e at c.plan_of.ensures)
 
-pub plan-spec : {M : Type 1} → statement M
-plan-spec = tie.close (tie.spec search-of-requires outline-requires plan-of-requires returns)
+pub plan_spec : {M : Type 1} → statement M
+plan_spec = tie.close (tie.spec search-of-requires outline-requires plan-of-requires returns)

@@ -4,32 +4,32 @@ use borrow.Author.Rules.{rules}
 use Rattle.decide.proofs.room_of.Statement.{statement}
 use Rattle.decide.proofs.room_of.Tie as tie
 
-enum_told : tie.Need-enum-told
+enum_told : tie.Need-enum_told-1
 enum_told c = search rules
 
-enum-told-2 : tie.Need-enum-told-2
+enum-told-2 : tie.Need-enum_told-in-Unmet
 enum-told-2 c = search rules
 
-add_result : tie.Need-overflow-add-result
+add_result : tie.Need-overflow_add-result
 add_result c = search rules
 
-enum-told-3 : tie.Need-enum-told-3
+enum-told-3 : tie.Need-enum_told-in-Missed
 enum-told-3 c = search rules
 
-add_result_2 : tie.Need-overflow-add-result-2
+add_result_2 : tie.Need-overflow_add-result-in-Missed
 add_result_2 c = search rules
 
-returns : tie.Need-returns
+returns : tie.Need-returns-in-First
 returns c = search rules
 
-returns-2 : tie.Need-returns-2
-returns-2 c = rw c.enum-told2.given.1 refl
+returns-2 : tie.Need-returns-in-Unmet
+returns-2 c = rw c.enum_told-in-Unmet-1.given.1 refl
 
-returns-3 : tie.Need-returns-3
-returns-3 c = rw c.enum-told3.given.1 refl
+returns-3 : tie.Need-returns-in-Missed
+returns-3 c = rw c.enum_told-in-Missed-1.given.1 refl
 
-pub room-of-spec : {M : Type 1} → statement M
-room-of-spec =
+pub room_of_spec : {M : Type 1} → statement M
+room_of_spec =
     tie.close
     (tie.spec
     enum_told

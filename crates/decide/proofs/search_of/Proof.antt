@@ -4,44 +4,44 @@ use borrow.Author.Rules.{rules}
 use Rattle.decide.proofs.search_of.Statement.{statement}
 use Rattle.decide.proofs.search_of.Tie as tie
 
-enum_told : tie.Need-enum-told
+enum_told : tie.Need-enum_told-1
 enum_told c = search rules
 
-enum-told-2 : tie.Need-enum-told-2
+enum-told-2 : tie.Need-enum_told-in-Unsatisfied
 enum-told-2 c = search rules
 
-enum-told-3 : tie.Need-enum-told-3
+enum-told-3 : tie.Need-enum_told-in-Vacuous
 enum-told-3 c = search rules
 
-enum-told-4 : tie.Need-enum-told-4
+enum-told-4 : tie.Need-enum_told-in-Entailed
 enum-told-4 c = search rules
 
-enum-told-5 : tie.Need-enum-told-5
+enum-told-5 : tie.Need-enum_told-in-Unmet
 enum-told-5 c = search rules
 
-enum-known-finding : tie.Need-enum-known-finding
+enum-known-finding : tie.Need-enum_known-finding
 enum-known-finding c = search rules
 
-returns : tie.Need-returns
+returns : tie.Need-returns-in-Satisfied
 returns c = search rules
 
-returns-2 : tie.Need-returns-2
+returns-2 : tie.Need-returns-in-Unsatisfied
 returns-2 c = search rules
 
-returns-3 : tie.Need-returns-3
+returns-3 : tie.Need-returns-in-Vacuous
 returns-3 c = search rules
 
-returns-4 : tie.Need-returns-4
+returns-4 : tie.Need-returns-in-Entailed
 returns-4 c = search rules
 
-returns-5 : tie.Need-returns-5
+returns-5 : tie.Need-returns-in-Unmet
 returns-5 c = search rules
 
-returns-6 : tie.Need-returns-6
-returns-6 c = rw c.before.finding.given.1 refl
+returns-6 : tie.Need-returns-in-Missed
+returns-6 c = rw c.before.finding-1.given.1 refl
 
-pub search-of-spec : {M : Type 1} → statement M
-search-of-spec =
+pub search_of_spec : {M : Type 1} → statement M
+search_of_spec =
     tie.close
     (tie.spec
     enum_told

@@ -7,5 +7,5 @@ use Rattle.entries.proofs.have_common.Tie as tie
 returns : tie.Need-returns
 returns c = common_test c.args.a c.args.b (search rules) (search rules)
 
-pub have-common-spec : {M : Type 1} → statement M
-have-common-spec = tie.close (tie.spec returns)
+pub have_common_spec : {M : Type 1} → statement M
+have_common_spec = tie.close (tie.spec returns)

@@ -16,75 +16,75 @@ use Rattle.words.specs.LowestLaws.{nonzero, lowest_below, without_less}
 use Rattle.entries.proofs.keep_all.Statement.{statement}
 use Rattle.entries.proofs.keep_all.Tie as tie
 
-abbrev invariant-loop : tie.invariant-loop
-invariant-loop terms clauses count turn x met firsts₀ r₀ rest₀ firsts r rest = (rest < 2 ^ 32) × ((k : ℕ) → T (bit rest k) → k < count) × (length firsts ≡ 66)
+abbrev invariant-loop-rest : tie.invariant-loop-rest
+invariant-loop-rest terms clauses count turn x met firsts₀ r₀ rest₀ firsts r rest = (rest < 2 ^ 32) × ((k : ℕ) → T (bit rest k) → k < count) × (length firsts ≡ 66)
     × KeptBut rest count turn (λ i k. bit x k && not (clause_test clauses (λ t. bit (get_or terms t 0) k) (256 + 4 * i))) met firsts₀ r firsts
 
-abbrev decreases-loop : tie.decreases-loop
-decreases-loop terms clauses count turn x met firsts₀ r₀ rest₀ firsts r rest = rest
+abbrev decreases-loop-rest : tie.decreases-loop-rest
+decreases-loop-rest terms clauses count turn x met firsts₀ r₀ rest₀ firsts r rest = rest
 
 -- the lowest bit that is left
-here : (c : tie.After-lowest invariant-loop decreases-loop) → (c.lowest.result < 32) × T (bit c.before.before.loop.rest c.lowest.result)
-here c = lowest_below 32 _ _ (omega arith) c.before.before.loop.invariant.0 c.before.loop-test.true c.lowest.ensures
+here : (c : tie.After-lowest-i invariant-loop-rest decreases-loop-rest) → (c.lowest-i.result < 32) × T (bit c.before.before.loop-rest.rest c.lowest-i.result)
+here c = lowest_below 32 _ _ (omega arith) c.before.before.loop-rest.invariant.0 c.before.loop-rest-test.true c.lowest-i.ensures
 
 -- what is left without it
-out : (c : tie.After-without-lowest invariant-loop decreases-loop) (k : ℕ)
-    → bit c.without-lowest.result k ≡ (bit c.before.before.before.before.before.before.before.loop.rest k && not (eqb k c.before.before.before.before.before.lowest.result))
-out c k = rw c.before.before.before.before.before.lowest.ensures (c.without-lowest.ensures.1 k)
+out : (c : tie.After-without_lowest-rest invariant-loop-rest decreases-loop-rest) (k : ℕ)
+    → bit c.without_lowest-rest.result k ≡ (bit c.before.before.before.before.before.before.before.loop-rest.rest k && not (eqb k c.before.before.before.before.before.lowest-i.result))
+out c k = rw c.before.before.before.before.before.lowest-i.ensures (c.without_lowest-rest.ensures.1 k)
 
-first-bits-requires : tie.Need-first-bits-requires invariant-loop decreases-loop
+first-bits-requires : tie.Need-first_bits-rest-requires invariant-loop-rest decreases-loop-rest
 first-bits-requires c κs = omega (arith, c.before.requires.0.0)
 
-loop-holds : tie.Need-loop-init invariant-loop decreases-loop
+loop-holds : tie.Need-loop-rest-init invariant-loop-rest decreases-loop-rest
 loop-holds c =
     let a = c.before.before.args in
-    let F = c.first_bits.ensures in (
+    let F = c.first_bits-rest.ensures in (
       F.0,
       λ k t. ltb→lt k a.count (and_left (ltb k a.count) _ (subst T (F.1 k) t)),
       c.before.before.requires.0.1,
-      but_start a.count _ _ a.met _ c.first_bits.result
+      but_start a.count _ _ a.met _ c.first_bits-rest.result
           (λ k l. F.1 k ∙ ap₂ ◌&&◌ (lt-ltb k a.count l) (not_bits a.met k (bit a.met k) c.before.before.ranges.met.fits (omega (arith, c.before.before.requires.0.0)) refl)),
     )
 
-lowest-requires : tie.Need-lowest-requires invariant-loop decreases-loop
+lowest-requires : tie.Need-lowest-i-requires invariant-loop-rest decreases-loop-rest
 lowest-requires c κs = tt
 
-keep-one-requires : tie.Need-keep-one-requires invariant-loop decreases-loop
+keep-one-requires : tie.Need-keep_one-r-requires invariant-loop-rest decreases-loop-rest
 keep-one-requires c κs =
     let s = c.before.before.before.before.before.before in
-    let l = c.before.before.before.loop in
+    let l = c.before.before.before.loop-rest in
     let low = here c.before in
-    ((omega (arith, low.0), l.invariant.2), clauses_at s.requires.1 c.before.lowest.result (l.invariant.1 c.before.lowest.result low.1))
+    ((omega (arith, low.0), l.invariant.2), clauses_at s.requires.1 c.before.lowest-i.result (l.invariant.1 c.before.lowest-i.result low.1))
 
-without-lowest-requires : tie.Need-without-lowest-requires invariant-loop decreases-loop
-without-lowest-requires c κs = nonzero _ c.before.before.before.before.before.loop-test.true
+without-lowest-requires : tie.Need-without_lowest-rest-requires invariant-loop-rest decreases-loop-rest
+without-lowest-requires c κs = nonzero _ c.before.before.before.before.before.loop-rest-test.true
 
-loop-less : tie.Need-loop-smaller invariant-loop decreases-loop
-loop-less c = without_less _ _ _ c.without-lowest.ensures.0 (out c) (here c.before.before.before.before.before).1
+loop-less : tie.Need-loop-rest-smaller invariant-loop-rest decreases-loop-rest
+loop-less c = without_less _ _ _ c.without_lowest-rest.ensures.0 (out c) (here c.before.before.before.before.before).1
 
-loop-again : tie.Need-loop-preserved invariant-loop decreases-loop
+loop-again : tie.Need-loop-rest-preserved invariant-loop-rest decreases-loop-rest
 loop-again c =
-    let l = c.before.before.before.before.before.before.before.loop in
+    let l = c.before.before.before.before.before.before.before.loop-rest in
     let low = here c.before.before.before.before.before in
-    let i = c.before.before.before.before.before.lowest.result in (
-      omega (arith, c.without-lowest.ensures.0, l.invariant.0),
+    let i = c.before.before.before.before.before.lowest-i.result in (
+      omega (arith, c.without_lowest-rest.ensures.0, l.invariant.0),
       λ k t. l.invariant.1 k (and_left (bit l.rest k) _ (subst T (out c k) t)),
-      c.before.before.before.keep_one.auto.1.1.1.1.1.1.0 ∙ l.invariant.2,
-      but_more _ _ _ _ _ i l.rest _ l.r l.firsts _ _ (l.invariant.1 i low.1) low.1 (out c) l.invariant.3 c.before.before.before.keep_one.ensures,
+      c.before.before.before.keep_one-r.auto.1.1.1.1.1.1.0 ∙ l.invariant.2,
+      but_more _ _ _ _ _ i l.rest _ l.r l.firsts-1 _ _ (l.invariant.1 i low.1) low.1 (out c) l.invariant.3 c.before.before.before.keep_one-r.ensures,
     )
 
-same_length : tie.Need-same-length invariant-loop decreases-loop
-same_length c = c.before.loop.invariant.2 ∙ sym c.before.before.before.before.requires.0.1
+same_length : tie.Need-shape_of-firsts invariant-loop-rest decreases-loop-rest
+same_length c = c.before.loop-rest.invariant.2 ∙ sym c.before.before.before.before.requires.0.1
 
-returns : tie.Need-returns invariant-loop decreases-loop
-returns c = but_none _ _ _ _ _ c.before.loop.rest _ _ c.loop-test.false c.before.loop.invariant.3
+returns : tie.Need-returns invariant-loop-rest decreases-loop-rest
+returns c = but_none _ _ _ _ _ c.before.loop-rest.rest _ _ c.loop-rest-test.false c.before.loop-rest.invariant.3
 
-pub keep-all-spec : {M : Type 1} → statement M
-keep-all-spec =
+pub keep_all_spec : {M : Type 1} → statement M
+keep_all_spec =
     tie.close
     (tie.spec
-    invariant-loop
-    decreases-loop
+    invariant-loop-rest
+    decreases-loop-rest
     first-bits-requires
     loop-holds
     lowest-requires

@@ -13,49 +13,49 @@ use Rattle.entries.proofs.keep_word.Tie as tie
 digit-requires : tie.Need-digit-requires
 digit-requires c κs = search rules
 
-returns : tie.Need-returns
+returns : tie.Need-returns-then-digit
 returns c =
     let a = c.before.before.before.args in
-    kept_before a.e a.turn _ a.met a.firsts.now (sym c.before.digit.ensures ∙ c.if1.true)
+    kept_before a.e a.turn _ a.met a.firsts.now (sym c.before.digit.ensures ∙ c.if-digit.true)
 
-returns-2 : tie.Need-returns-2
-returns-2 c = kept_none _ _ _ _ _ (λ i l. ap (λ y. bit y i) c.if2.true ∙ bit_zero i)
+returns-2 : tie.Need-returns-then-y-eq0
+returns-2 c = kept_none _ _ _ _ _ (λ i l. ap (λ y. bit y i) c.if-y-eq0.true ∙ bit_zero i)
 
-mul-firsts : tie.Need-overflow-mul-firsts
+mul-firsts : tie.Need-overflow_mul-firsts
 mul-firsts c = search rules
 
-mul-firsts-2 : tie.Need-overflow-mul-firsts-2
+mul-firsts-2 : tie.Need-offset_bounds-firsts-e
 mul-firsts-2 c = search rules
 
-slice-write-firsts : tie.Need-slice-write-firsts
+slice-write-firsts : tie.Need-bounds-firsts-e
 slice-write-firsts c = search rules
 
-mul-firsts-3 : tie.Need-overflow-mul-firsts-3
+mul-firsts-3 : tie.Need-overflow_mul-firsts-2
 mul-firsts-3 c = search rules
 
-add-firsts : tie.Need-overflow-add-firsts
+add-firsts : tie.Need-overflow_add-firsts
 add-firsts c = search rules
 
-mul-firsts-4 : tie.Need-overflow-mul-firsts-4
+mul-firsts-4 : tie.Need-offset_bounds-firsts-e-2
 mul-firsts-4 c = search rules
 
-slice-write-firsts-2 : tie.Need-slice-write-firsts-2
+slice-write-firsts-2 : tie.Need-bounds-firsts-e-2
 slice-write-firsts-2 c = simp length-set (omega arith)
 
-shl-result : tie.Need-overflow-shl-result
+shl-result : tie.Need-overflow_shl-result
 shl-result c = search rules
 
-same_length : tie.Need-same-length
+same_length : tie.Need-shape_of-firsts
 same_length c = search rules
 
-returns-3 : tie.Need-returns-3
+returns-3 : tie.Need-returns
 returns-3 c =
     let a = c.before.before.before.before.args in
     rw (power_shift a.e (omega arith))
-    (kept_found a.e a.turn a.y a.met a.firsts.now (omega arith) (search rules) c.if2.false (sym c.before.before.digit.ensures ∙ c.before.if1.false))
+    (kept_found a.e a.turn a.y a.met a.firsts.now (omega arith) (search rules) c.if-y-eq0.false (sym c.before.before.digit.ensures ∙ c.before.if-digit.false))
 
-pub keep-word-spec : {M : Type 1} → statement M
-keep-word-spec =
+pub keep_word_spec : {M : Type 1} → statement M
+keep_word_spec =
     tie.close
     (tie.spec
     digit-requires

@@ -7,17 +7,17 @@ use Rattle.shares.specs.Shifts.{power_shift}
 use Rattle.entries.proofs.mark_bit.Statement.{statement}
 use Rattle.entries.proofs.mark_bit.Tie as tie
 
-have-common-requires : tie.Need-have-common-requires
+have-common-requires : tie.Need-have_common-requires
 have-common-requires c κs = search rules
 
-shl-result : tie.Need-overflow-shl-result
+shl-result : tie.Need-overflow_shl-result
 shl-result c = search rules
 
-returns : tie.Need-returns
-returns c = rw (power_shift c.before.before.args.i (omega arith)) (bit_added _ _ _ (sym c.before.have-common.ensures ∙ c.if1.true))
+returns : tie.Need-returns-then-have_common
+returns c = rw (power_shift c.before.before.args.i (omega arith)) (bit_added _ _ _ (sym c.before.have_common.ensures ∙ c.if-have_common.true))
 
-returns-2 : tie.Need-returns-2
-returns-2 c = bit_not_added _ _ _ (sym c.before.have-common.ensures ∙ c.if1.false)
+returns-2 : tie.Need-returns
+returns-2 c = bit_not_added _ _ _ (sym c.before.have_common.ensures ∙ c.if-have_common.false)
 
-pub mark-bit-spec : {M : Type 1} → statement M
-mark-bit-spec = tie.close (tie.spec have-common-requires shl-result returns returns-2)
+pub mark_bit_spec : {M : Type 1} → statement M
+mark_bit_spec = tie.close (tie.spec have-common-requires shl-result returns returns-2)

@@ -10,36 +10,36 @@ use Prim.Native.Nat.{◌+◌}
 use Rattle.entries.proofs.mark_of.Statement.{statement}
 use Rattle.entries.proofs.mark_of.Tie as tie
 
-add-word-of : tie.Need-overflow-add-word-of
+add-word-of : tie.Need-overflow_add-j
 add-word-of c = search rules
 
-word-of-requires : tie.Need-word-of-requires
+word-of-requires : tie.Need-word_of-mark-requires
 word-of-requires c κs = search rules
 
-word-of-requires-2 : tie.Need-word-of-requires-2
+word-of-requires-2 : tie.Need-word_of-requires
 word-of-requires-2 c κs = search rules
 
-have-common-requires : tie.Need-have-common-requires
+have-common-requires : tie.Need-have_common-requires
 have-common-requires c κs = search rules
 
-mark-row-requires : tie.Need-mark-row-requires
+mark-row-requires : tie.Need-mark_row-requires
 mark-row-requires c κs = search rules
 
-returns : tie.Need-returns
-returns c i l = rw c.before.before.before.before.word_of.ensures at (c.mark_row.ensures i l)
+returns : tie.Need-returns-then-have_common
+returns c i l = rw c.before.before.before.before.word_of-mark.ensures at (c.mark_row.ensures i l)
 
-returns-2 : tie.Need-returns-2
+returns-2 : tie.Need-returns
 returns-2 c i l =
     let s = c.before.before.before.before.before in
     let a = s.args in
     let rows = a.rows.now in
     let apart : common a.any (get_or rows a.j 0) ≡ false =
-    sym (c.before.have-common.ensures ∙ ap (common a.any) c.before.before.word-of2.ensures) ∙ c.if1.false in
-    ap (λ x. bit x i) c.before.before.before.word_of.ensures
+    sym (c.before.have_common.ensures ∙ ap (common a.any) c.before.before.word_of.ensures) ∙ c.if-have_common.false in
+    ap (λ x. bit x i) c.before.before.before.word_of-mark.ensures
     ∙ sym (ap (λ b. bit (get_or rows (64 + a.j) 0) i || b) (common_none a.count a.any a.j rows s.requires.3 apart i l) ∙ or-false _)
 
-pub mark-of-spec : {M : Type 1} → statement M
-mark-of-spec =
+pub mark_of_spec : {M : Type 1} → statement M
+mark_of_spec =
     tie.close
     (tie.spec
     add-word-of

@@ -15,26 +15,26 @@ use Rattle.words.specs.LowestLaws.{nonzero, lowest_below, without_less, moved_ov
 use Rattle.entries.proofs.mark_row.Statement.{statement}
 use Rattle.entries.proofs.mark_row.Tie as tie
 
-abbrev invariant-loop : tie.invariant-loop
-invariant-loop rows j count mark left r₀ rest₀ r rest = (rest < 2 ^ 32) × ((k : ℕ) → T (bit rest k) → k < count)
+abbrev invariant-loop-rest : tie.invariant-loop-rest
+invariant-loop-rest rows j count mark left r₀ rest₀ r rest = (rest < 2 ^ 32) × ((k : ℕ) → T (bit rest k) → k < count)
     × ((k : ℕ) → k < count → (bit r k || (bit rest k && common (get_or rows (32 + k) 0) (get_or rows j 0))) ≡ (bit mark k || common (get_or rows (32 + k) 0) (get_or rows j 0)))
 
-abbrev decreases-loop : tie.decreases-loop
-decreases-loop rows j count mark left r₀ rest₀ r rest = rest
+abbrev decreases-loop-rest : tie.decreases-loop-rest
+decreases-loop-rest rows j count mark left r₀ rest₀ r rest = rest
 
 -- the lowest bit that is left
-here : (c : tie.After-lowest invariant-loop decreases-loop) → (c.lowest.result < 32) × T (bit c.before.before.loop.rest c.lowest.result)
-here c = lowest_below 32 _ _ (omega arith) c.before.before.loop.invariant.0 c.before.loop-test.true c.lowest.ensures
+here : (c : tie.After-lowest-i invariant-loop-rest decreases-loop-rest) → (c.lowest-i.result < 32) × T (bit c.before.before.loop-rest.rest c.lowest-i.result)
+here c = lowest_below 32 _ _ (omega arith) c.before.before.loop-rest.invariant.0 c.before.loop-rest-test.true c.lowest-i.ensures
 
 -- what is left without it
-out : (c : tie.After-without-lowest invariant-loop decreases-loop) (k : ℕ)
-    → bit c.without-lowest.result k ≡ (bit c.before.before.before.before.before.loop.rest k && not (eqb k c.before.before.before.lowest.result))
-out c k = rw c.before.before.before.lowest.ensures (c.without-lowest.ensures.1 k)
+out : (c : tie.After-without_lowest-rest invariant-loop-rest decreases-loop-rest) (k : ℕ)
+    → bit c.without_lowest-rest.result k ≡ (bit c.before.before.before.before.before.loop-rest.rest k && not (eqb k c.before.before.before.lowest-i.result))
+out c k = rw c.before.before.before.lowest-i.ensures (c.without_lowest-rest.ensures.1 k)
 
-word-of-requires : tie.Need-word-of-requires invariant-loop decreases-loop
+word-of-requires : tie.Need-word_of-left-requires invariant-loop-rest decreases-loop-rest
 word-of-requires c κs = omega arith
 
-first-bits-requires : tie.Need-first-bits-requires invariant-loop decreases-loop
+first-bits-requires : tie.Need-first_bits-rest-requires invariant-loop-rest decreases-loop-rest
 first-bits-requires c κs = omega (arith, c.before.before.requires.1)
 
 -- those that are not set yet are left
@@ -42,11 +42,11 @@ rest_of : (m p : Bool) → (m || (not m && p)) ≡ (m || p)
 rest_of true p = refl
 rest_of false p = refl
 
-loop-holds : tie.Need-loop-init invariant-loop decreases-loop
+loop-holds : tie.Need-loop-rest-init invariant-loop-rest decreases-loop-rest
 loop-holds c =
     let s = c.before.before.before in
     let a = s.args in
-    let F = c.first_bits.ensures in (
+    let F = c.first_bits-rest.ensures in (
       F.0,
       λ k t. ltb→lt k a.count (and_left (ltb k a.count) _ (subst T (F.1 k) t)),
       λ k l.
@@ -55,50 +55,50 @@ loop-holds c =
           ∙ rest_of (bit a.mark k) _,
     )
 
-lowest-requires : tie.Need-lowest-requires invariant-loop decreases-loop
+lowest-requires : tie.Need-lowest-i-requires invariant-loop-rest decreases-loop-rest
 lowest-requires c κs = tt
 
-add-word-of : tie.Need-overflow-add-word-of invariant-loop decreases-loop
+add-word-of : tie.Need-overflow_add-i invariant-loop-rest decreases-loop-rest
 add-word-of c = omega (arith, (here c).0)
 
-word-of-requires-2 : tie.Need-word-of-requires-2 invariant-loop decreases-loop
+word-of-requires-2 : tie.Need-word_of-requires invariant-loop-rest decreases-loop-rest
 word-of-requires-2 c κs = omega (arith, (here c).0, c.before.before.before.before.before.before.requires.2)
 
-mark-bit-requires : tie.Need-mark-bit-requires invariant-loop decreases-loop
+mark-bit-requires : tie.Need-mark_bit-r-requires invariant-loop-rest decreases-loop-rest
 mark-bit-requires c κs = omega (arith, (here c.before).0)
 
-without-lowest-requires : tie.Need-without-lowest-requires invariant-loop decreases-loop
-without-lowest-requires c κs = nonzero _ c.before.before.before.loop-test.true
+without-lowest-requires : tie.Need-without_lowest-rest-requires invariant-loop-rest decreases-loop-rest
+without-lowest-requires c κs = nonzero _ c.before.before.before.loop-rest-test.true
 
-loop-less : tie.Need-loop-smaller invariant-loop decreases-loop
-loop-less c = without_less _ _ _ c.without-lowest.ensures.0 (out c) (here c.before.before.before).1
+loop-less : tie.Need-loop-rest-smaller invariant-loop-rest decreases-loop-rest
+loop-less c = without_less _ _ _ c.without_lowest-rest.ensures.0 (out c) (here c.before.before.before).1
 
-loop-again : tie.Need-loop-preserved invariant-loop decreases-loop
+loop-again : tie.Need-loop-rest-preserved invariant-loop-rest decreases-loop-rest
 loop-again c =
-    let l = c.before.before.before.before.before.loop in
+    let l = c.before.before.before.before.before.loop-rest in
     let a = c.before.before.before.before.before.before.before.before.before.args in
-    let i = c.before.before.before.lowest.result in
+    let i = c.before.before.before.lowest-i.result in
     let low = here c.before.before.before in
     let p : ℕ → Bool = λ k. common (get_or a.rows.now (32 + k) 0) (get_or a.rows.now a.j 0) in
-    let step : (k : ℕ) → bit c.before.mark_bit.result k ≡ (bit l.r k || (eqb k i && p i)) =
-    λ k. rw (c.before.before.word-of2.ensures, c.before.before.before.before.before.before.before.word_of.ensures) at (c.before.mark_bit.ensures k) in (
-      omega (arith, c.without-lowest.ensures.0, l.invariant.0),
+    let step : (k : ℕ) → bit c.before.mark_bit-r.result k ≡ (bit l.r k || (eqb k i && p i)) =
+    λ k. rw (c.before.before.word_of.ensures, c.before.before.before.before.before.before.before.word_of-left.ensures) at (c.before.mark_bit-r.ensures k) in (
+      omega (arith, c.without_lowest-rest.ensures.0, l.invariant.0),
       λ k t. l.invariant.1 k (and_left (bit l.rest k) _ (subst T (out c k) t)),
       λ k m. ap₂ (λ y z. y || (z && p k)) (step k) (out c k) ∙ moved_over (bit l.r) (bit l.rest) p i low.1 k ∙ l.invariant.2 k m,
     )
 
-returns : tie.Need-returns invariant-loop decreases-loop
+returns : tie.Need-returns invariant-loop-rest decreases-loop-rest
 returns c i m =
-    let l = c.before.loop in
+    let l = c.before.loop-rest in
     let a = c.before.before.before.before.before.args in
-    sym (or-false (bit l.r i)) ∙ ap (λ b. bit l.r i || (b && common (get_or a.rows.now (32 + i) 0) (get_or a.rows.now a.j 0))) (sym (ap (λ x. bit x i) c.loop-test.false ∙ bit_zero i)) ∙ l.invariant.2 i m
+    sym (or-false (bit l.r i)) ∙ ap (λ b. bit l.r i || (b && common (get_or a.rows.now (32 + i) 0) (get_or a.rows.now a.j 0))) (sym (ap (λ x. bit x i) c.loop-rest-test.false ∙ bit_zero i)) ∙ l.invariant.2 i m
 
-pub mark-row-spec : {M : Type 1} → statement M
-mark-row-spec =
+pub mark_row_spec : {M : Type 1} → statement M
+mark_row_spec =
     tie.close
     (tie.spec
-    invariant-loop
-    decreases-loop
+    invariant-loop-rest
+    decreases-loop-rest
     word-of-requires
     first-bits-requires
     loop-holds

@@ -18,38 +18,38 @@ use Rattle.extending.specs.LookLaws.{looked_met, leaves_start, leaves_unmet, lea
 use Rattle.extending.proofs.extends.Statement.{statement}
 use Rattle.extending.proofs.extends.Tie as tie
 
-abbrev invariant-loop : tie.invariant-loop
-invariant-loop table clauses constants sizes terms₀ keys wanted₀ b₀ terms wanted b = (b ≤ 32) × (wanted < 2 ^ 64)
+abbrev invariant-loop-b : tie.invariant-loop-b
+invariant-loop-b table clauses constants sizes terms₀ keys wanted₀ b₀ terms wanted b = (b ≤ 32) × (wanted < 2 ^ 64)
     × PlacedWithin sizes.free sizes.own sizes.named terms
     × LeavesLooked (stored_by sizes clauses constants) table b (2 ^ get_or sizes.counts 3 0 - 1) (all_met wanted)
 
-abbrev decreases-loop : tie.decreases-loop
-decreases-loop table clauses constants sizes terms₀ keys wanted₀ b₀ terms wanted b = 32 - b
+abbrev decreases-loop-b : tie.decreases-loop-b
+decreases-loop-b table clauses constants sizes terms₀ keys wanted₀ b₀ terms wanted b = 32 - b
 
-slice-aggregate-start-terms : tie.Need-slice-aggregate-start-terms invariant-loop decreases-loop
+slice-aggregate-start-terms : tie.Need-slice_bounds-start_terms-end invariant-loop-b decreases-loop-b
 slice-aggregate-start-terms c = refl
 
-start-terms-requires : tie.Need-start-terms-requires invariant-loop decreases-loop
+start-terms-requires : tie.Need-start_terms-requires invariant-loop-b decreases-loop-b
 start-terms-requires c κs = (c.before.requires.0.variables, refl, λ t l. get_or-replicate 64 t 0 0 l)
 
-slice-aggregate-put-keys : tie.Need-slice-aggregate-put-keys invariant-loop decreases-loop
+slice-aggregate-put-keys : tie.Need-slice_bounds-put_keys-end invariant-loop-b decreases-loop-b
 slice-aggregate-put-keys c = refl
 
-put-keys-requires : tie.Need-put-keys-requires invariant-loop decreases-loop
+put-keys-requires : tie.Need-put_keys-requires invariant-loop-b decreases-loop-b
 put-keys-requires c κs = (c.before.before.before.before.requires.1, refl)
 
-element-copy-out-wanted : tie.Need-element-copy-out-wanted invariant-loop decreases-loop
+element-copy-out-wanted : tie.Need-bounds-sizes-3 invariant-loop-b decreases-loop-b
 element-copy-out-wanted c = search rules
 
-shl-wanted : tie.Need-overflow-shl-wanted invariant-loop decreases-loop
+shl-wanted : tie.Need-overflow_shl-wanted invariant-loop-b decreases-loop-b
 shl-wanted c = omega (arith, c.before.before.before.before.before.before.before.requires.0.few)
 
-sub-wanted : tie.Need-overflow-sub-wanted invariant-loop decreases-loop
+sub-wanted : tie.Need-overflow_sub-wanted invariant-loop-b decreases-loop-b
 sub-wanted c =
     let s = c.before.before.before.before.before.before.before in
     rw (power_shift (get_or s.args.t3.counts 3 0) (omega (arith, s.requires.0.few))) (pow_pos (get_or s.args.t3.counts 3 0))
 
-loop-holds : tie.Need-loop-init invariant-loop decreases-loop
+loop-holds : tie.Need-loop-b-init invariant-loop-b decreases-loop-b
 loop-holds c =
     let s = c.before.before.before.before.before.before.before in
     let a = s.args in
@@ -57,63 +57,63 @@ loop-holds c =
     let e = power_shift d (omega (arith, s.requires.0.few)) in (
       omega arith,
       rw e (omega (arith, pow-lt {i = d} {j = 64} (omega (arith, s.requires.0.few)))),
-      (0, 0, λ i l. bit_zero i, c.before.before.before.before.before.start-terms.ensures),
+      (0, 0, λ i l. bit_zero i, c.before.before.before.before.before.start_terms.ensures),
       rw e (leaves_start (stored_by a.t3 a.clauses.now a.constants.now) a.table.now (2 ^ d - 1)),
     )
 
-look-leaf-requires : tie.Need-look-leaf-requires invariant-loop decreases-loop
+look-leaf-requires : tie.Need-look_leaf-rest-requires invariant-loop-b decreases-loop-b
 look-leaf-requires c κs =
     let s = c.before.before.before.before.before.before.before.before.before.before.before in
-    let l = c.before.before.before.loop in
-    let keys = c.before.before.before.before.before.before.put-keys.ensures in
+    let l = c.before.before.before.loop-b in
+    let keys = c.before.before.before.before.before.before.put_keys.ensures in
     (s.requires.0, (omega arith, s.requires.1, rw (keys l.b (omega arith)) (values_within _ _ _ _ _), l.invariant.2))
 
-returns : tie.Need-returns invariant-loop decreases-loop
+returns : tie.Need-returns-then-not-rest invariant-loop-b decreases-loop-b
 returns c =
     let s = c.before.before.before.before.before.before.before.before.before.before.before.before.before.before in
     let a = s.args in
-    let l = c.before.before.before.before.before.before.loop in
-    let keys = c.before.before.before.before.before.before.before.before.before.put-keys.ensures in
+    let l = c.before.before.before.before.before.before.loop-b in
+    let keys = c.before.before.before.before.before.before.before.before.before.put_keys.ensures in
     let S = stored_by a.t3 a.clauses.now a.constants.now in
-    let looked = c.before.before.look-leaf in
-    sym (leaves_unmet S a.table.now (l.b + 1) (2 ^ get_or a.t3.counts 3 0 - 1) looked.result (subst (λ b. T b) (sym c.if1.true) tt)
+    let looked = c.before.before.look_leaf-rest in
+    sym (leaves_unmet S a.table.now (l.b + 1) (2 ^ get_or a.t3.counts 3 0 - 1) looked.result (subst (λ b. T b) (sym c.if-not-rest.true) tt)
     (looked.ensures.1 a.constants.now (2 ^ get_or a.t3.counts 3 0 - 1) keys l.invariant.3))
 
-add-b : tie.Need-overflow-add-b invariant-loop decreases-loop
+add-b : tie.Need-overflow_add-b invariant-loop-b decreases-loop-b
 add-b c = omega arith
 
-loop-less : tie.Need-loop-smaller invariant-loop decreases-loop
+loop-less : tie.Need-loop-b-smaller invariant-loop-b decreases-loop-b
 loop-less c = omega arith
 
-loop-again : tie.Need-loop-preserved invariant-loop decreases-loop
+loop-again : tie.Need-loop-b-preserved invariant-loop-b decreases-loop-b
 loop-again c =
     let s = c.before.before.before.before.before.before.before.before.before.before.before.before.before.before in
     let a = s.args in
-    let l = c.before.before.before.before.before.before.loop in
-    let keys = c.before.before.before.before.before.before.before.before.before.put-keys.ensures in
+    let l = c.before.before.before.before.before.before.loop-b in
+    let keys = c.before.before.before.before.before.before.before.before.before.put_keys.ensures in
     let S = stored_by a.t3 a.clauses.now a.constants.now in
-    let looked = c.before.before.look-leaf in (
+    let looked = c.before.before.look_leaf-rest in (
       omega arith,
       omega arith,
       looked.ensures.0,
-      looked_met _ _ _ _ _ looked.result (holds looked.result.met (λ u. T_not (not looked.result.met) (of_false c.if1.false) u))
+      looked_met _ _ _ _ _ looked.result (holds looked.result.met (λ u. T_not (not looked.result.met) (of_false c.if-not-rest.false) u))
           (looked.ensures.1 a.constants.now (2 ^ get_or a.t3.counts 3 0 - 1) keys l.invariant.3),
     )
 
-returns-2 : tie.Need-returns-2 invariant-loop decreases-loop
+returns-2 : tie.Need-returns invariant-loop-b decreases-loop-b
 returns-2 c =
     let s = c.before.before.before.before.before.before.before.before.before in
     let a = s.args in
-    let l = c.before.loop in
-    leaves_all (stored_by a.t3 a.clauses.now a.constants.now) a.table.now l.b l.wanted c.loop-test.false (omega (arith, s.requires.0.few))
+    let l = c.before.loop-b in
+    leaves_all (stored_by a.t3 a.clauses.now a.constants.now) a.table.now l.b l.wanted-1 c.loop-b-test.false (omega (arith, s.requires.0.few))
     l.invariant.1 l.invariant.3
 
-pub extends-spec : {M : Type 1} → statement M
-extends-spec =
+pub extends_spec : {M : Type 1} → statement M
+extends_spec =
     tie.close
     (tie.spec
-    invariant-loop
-    decreases-loop
+    invariant-loop-b
+    decreases-loop-b
     slice-aggregate-start-terms
     start-terms-requires
     slice-aggregate-put-keys

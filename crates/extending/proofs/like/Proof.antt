@@ -3,11 +3,11 @@ use Rattle.extending.specs.WordLaws.{like_set, like_unset}
 use Rattle.extending.proofs.like.Statement.{statement}
 use Rattle.extending.proofs.like.Tie as tie
 
-returns : tie.Need-returns
-returns c k h = like_set c.before.args.x k _ c.if1.true
+returns : tie.Need-returns-then-digit
+returns c k h = like_set c.before.args.x k _ c.if-digit.true
 
-returns-2 : tie.Need-returns-2
-returns-2 c k h = like_unset c.before.args.x k _ c.before.ranges.x.fits h c.if1.false
+returns-2 : tie.Need-returns-else-digit
+returns-2 c k h = like_unset c.before.args.x k _ c.before.ranges.x.fits h c.if-digit.false
 
-pub like-spec : {M : Type 1} → statement M
-like-spec = tie.close (tie.spec returns returns-2)
+pub like_spec : {M : Type 1} → statement M
+like_spec = tie.close (tie.spec returns returns-2)

@@ -10,47 +10,47 @@ use Rattle.extending.specs.LookLaws.{leaf_known, leaf_looked}
 use Rattle.extending.proofs.look_leaf.Statement.{statement}
 use Rattle.extending.proofs.look_leaf.Tie as tie
 
-mul-first-like : tie.Need-overflow-mul-first-like
+mul-first-like : tie.Need-offset_bounds-keys-b
 mul-first-like c = search rules
 
-element-copy-out-first-like : tie.Need-element-copy-out-first-like
+element-copy-out-first-like : tie.Need-bounds-keys-b
 element-copy-out-first-like c = search rules
 
-first-like-requires : tie.Need-first-like-requires
+first-like-requires : tie.Need-first_like-requires
 first-like-requires c κs = search rules
 
-returns : tie.Need-returns
+returns : tie.Need-returns-then-first_like-b
 returns c =
     let s = c.before.before.before in
     let a = s.args in (
       s.requires.1.3,
       λ constants start K L.
           leaf_known (stored_by a.sizes a.clauses.now constants) a.table.now a.keys.now a.b start a.wanted s.requires.1.0 K L
-          c.before.first-like.result c.if1.true (c.before.first-like.ensures.1 c.if1.true),
+          c.before.first_like.result c.if-first_like-b.true (c.before.first_like.ensures.1 c.if-first_like-b.true),
     )
 
-slice-aggregate-mark-alike : tie.Need-slice-aggregate-mark-alike
+slice-aggregate-mark-alike : tie.Need-slice_bounds-mark_alike-end
 slice-aggregate-mark-alike c = search rules
 
-mark-alike-requires : tie.Need-mark-alike-requires
+mark-alike-requires : tie.Need-mark_alike-requires
 mark-alike-requires c κs = search rules
 
-mul-values-of : tie.Need-overflow-mul-values-of
+mul-values-of : tie.Need-offset_bounds-keys-b-2
 mul-values-of c = search rules
 
-element-copy-out-values-of : tie.Need-element-copy-out-values-of
+element-copy-out-values-of : tie.Need-bounds-keys-b-2
 element-copy-out-values-of c = search rules
 
-values-of-requires : tie.Need-values-of-requires
+values-of-requires : tie.Need-values_of-requires
 values-of-requires c κs = search rules
 
-set-constants-requires : tie.Need-set-constants-requires
+set-constants-requires : tie.Need-set_constants-requires
 set-constants-requires c κs = search rules
 
-look-words-requires : tie.Need-look-words-requires
+look-words-requires : tie.Need-look_words-requires
 look-words-requires c κs = search rules
 
-returns-2 : tie.Need-returns-2
+returns-2 : tie.Need-returns
 returns-2 c =
     let s = c.before.before.before.before.before.before.before.before.before.before.before.before.before in
     let a = s.args in
@@ -58,17 +58,17 @@ returns-2 c =
     let values = c.before.before.before.before.before.values_of.result in
     let same : values ≡ get_or a.keys.now a.b 0 = c.before.before.before.before.before.values_of.ensures in
     let inside : Within a.sizes.named values = rw same s.requires.1.2 in
-    let placed = c.before.before.before.set-constants.ensures a.sizes.free a.sizes.own old v s.requires.0.variables within inside t in
-    let looked = c.look-words.ensures in (
+    let placed = c.before.before.before.set_constants.ensures a.sizes.free a.sizes.own old v s.requires.0.variables within inside t in
+    let looked = c.look_words.ensures in (
       (let (u, w) = (looked [] values v placed).0 in (values, u, inside, w)),
       λ constants start K L.
           leaf_looked (stored_by a.sizes a.clauses.now constants) a.table.now a.keys.now a.b start a.wanted s.requires.1.0 K L 64 _ _
-          (omega (arith, s.requires.0.few)) c.before.before.before.before.before.before.before.before.mark-alike.ensures
+          (omega (arith, s.requires.0.few)) c.before.before.before.before.before.before.before.before.mark_alike.ensures
           (rw same at (looked constants values v placed).1),
     )
 
-pub look-leaf-spec : {M : Type 1} → statement M
-look-leaf-spec =
+pub look_leaf_spec : {M : Type 1} → statement M
+look_leaf_spec =
     tie.close
     (tie.spec
     mul-first-like

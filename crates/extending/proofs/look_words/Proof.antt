@@ -15,76 +15,76 @@ use Rattle.extending.specs.LookLaws.{words_start, words_more, looked_wider}
 use Rattle.extending.proofs.look_words.Statement.{statement}
 use Rattle.extending.proofs.look_words.Tie as tie
 
-abbrev invariant-loop : tie.invariant-loop
-invariant-loop terms₀ clauses sizes present wanted words rest₀ w₀ terms rest w = (w ≤ words) × T rest.met
+abbrev invariant-loop-w : tie.invariant-loop-w
+invariant-loop-w terms₀ clauses sizes present wanted words rest₀ w₀ terms rest w = (w ≤ words) × T rest.met
     × ((constants : List ℕ) (values v : ℕ) → Terms sizes.free sizes.own values v terms₀
     → ((u : ℕ) × Terms sizes.free sizes.own values u terms) × ChoicesLooked (stored_by sizes clauses constants) values (InWords w present) wanted rest)
 
-abbrev decreases-loop : tie.decreases-loop
-decreases-loop terms₀ clauses sizes present wanted words rest₀ w₀ terms rest w = words - w
+abbrev decreases-loop-w : tie.decreases-loop-w
+decreases-loop-w terms₀ clauses sizes present wanted words rest₀ w₀ terms rest w = words - w
 
-word-count-requires : tie.Need-word-count-requires invariant-loop decreases-loop
+word-count-requires : tie.Need-word_count-words-requires invariant-loop-w decreases-loop-w
 word-count-requires c κs = omega (arith, c.requires.variables)
 
-loop-holds : tie.Need-loop-init invariant-loop decreases-loop
+loop-holds : tie.Need-loop-w-init invariant-loop-w decreases-loop-w
 loop-holds c =
     let a = c.before.args in
     (omega arith, tt, λ constants values v t. ((v, t), words_start _ _ _ a.present.now a.wanted))
 
-mul-look-word : tie.Need-overflow-mul-look-word invariant-loop decreases-loop
+mul-look-word : tie.Need-offset_bounds-present-w invariant-loop-w decreases-loop-w
 mul-look-word c =
     let s = c.before.before.before.before in
-    omega (arith, c.before.before.before.word_count.ensures, words_le s.args.sizes.free (omega (arith, s.requires.variables)))
+    omega (arith, c.before.before.before.word_count-words.ensures, words_le s.args.sizes.free (omega (arith, s.requires.variables)))
 
-element-copy-out-look-word : tie.Need-element-copy-out-look-word invariant-loop decreases-loop
+element-copy-out-look-word : tie.Need-bounds-present-w invariant-loop-w decreases-loop-w
 element-copy-out-look-word c =
     let s = c.before.before.before.before in
-    omega (arith, c.before.before.before.word_count.ensures, words_le s.args.sizes.free (omega (arith, s.requires.variables)))
+    omega (arith, c.before.before.before.word_count-words.ensures, words_le s.args.sizes.free (omega (arith, s.requires.variables)))
 
-look-word-requires : tie.Need-look-word-requires invariant-loop decreases-loop
-look-word-requires c κs = (c.before.before.before.before.before.requires, omega (arith, c.before.before.before.before.word_count.ensures))
+look-word-requires : tie.Need-look_word-rest-requires invariant-loop-w decreases-loop-w
+look-word-requires c κs = (c.before.before.before.before.before.requires, omega (arith, c.before.before.before.before.word_count-words.ensures))
 
-returns : tie.Need-returns invariant-loop decreases-loop
+returns : tie.Need-returns-then-not-rest invariant-loop-w decreases-loop-w
 returns c constants values v t =
     let s = c.before.before.before.before.before.before.before.before in
-    let l = c.before.before.before.before.before.before.loop in
+    let l = c.before.before.before.before.before.before.loop-w in
     let ((u, m), L) = l.invariant.2 constants values v t in
-    let (placed, M) = c.before.before.look-word.ensures constants values u m in (
+    let (placed, M) = c.before.before.look_word-rest.ensures constants values u m in (
       placed,
-      looked_wider _ _ _ (InWords (l.w + 1) s.args.present.now) _ _ _ (subst (λ b. T b) (sym c.if1.true) tt)
-          (λ d (h, q). (omega (arith, c.before.before.before.before.before.before.before.word_count.ensures), q))
+      looked_wider _ _ _ (InWords (l.w + 1) s.args.present.now) _ _ _ (subst (λ b. T b) (sym c.if-not-rest.true) tt)
+          (λ d (h, q). (omega (arith, c.before.before.before.before.before.before.before.word_count-words.ensures), q))
           (words_more _ _ _ s.args.present.now s.args.wanted l.w l.rest _ (omega (arith, s.requires.few)) l.invariant.1 L M),
     )
 
-add-w : tie.Need-overflow-add-w invariant-loop decreases-loop
+add-w : tie.Need-overflow_add-w invariant-loop-w decreases-loop-w
 add-w c = omega arith
 
-loop-less : tie.Need-loop-smaller invariant-loop decreases-loop
+loop-less : tie.Need-loop-w-smaller invariant-loop-w decreases-loop-w
 loop-less c = omega arith
 
-loop-again : tie.Need-loop-preserved invariant-loop decreases-loop
+loop-again : tie.Need-loop-w-preserved invariant-loop-w decreases-loop-w
 loop-again c =
     let s = c.before.before.before.before.before.before.before.before in
-    let l = c.before.before.before.before.before.before.loop in (
+    let l = c.before.before.before.before.before.before.loop-w in (
       omega arith,
-      holds c.before.before.look-word.result.met (λ u. T_not (not c.before.before.look-word.result.met) (of_false c.if1.false) u),
+      holds c.before.before.look_word-rest.result.met (λ u. T_not (not c.before.before.look_word-rest.result.met) (of_false c.if-not-rest.false) u),
       λ constants values v t.
           (let ((u, m), L) = l.invariant.2 constants values v t in
-          let (placed, M) = c.before.before.look-word.ensures constants values u m in
+          let (placed, M) = c.before.before.look_word-rest.ensures constants values u m in
           (placed, words_more _ _ _ s.args.present.now s.args.wanted l.w l.rest _ (omega (arith, s.requires.few)) l.invariant.1 L M)),
     )
 
-returns-2 : tie.Need-returns-2 invariant-loop decreases-loop
+returns-2 : tie.Need-returns invariant-loop-w decreases-loop-w
 returns-2 c =
-    let e : c.before.loop.w ≡ word_count c.before.before.before.args.sizes.free = omega (arith, c.before.before.word_count.ensures) in
-    rw e at c.before.loop.invariant.2
+    let e : c.before.loop-w.w ≡ word_count c.before.before.before.args.sizes.free = omega (arith, c.before.before.word_count-words.ensures) in
+    rw e at c.before.loop-w.invariant.2
 
-pub look-words-spec : {M : Type 1} → statement M
-look-words-spec =
+pub look_words_spec : {M : Type 1} → statement M
+look_words_spec =
     tie.close
     (tie.spec
-    invariant-loop
-    decreases-loop
+    invariant-loop-w
+    decreases-loop-w
     word-count-requires
     loop-holds
     mul-look-word

@@ -11,76 +11,76 @@ use Rattle.extending.specs.MarkLaws.{AlikeTo, alike_start, alike_other, alike_mo
 use Rattle.extending.proofs.mark_alike.Statement.{statement}
 use Rattle.extending.proofs.mark_alike.Tie as tie
 
-abbrev invariant-loop : tie.invariant-loop
-invariant-loop table free keys b present₀ a₀ present a =
+abbrev invariant-loop-a : tie.invariant-loop-a
+invariant-loop-a table free keys b present₀ a₀ present a =
     (b ≤ a) × (a ≤ 32) × (length present ≡ length present₀) × Added (choice_at constant_levels table free) (AlikeTo constant_levels keys b a) present₀ present
 
-abbrev decreases-loop : tie.decreases-loop
-decreases-loop table free keys b present₀ a₀ present a = 32 - a
+abbrev decreases-loop-a : tie.decreases-loop-a
+decreases-loop-a table free keys b present₀ a₀ present a = 32 - a
 
-loop-holds : tie.Need-loop-init invariant-loop decreases-loop
-loop-holds c = let a = c.before.args in (omega arith, omega arith, refl, alike_start constant_levels a.table.now a.keys.now a.free a.b a.present.now)
+loop-holds : tie.Need-loop-a-init invariant-loop-a decreases-loop-a
+loop-holds c = let a = c.before.args in (omega arith, omega arith, refl, alike_start constant_levels a.table.now a.keys.now a.free a.b a.present-1.now)
 
-mul-if1 : tie.Need-overflow-mul-if1 invariant-loop decreases-loop
+mul-if1 : tie.Need-offset_bounds-keys-a invariant-loop-a decreases-loop-a
 mul-if1 c = omega arith
 
-element-copy-out-if1 : tie.Need-element-copy-out-if1 invariant-loop decreases-loop
+element-copy-out-if1 : tie.Need-bounds-keys-a invariant-loop-a decreases-loop-a
 element-copy-out-if1 c = omega arith
 
-mul-if1-2 : tie.Need-overflow-mul-if1-2 invariant-loop decreases-loop
+mul-if1-2 : tie.Need-offset_bounds-keys-b invariant-loop-a decreases-loop-a
 mul-if1-2 c = omega arith
 
-element-copy-out-if1-2 : tie.Need-element-copy-out-if1-2 invariant-loop decreases-loop
+element-copy-out-if1-2 : tie.Need-bounds-keys-b invariant-loop-a decreases-loop-a
 element-copy-out-if1-2 c = omega arith
 
-half-requires : tie.Need-half-requires invariant-loop decreases-loop
+half-requires : tie.Need-half-requires invariant-loop-a decreases-loop-a
 half-requires c κs = tt
 
-mark-word-requires : tie.Need-mark-word-requires invariant-loop decreases-loop
+mark-word-requires : tie.Need-mark_word-requires invariant-loop-a decreases-loop-a
 mark-word-requires c κs = (omega arith, omega arith, omega arith)
 
-add_a : tie.Need-overflow-add-a invariant-loop decreases-loop
+add_a : tie.Need-overflow_add-a invariant-loop-a decreases-loop-a
 add_a c = omega arith
 
-loop-less : tie.Need-loop-smaller invariant-loop decreases-loop
+loop-less : tie.Need-loop-a-smaller invariant-loop-a decreases-loop-a
 loop-less c = omega arith
 
-loop-again : tie.Need-loop-preserved invariant-loop decreases-loop
+loop-again : tie.Need-loop-a-preserved invariant-loop-a decreases-loop-a
 loop-again c =
     let a = c.before.before.before.before.before.before.args in
-    let l = c.before.before.before.before.loop in
+    let l = c.before.before.before.before.loop-a in
     ⊎_elim
     (λ w. (
       omega arith,
       omega arith,
       rw w.6 (w.3.kept.1.1.1.1.0 ∙ l.invariant.2),
       rw w.6
-          (alike_more constant_levels a.table.now a.keys.now a.free a.b l.a w.1.result a.present.now l.present _ l.invariant.0 (omega arith)
+          (alike_more constant_levels a.table.now a.keys.now a.free a.b l.a w.1.result a.present-1.now l.present-1 _ l.invariant.0 (omega arith)
           w.0.taken w.1.ensures l.invariant.3 w.3.ensures),
     ))
     (λ w. (
       omega arith,
       omega arith,
       rw w.1 l.invariant.2,
-      rw w.1 (alike_other constant_levels a.table.now a.keys.now a.free a.b l.a a.present.now l.present w.0.left l.invariant.3),
+      rw w.1 (alike_other constant_levels a.table.now a.keys.now a.free a.b l.a a.present-1.now l.present-1 w.0.left l.invariant.3),
     ))
-    c.if1.branch
+    c.if-keys-a.branch
 
-same_length : tie.Need-same-length invariant-loop decreases-loop
-same_length c = c.before.loop.invariant.2
+same_length : tie.Need-shape_of-present invariant-loop-a decreases-loop-a
+same_length c = c.before.loop-a.invariant.2
 
-returns : tie.Need-returns invariant-loop decreases-loop
+returns : tie.Need-returns invariant-loop-a decreases-loop-a
 returns c =
     let a = c.before.before.before.args in
-    let l = c.before.loop in
-    alike_done constant_levels a.table.now a.keys.now a.free a.b l.a a.present.now l.present c.loop-test.false l.invariant.3
+    let l = c.before.loop-a in
+    alike_done constant_levels a.table.now a.keys.now a.free a.b l.a a.present-1.now l.present-1 c.loop-a-test.false l.invariant.3
 
-pub mark-alike-spec : {M : Type 1} → statement M
-mark-alike-spec =
+pub mark_alike_spec : {M : Type 1} → statement M
+mark_alike_spec =
     tie.close
     (tie.spec
-    invariant-loop
-    decreases-loop
+    invariant-loop-a
+    decreases-loop-a
     loop-holds
     mul-if1
     element-copy-out-if1

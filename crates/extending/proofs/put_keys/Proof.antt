@@ -9,53 +9,53 @@ use Rattle.pass.specs.PassLaws.{keys_more}
 use Rattle.extending.proofs.put_keys.Statement.{statement}
 use Rattle.extending.proofs.put_keys.Tie as tie
 
-abbrev invariant-loop : tie.invariant-loop
-invariant-loop constants named keys₀ b₀ keys b =
+abbrev invariant-loop-b : tie.invariant-loop-b
+invariant-loop-b constants named keys₀ b₀ keys b =
     (b ≤ 32) × (length keys ≡ length keys₀) × ((a : ℕ) → a < b → get_or keys a 0 ≡ values_at constant_levels constants named constant_levels a)
 
-abbrev decreases-loop : tie.decreases-loop
-decreases-loop constants named keys₀ b₀ keys b = 32 - b
+abbrev decreases-loop-b : tie.decreases-loop-b
+decreases-loop-b constants named keys₀ b₀ keys b = 32 - b
 
-loop-holds : tie.Need-loop-init invariant-loop decreases-loop
+loop-holds : tie.Need-loop-b-init invariant-loop-b decreases-loop-b
 loop-holds c = (omega arith, refl, λ a l. absurd (omega arith))
 
-values-at-requires : tie.Need-values-at-requires invariant-loop decreases-loop
+values-at-requires : tie.Need-values_at-requires invariant-loop-b decreases-loop-b
 values-at-requires c κs = (omega arith, omega arith, omega arith)
 
-mul-keys : tie.Need-overflow-mul-keys invariant-loop decreases-loop
+mul-keys : tie.Need-offset_bounds-keys-b invariant-loop-b decreases-loop-b
 mul-keys c = omega arith
 
-slice-write-keys : tie.Need-slice-write-keys invariant-loop decreases-loop
+slice-write-keys : tie.Need-bounds-keys-b invariant-loop-b decreases-loop-b
 slice-write-keys c = omega arith
 
-add-b : tie.Need-overflow-add-b invariant-loop decreases-loop
+add-b : tie.Need-overflow_add-b invariant-loop-b decreases-loop-b
 add-b c = omega arith
 
-loop-less : tie.Need-loop-smaller invariant-loop decreases-loop
+loop-less : tie.Need-loop-b-smaller invariant-loop-b decreases-loop-b
 loop-less c = omega arith
 
-loop-again : tie.Need-loop-preserved invariant-loop decreases-loop
+loop-again : tie.Need-loop-b-preserved invariant-loop-b decreases-loop-b
 loop-again c =
     let a = c.before.before.before.before.args in
-    let l = c.before.before.loop in (
+    let l = c.before.before.loop-b in (
       omega arith,
       simp length-set l.invariant.1,
-      keys_more (values_at constant_levels a.constants.now a.named constant_levels) l.keys l.b c.values-at.result (omega arith)
-          c.values-at.ensures l.invariant.2,
+      keys_more (values_at constant_levels a.constants.now a.named constant_levels) l.keys l.b c.values_at.result (omega arith)
+          c.values_at.ensures l.invariant.2,
     )
 
-same_length : tie.Need-same-length invariant-loop decreases-loop
-same_length c = c.before.loop.invariant.1
+same_length : tie.Need-shape_of-keys invariant-loop-b decreases-loop-b
+same_length c = c.before.loop-b.invariant.1
 
-returns : tie.Need-returns invariant-loop decreases-loop
-returns c a h = c.before.loop.invariant.2 a (omega arith)
+returns : tie.Need-returns invariant-loop-b decreases-loop-b
+returns c a h = c.before.loop-b.invariant.2 a (omega arith)
 
-pub put-keys-spec : {M : Type 1} → statement M
-put-keys-spec =
+pub put_keys_spec : {M : Type 1} → statement M
+put_keys_spec =
     tie.close
     (tie.spec
-    invariant-loop
-    decreases-loop
+    invariant-loop-b
+    decreases-loop-b
     loop-holds
     values-at-requires
     mul-keys

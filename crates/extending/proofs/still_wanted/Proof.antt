@@ -6,45 +6,45 @@ use Rattle.extending.specs.WordLaws.{StillTo, still_start, still_more}
 use Rattle.extending.proofs.still_wanted.Statement.{statement}
 use Rattle.extending.proofs.still_wanted.Tie as tie
 
-abbrev invariant-loop : tie.invariant-loop
-invariant-loop x wanted left count r₀ j₀ r j = (j ≤ count) × StillTo x wanted left j r
+abbrev invariant-loop-j : tie.invariant-loop-j
+invariant-loop-j x wanted left count r₀ j₀ r j = (j ≤ count) × StillTo x wanted left j r
 
-abbrev decreases-loop : tie.decreases-loop
-decreases-loop x wanted left count r₀ j₀ r j = count - j
+abbrev decreases-loop-j : tie.decreases-loop-j
+decreases-loop-j x wanted left count r₀ j₀ r j = count - j
 
-loop-holds : tie.Need-loop-init invariant-loop decreases-loop
+loop-holds : tie.Need-loop-j-init invariant-loop-j decreases-loop-j
 loop-holds c = (omega arith, still_start c.args.x c.args.wanted c.args.left.now)
 
-mul-unless-same : tie.Need-overflow-mul-unless-same invariant-loop decreases-loop
+mul-unless-same : tie.Need-offset_bounds-left-j invariant-loop-j decreases-loop-j
 mul-unless-same c = omega arith
 
-element-copy-out-unless-same : tie.Need-element-copy-out-unless-same invariant-loop decreases-loop
+element-copy-out-unless-same : tie.Need-bounds-left-j invariant-loop-j decreases-loop-j
 element-copy-out-unless-same c = omega arith
 
-unless-same-requires : tie.Need-unless-same-requires invariant-loop decreases-loop
+unless-same-requires : tie.Need-unless_same-r-requires invariant-loop-j decreases-loop-j
 unless-same-requires c κs = omega arith
 
-add-j : tie.Need-overflow-add-j invariant-loop decreases-loop
+add-j : tie.Need-overflow_add-j invariant-loop-j decreases-loop-j
 add-j c = omega arith
 
-loop-less : tie.Need-loop-smaller invariant-loop decreases-loop
+loop-less : tie.Need-loop-j-smaller invariant-loop-j decreases-loop-j
 loop-less c = omega arith
 
-loop-again : tie.Need-loop-preserved invariant-loop decreases-loop
+loop-again : tie.Need-loop-j-preserved invariant-loop-j decreases-loop-j
 loop-again c =
     let a = c.before.before.before.before.args in
-    let l = c.before.before.before.loop in
-    (omega arith, still_more a.x a.wanted a.left.now l.j l.r c.unless-same.result c.unless-same.ensures l.invariant.1)
+    let l = c.before.before.before.loop-j in
+    (omega arith, still_more a.x a.wanted a.left.now l.j l.r c.unless_same-r.result c.unless_same-r.ensures l.invariant.1)
 
-returns : tie.Need-returns invariant-loop decreases-loop
-returns c = let e : c.before.loop.j ≡ c.before.before.args.count = omega arith in rw e at c.before.loop.invariant.1
+returns : tie.Need-returns invariant-loop-j decreases-loop-j
+returns c = let e : c.before.loop-j.j ≡ c.before.before.args.count = omega arith in rw e at c.before.loop-j.invariant.1
 
-pub still-wanted-spec : {M : Type 1} → statement M
-still-wanted-spec =
+pub still_wanted_spec : {M : Type 1} → statement M
+still_wanted_spec =
     tie.close
     (tie.spec
-    invariant-loop
-    decreases-loop
+    invariant-loop-j
+    decreases-loop-j
     loop-holds
     mul-unless-same
     element-copy-out-unless-same

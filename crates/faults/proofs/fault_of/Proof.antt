@@ -6,64 +6,64 @@ use Rattle.faults.proofs.ClauseFacts.{clause_judged}
 use Rattle.faults.proofs.fault_of.Statement.{statement}
 use Rattle.faults.proofs.fault_of.Tie as tie
 
-enum_told : tie.Need-enum-told
+enum_told : tie.Need-enum_told-1
 enum_told c = search rules
 
-enum-told-2 : tie.Need-enum-told-2
+enum-told-2 : tie.Need-enum_told-in-Head
 enum-told-2 c = search rules
 
-enum-told-3 : tie.Need-enum-told-3
+enum-told-3 : tie.Need-enum_told-in-Constant
 enum-told-3 c = search rules
 
-clause-total-requires : tie.Need-clause-total-requires
+clause-total-requires : tie.Need-clause_total-total-requires
 clause-total-requires c κs = search rules
 
-constant-fault-requires : tie.Need-constant-fault-requires
+constant-fault-requires : tie.Need-constant_fault-requires
 constant-fault-requires c κs = search rules
 
-enum-known-command : tie.Need-enum-known-command
+enum-known-command : tie.Need-enum_known-command
 enum-known-command c = search rules
 
-section-count-requires : tie.Need-section-count-requires
+section-count-requires : tie.Need-section_count-count-requires
 section-count-requires c κs = search rules
 
-variables-for-requires : tie.Need-variables-for-requires
+variables-for-requires : tie.Need-variables_for-variables-requires
 variables-for-requires c κs = search rules
 
-all-named-requires : tie.Need-all-named-requires
+all-named-requires : tie.Need-all_named-named-requires
 all-named-requires c κs = search rules
 
-is-foreign-requires : tie.Need-is-foreign-requires
+is-foreign-requires : tie.Need-is_foreign-requires
 is-foreign-requires c κs = search rules
 
-most-of-requires : tie.Need-most-of-requires
+most-of-requires : tie.Need-most_of-requires
 most-of-requires c κs = search rules
 
-clause-fault-requires : tie.Need-clause-fault-requires
+clause-fault-requires : tie.Need-clause_fault-requires
 clause-fault-requires c κs = search rules
 
-returns : tie.Need-returns
+returns : tie.Need-returns-in-End
 unfolding fault_of
-returns c = rw c.enum_told.given.1 refl
+returns c = rw c.enum_told-1.given.1 refl
 
-returns-2 : tie.Need-returns-2
+returns-2 : tie.Need-returns-in-Head
 unfolding fault_of
-returns-2 c = rw c.enum-told2.given.1 refl
+returns-2 c = rw c.enum_told-in-Head-1.given.1 refl
 
-returns-3 : tie.Need-returns-3
+returns-3 : tie.Need-returns-in-Constant
 unfolding fault_of
-returns-3 c = rw (c.before.before.enum-told3.given.1, ← c.before.clause-total.ensures) c.constant-fault.ensures
+returns-3 c = rw (c.before.before.enum_told-in-Constant-1.given.1, ← c.before.clause_total-total.ensures) c.constant_fault.ensures
 
-returns-4 : tie.Need-returns-4
+returns-4 : tie.Need-returns-in-Clause
 returns-4 c =
     let command = c.before.before.before.before.before.before.before in
     let a = command.before.before.args in
-    c.clause-fault.ensures
-    ∙ clause_judged a.kind a.free a.own a.constants a.counts.now command.command.given.0.0 _ _ _ _ c.before.before.is-foreign.ensures c.before.most-of.ensures c.before.before.before.before.before.section_count.ensures c.before.before.before.before.variables-for.ensures c.before.before.before.all_named.ensures
-    ∙ ap (fault_of a.kind a.free a.own a.constants a.counts.now) (sym command.command.given.1)
+    c.clause_fault.ensures
+    ∙ clause_judged a.kind a.free a.own a.constants a.counts.now command.command-1.given.0.0 _ _ _ _ c.before.before.is_foreign.ensures c.before.most_of.ensures c.before.before.before.before.before.section_count-count.ensures c.before.before.before.before.variables_for-variables.ensures c.before.before.before.all_named-named.ensures
+    ∙ ap (fault_of a.kind a.free a.own a.constants a.counts.now) (sym command.command-1.given.1)
 
-pub fault-of-spec : {M : Type 1} → statement M
-fault-of-spec =
+pub fault_of_spec : {M : Type 1} → statement M
+fault_of_spec =
     tie.close
     (tie.spec
     enum_told

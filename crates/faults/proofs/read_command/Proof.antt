@@ -4,31 +4,31 @@ use borrow.Author.Rules.{rules}
 use Rattle.faults.proofs.read_command.Statement.{statement}
 use Rattle.faults.proofs.read_command.Tie as tie
 
-read-at-requires : tie.Need-read-at-requires
+read-at-requires : tie.Need-read_at-r-requires
 read-at-requires c κs = search rules
 
-enum-known-r : tie.Need-enum-known-r
+enum-known-r : tie.Need-enum_known-r
 enum-known-r c = search rules
 
-enum_told : tie.Need-enum-told
+enum_told : tie.Need-enum_told-1
 enum_told c = search rules
 
-returns : tie.Need-returns
-returns c = simp (← c.before.before.read_at.ensures, c.enum_told.given.1)
+returns : tie.Need-returns-in_default
+returns c = simp (← c.before.before.read_at-r.ensures, c.enum_told-1.given.1)
 
-fault-of-requires : tie.Need-fault-of-requires
+fault-of-requires : tie.Need-fault_of-fault-requires
 fault-of-requires c κs = search rules
 
-returns-2 : tie.Need-returns-2
+returns-2 : tie.Need-returns-then-fault-eq0
 returns-2 c =
-    simp (← c.before.before.before.before.before.read_at.ensures, c.before.before.before.r.given.1, ← c.before.fault-of.ensures, eq-eqb _ _ c.if1.true)
+    simp (← c.before.before.before.before.before.read_at-r.ensures, c.before.before.before.r-1.given.1, ← c.before.fault_of-fault.ensures, eq-eqb _ _ c.if-fault-eq0.true)
 
-returns-3 : tie.Need-returns-3
+returns-3 : tie.Need-returns
 returns-3 c =
-    simp (← c.before.before.before.before.before.read_at.ensures, c.before.before.before.r.given.1, ← c.before.fault-of.ensures, ne_eqb _ _ c.if1.false)
+    simp (← c.before.before.before.before.before.read_at-r.ensures, c.before.before.before.r-1.given.1, ← c.before.fault_of-fault.ensures, ne_eqb _ _ c.if-fault-eq0.false)
 
-pub read-command-spec : {M : Type 1} → statement M
-read-command-spec =
+pub read_command_spec : {M : Type 1} → statement M
+read_command_spec =
     tie.close
     (tie.spec
     read-at-requires

@@ -4,14 +4,14 @@ use borrow.Author.Rules.{rules}
 use Rattle.faults.proofs.term_named.Statement.{statement}
 use Rattle.faults.proofs.term_named.Tie as tie
 
-names-it-requires : tie.Need-names-it-requires
+names-it-requires : tie.Need-names_it-requires
 names-it-requires c κs = search rules
 
-returns : tie.Need-returns
-returns c = simp (lt-ltb _ _ c.before.if1.true, c.names-it.ensures)
+returns : tie.Need-returns-then-k-count
+returns c = simp (lt-ltb _ _ c.before.if-k-count.true, c.names_it.ensures)
 
-returns-2 : tie.Need-returns-2
-returns-2 c = simp (le-ltb _ _ c.if1.false)
+returns-2 : tie.Need-returns
+returns-2 c = simp (le-ltb _ _ c.if-k-count.false)
 
-pub term-named-spec : {M : Type 1} → statement M
-term-named-spec = tie.close (tie.spec names-it-requires returns returns-2)
+pub term_named_spec : {M : Type 1} → statement M
+term_named_spec = tie.close (tie.spec names-it-requires returns returns-2)

@@ -11,69 +11,69 @@ use Rattle.guesses.specs.GuessLaws.{Guessed, guess_none, guess_empty, guess_full
 use Rattle.guesses.proofs.least_values.Statement.{statement}
 use Rattle.guesses.proofs.least_values.Tie as tie
 
-abbrev invariant-loop : tie.invariant-loop
-invariant-loop passing free values₀ low₀ span₀ left₀ values low span left = Guessed (least_number passing) free left values low span
+abbrev invariant-loop-left : tie.invariant-loop-left
+invariant-loop-left passing free values₀ low₀ span₀ left₀ values low span left = Guessed (least_number passing) free left values low span
 
-abbrev decreases-loop : tie.decreases-loop
-decreases-loop passing free values₀ low₀ span₀ left₀ values low span left = left
+abbrev decreases-loop-left : tie.decreases-loop-left
+decreases-loop-left passing free values₀ low₀ span₀ left₀ values low span left = left
 
-power-requires : tie.Need-power-requires invariant-loop decreases-loop
+power-requires : tie.Need-power-span-requires invariant-loop-left decreases-loop-left
 power-requires c κs = omega arith
 
-loop-holds : tie.Need-loop-init invariant-loop decreases-loop
-loop-holds c = rw c.power.ensures (guess_none _ _ c.before.requires.1)
+loop-holds : tie.Need-loop-left-init invariant-loop-left decreases-loop-left
+loop-holds c = rw c.power-span.ensures (guess_none _ _ c.before.requires.1)
 
-sub-values : tie.Need-overflow-sub-values invariant-loop decreases-loop
+sub-values : tie.Need-overflow_sub-values invariant-loop-left decreases-loop-left
 sub-values c = omega arith
 
-array-write-values : tie.Need-array-write-values invariant-loop decreases-loop
+array-write-values : tie.Need-bounds-values-free invariant-loop-left decreases-loop-left
 array-write-values c = omega arith
 
-add-passes-below : tie.Need-overflow-add-passes-below invariant-loop decreases-loop
-add-passes-below c = let s = c.before.before.before in omega (arith, few s.requires.0, few {k = c.before.loop.left} (omega arith))
+add-passes-below : tie.Need-overflow_add-low invariant-loop-left decreases-loop-left
+add-passes-below c = let s = c.before.before.before in omega (arith, few s.requires.0, few {k = c.before.loop-left.left} (omega arith))
 
-passes-below-requires : tie.Need-passes-below-requires invariant-loop decreases-loop
+passes-below-requires : tie.Need-passes_below-requires invariant-loop-left decreases-loop-left
 passes-below-requires c κs = omega (arith, few c.before.before.before.requires.0)
 
-add_low : tie.Need-overflow-add-low invariant-loop decreases-loop
+add_low : tie.Need-overflow_add-low-then-not-passes_below invariant-loop-left decreases-loop-left
 add_low c =
     let s = c.before.before.before.before.before in
-    omega (arith, few s.requires.0, few {k = c.before.before.before.loop.left} (omega arith))
+    omega (arith, few s.requires.0, few {k = c.before.before.before.loop-left.left} (omega arith))
 
-sub-left : tie.Need-overflow-sub-left invariant-loop decreases-loop
+sub-left : tie.Need-overflow_sub-left invariant-loop-left decreases-loop-left
 sub-left c = omega arith
 
-loop-less : tie.Need-loop-smaller invariant-loop decreases-loop
+loop-less : tie.Need-loop-left-smaller invariant-loop-left decreases-loop-left
 loop-less c = omega arith
 
-loop-again : tie.Need-loop-preserved invariant-loop decreases-loop
+loop-again : tie.Need-loop-left-preserved invariant-loop-left decreases-loop-left
 loop-again c =
     let s = c.before.before.before.before.before in
-    let l = c.before.before.before.loop in
+    let l = c.before.before.before.loop-left in
     let least = least_number s.args.passing in
     let free = s.args.free in
     let end = l.low + l.span / 2 in
-    let told : c.before.passes-below.result ≡ ltb least end = c.before.passes-below.ensures in
+    let told : c.before.passes_below.result ≡ ltb least end = c.before.passes_below.ensures in
     ⊎_elim
     (λ w.
-    let fails : c.before.passes-below.result ≡ false = not-true _ w.0.taken in
+    let fails : c.before.passes_below.result ≡ false = not-true _ w.0.taken in
     rw (w.1, w.2) (guess_full least free l.left l.values l.low l.span l.invariant (omega arith) s.requires.0 (ltb-false least end (sym told ∙ fails))))
     (λ w.
-    let passes : c.before.passes-below.result ≡ true = not-false _ w.0.left in
+    let passes : c.before.passes_below.result ≡ true = not-false _ w.0.left in
     rw (w.1, w.2) (guess_empty least free l.left l.values l.low l.span l.invariant (omega arith) s.requires.0 (ltb-true least end (sym told ∙ passes))))
-    c.if1.branch
+    c.if-not-passes_below.branch
 
-returns : tie.Need-returns invariant-loop decreases-loop
+returns : tie.Need-returns invariant-loop-left decreases-loop-left
 returns c =
-    let l = c.before.loop in
+    let l = c.before.loop-left in
     (l.invariant.digits, guess_all _ _ _ _ _ _ l.invariant (omega arith))
 
-pub least-values-spec : {M : Type 1} → statement M
-least-values-spec =
+pub least_values_spec : {M : Type 1} → statement M
+least_values_spec =
     tie.close
     (tie.spec
-    invariant-loop
-    decreases-loop
+    invariant-loop-left
+    decreases-loop-left
     power-requires
     loop-holds
     sub-values

@@ -7,57 +7,57 @@ use Rattle.guesses.specs.GuessLaws.{number_lt, number_more, few}
 use Rattle.guesses.proofs.number_of.Statement.{statement}
 use Rattle.guesses.proofs.number_of.Tie as tie
 
-abbrev invariant-loop : tie.invariant-loop
-invariant-loop free values number₀ v₀ number v = (v ≤ free) × (number ≡ choice_number v values)
+abbrev invariant-loop-v : tie.invariant-loop-v
+invariant-loop-v free values number₀ v₀ number v = (v ≤ free) × (number ≡ choice_number v values)
 
-abbrev decreases-loop : tie.decreases-loop
-decreases-loop free values number₀ v₀ number v = free - v
+abbrev decreases-loop-v : tie.decreases-loop-v
+decreases-loop-v free values number₀ v₀ number v = free - v
 
-loop-holds : tie.Need-loop-init invariant-loop decreases-loop
+loop-holds : tie.Need-loop-v-init invariant-loop-v decreases-loop-v
 unfolding choice_number
 loop-holds c = (omega arith, refl)
 
-mul-number : tie.Need-overflow-mul-number invariant-loop decreases-loop
+mul-number : tie.Need-overflow_mul-number invariant-loop-v decreases-loop-v
 mul-number c =
     let a = c.before.before in
-    let v = c.before.loop.v in
+    let v = c.before.loop-v.v in
     omega (arith, number_lt v a.args.t1 a.requires.1, few {k = v} (omega arith))
 
-array-read-index : tie.Need-array-read-index invariant-loop decreases-loop
+array-read-index : tie.Need-bounds-values-v invariant-loop-v decreases-loop-v
 array-read-index c = omega arith
 
-index-requires : tie.Need-index-requires invariant-loop decreases-loop
+index-requires : tie.Need-index-requires invariant-loop-v decreases-loop-v
 index-requires c κs = omega arith
 
-add-number : tie.Need-overflow-add-number invariant-loop decreases-loop
+add-number : tie.Need-overflow_add-number invariant-loop-v decreases-loop-v
 add-number c =
     let a = c.before.before.before in
-    let v = c.before.before.loop.v in
+    let v = c.before.before.loop-v.v in
     omega (arith, number_lt v a.args.t1 a.requires.1, few {k = v} (omega arith))
 
-add-v : tie.Need-overflow-add-v invariant-loop decreases-loop
+add-v : tie.Need-overflow_add-v invariant-loop-v decreases-loop-v
 add-v c = omega arith
 
-loop-less : tie.Need-loop-smaller invariant-loop decreases-loop
+loop-less : tie.Need-loop-v-smaller invariant-loop-v decreases-loop-v
 loop-less c = omega arith
 
-loop-again : tie.Need-loop-preserved invariant-loop decreases-loop
+loop-again : tie.Need-loop-v-preserved invariant-loop-v decreases-loop-v
 loop-again c =
-    let l = c.before.before.loop in
+    let l = c.before.before.loop-v in
     let values = c.before.before.before.args.t1 in
     (omega arith, ap₂ (λ n d. 2 * n + d) l.invariant.1 c.index.ensures.0 ∙ number_more l.v values)
 
-returns : tie.Need-returns invariant-loop decreases-loop
+returns : tie.Need-returns invariant-loop-v decreases-loop-v
 returns c =
-    let e : c.before.loop.v ≡ c.before.before.args.free = omega arith in
-    rw e at c.before.loop.invariant.1
+    let e : c.before.loop-v.v ≡ c.before.before.args.free = omega arith in
+    rw e at c.before.loop-v.invariant.1
 
-pub number-of-spec : {M : Type 1} → statement M
-number-of-spec =
+pub number_of_spec : {M : Type 1} → statement M
+number_of_spec =
     tie.close
     (tie.spec
-    invariant-loop
-    decreases-loop
+    invariant-loop-v
+    decreases-loop-v
     loop-holds
     mul-number
     array-read-index

@@ -4,35 +4,35 @@ use borrow.Author.Rules.{rules}
 use Rattle.judging.proofs.broken.Statement.{statement}
 use Rattle.judging.proofs.broken.Tie as tie
 
-enum_told : tie.Need-enum-told
+enum_told : tie.Need-enum_told-1
 enum_told c = search rules
 
-broken-positive-requires : tie.Need-broken-positive-requires
-broken-positive-requires c κs = rw c.enum_told.given.1 at c.before.before.requires
+broken-positive-requires : tie.Need-broken_positive-requires
+broken-positive-requires c κs = rw c.enum_told-1.given.1 at c.before.before.requires
 
-enum-told-2 : tie.Need-enum-told-2
+enum-told-2 : tie.Need-enum_told-in-FirstDisequation
 enum-told-2 c = search rules
 
-enum-told-3 : tie.Need-enum-told-3
+enum-told-3 : tie.Need-enum_told-in-SecondPositive
 enum-told-3 c = search rules
 
-enum-told-4 : tie.Need-enum-told-4
+enum-told-4 : tie.Need-enum_told-in-SecondDisequation
 enum-told-4 c = search rules
 
-returns : tie.Need-returns
-returns c = rw c.before.enum_told.given.1 c.broken-positive.ensures
+returns : tie.Need-returns-in-FirstPositive
+returns c = rw c.before.enum_told-1.given.1 c.broken_positive.ensures
 
-returns-2 : tie.Need-returns-2
-returns-2 c = rw c.enum-told2.given.1 refl
+returns-2 : tie.Need-returns-in-FirstDisequation
+returns-2 c = rw c.enum_told-in-FirstDisequation-1.given.1 refl
 
-returns-3 : tie.Need-returns-3
-returns-3 c = rw c.enum-told3.given.1 refl
+returns-3 : tie.Need-returns-in-SecondPositive
+returns-3 c = rw c.enum_told-in-SecondPositive-1.given.1 refl
 
-returns-4 : tie.Need-returns-4
-returns-4 c = rw c.enum-told4.given.1 refl
+returns-4 : tie.Need-returns-in-SecondDisequation
+returns-4 c = rw c.enum_told-in-SecondDisequation-1.given.1 refl
 
-pub broken-spec : {M : Type 1} → statement M
-broken-spec =
+pub broken_spec : {M : Type 1} → statement M
+broken_spec =
     tie.close
     (tie.spec
     enum_told

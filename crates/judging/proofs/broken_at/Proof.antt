@@ -26,24 +26,24 @@ other (Shape.Clause σ x) (inl e) s table i k = absurd (omega arith)
 other (Shape.Clause σ x) (inr (inl e)) s table i k = absurd (omega arith)
 other (Shape.Clause σ x) (inr (inr e)) s table i k = absurd (omega arith)
 
-enum-known-shape : tie.Need-enum-known-shape
+enum-known-shape : tie.Need-enum_known-shape
 enum-known-shape c = search rules
 
-returns : tie.Need-returns
-returns c = other _ c.match.keys2 _ _ _ _
+returns : tie.Need-returns-in_default
+returns c = other _ c.in-Clause.keys2 _ _ _ _
 
-join-at-requires : tie.Need-join-at-requires
-join-at-requires c κs = (rw c.before.shape.given.1 at c.before.before.before.before.requires).0.0
+join-at-requires : tie.Need-join_at-requires
+join-at-requires c κs = (rw c.before.shape-1.given.1 at c.before.before.before.before.requires).0.0
 
 broken-requires : tie.Need-broken-requires
 unfolding command_of
 broken-requires c κs =
-    let P = rw c.before.before.shape.given.1 at c.before.before.before.before.before.requires in
-    rw c.join-at.ensures (P.0.1, P.1)
+    let P = rw c.before.before.shape-1.given.1 at c.before.before.before.before.before.requires in
+    rw c.join_at.ensures (P.0.1, P.1)
 
-returns-2 : tie.Need-returns-2
+returns-2 : tie.Need-returns
 unfolding command_of
-returns-2 c = rw (c.broken.ensures, c.before.join-at.ensures, c.before.before.before.shape.given.1) refl
+returns-2 c = rw (c.broken.ensures, c.before.join_at.ensures, c.before.before.before.shape-1.given.1) refl
 
-pub broken-at-spec : {M : Type 1} → statement M
-broken-at-spec = tie.close (tie.spec enum-known-shape returns join-at-requires broken-requires returns-2)
+pub broken_at_spec : {M : Type 1} → statement M
+broken_at_spec = tie.close (tie.spec enum-known-shape returns join-at-requires broken-requires returns-2)

@@ -5,43 +5,43 @@ use Rattle.format.specs.Format.{command_of}
 use Rattle.judging.proofs.is_broken.Statement.{statement}
 use Rattle.judging.proofs.is_broken.Tie as tie
 
-enum_told : tie.Need-enum-told
+enum_told : tie.Need-enum_told-1
 enum_told c = search rules
 
-enum-told-2 : tie.Need-enum-told-2
+enum-told-2 : tie.Need-enum_told-in-Head
 enum-told-2 c = search rules
 
-enum-told-3 : tie.Need-enum-told-3
+enum-told-3 : tie.Need-enum_told-in-Constant
 enum-told-3 c = search rules
 
-enum-known-shape : tie.Need-enum-known-shape
+enum-known-shape : tie.Need-enum_known-shape
 enum-known-shape c = search rules
 
-join-at-requires : tie.Need-join-at-requires
-join-at-requires c κs = (rw c.before.shape.given.1 at c.before.before.before.before.requires).0
+join-at-requires : tie.Need-join_at-requires
+join-at-requires c κs = (rw c.before.shape-1.given.1 at c.before.before.before.before.requires).0
 
 breaks-requires : tie.Need-breaks-requires
 unfolding command_of
-breaks-requires c κs = rw c.join-at.ensures (rw c.before.before.shape.given.1 at c.before.before.before.before.before.requires).1
+breaks-requires c κs = rw c.join_at.ensures (rw c.before.before.shape-1.given.1 at c.before.before.before.before.before.requires).1
 
-returns : tie.Need-returns
+returns : tie.Need-returns-in-End
 unfolding command_of
-returns c = rw c.enum_told.given.1 refl
+returns c = rw c.enum_told-1.given.1 refl
 
-returns-2 : tie.Need-returns-2
+returns-2 : tie.Need-returns-in-Head
 unfolding command_of
-returns-2 c = rw c.enum-told2.given.1 refl
+returns-2 c = rw c.enum_told-in-Head-1.given.1 refl
 
-returns-3 : tie.Need-returns-3
+returns-3 : tie.Need-returns-in-Constant
 unfolding command_of
-returns-3 c = rw c.enum-told3.given.1 refl
+returns-3 c = rw c.enum_told-in-Constant-1.given.1 refl
 
-returns-4 : tie.Need-returns-4
+returns-4 : tie.Need-returns-in-Clause
 unfolding command_of
-returns-4 c = rw (c.breaks.ensures, c.before.join-at.ensures, c.before.before.before.shape.given.1) refl
+returns-4 c = rw (c.breaks.ensures, c.before.join_at.ensures, c.before.before.before.shape-1.given.1) refl
 
-pub is-broken-spec : {M : Type 1} → statement M
-is-broken-spec =
+pub is_broken_spec : {M : Type 1} → statement M
+is_broken_spec =
     tie.close
     (tie.spec
     enum_told

@@ -5,39 +5,39 @@ use Rattle.format.specs.Format.{command_of}
 use Rattle.judging.proofs.is_first.Statement.{statement}
 use Rattle.judging.proofs.is_first.Tie as tie
 
-enum_told : tie.Need-enum-told
+enum_told : tie.Need-enum_told-1
 enum_told c = search rules
 
-enum-told-2 : tie.Need-enum-told-2
+enum-told-2 : tie.Need-enum_told-in-Head
 enum-told-2 c = search rules
 
-enum-told-3 : tie.Need-enum-told-3
+enum-told-3 : tie.Need-enum_told-in-Constant
 enum-told-3 c = search rules
 
-enum-known-shape : tie.Need-enum-known-shape
+enum-known-shape : tie.Need-enum_known-shape
 enum-known-shape c = search rules
 
-is-second-requires : tie.Need-is-second-requires
+is-second-requires : tie.Need-is_second-requires
 is-second-requires c κs = search rules
 
-returns : tie.Need-returns
+returns : tie.Need-returns-in-End
 unfolding command_of
-returns c s i = rw c.enum_told.given.1 refl
+returns c s i = rw c.enum_told-1.given.1 refl
 
-returns-2 : tie.Need-returns-2
+returns-2 : tie.Need-returns-in-Head
 unfolding command_of
-returns-2 c s i = rw c.enum-told2.given.1 refl
+returns-2 c s i = rw c.enum_told-in-Head-1.given.1 refl
 
-returns-3 : tie.Need-returns-3
+returns-3 : tie.Need-returns-in-Constant
 unfolding command_of
-returns-3 c s i = rw c.enum-told3.given.1 refl
+returns-3 c s i = rw c.enum_told-in-Constant-1.given.1 refl
 
-returns-4 : tie.Need-returns-4
+returns-4 : tie.Need-returns-in-Clause
 unfolding command_of
-returns-4 c s i = rw (c.is-second.ensures, c.before.before.shape.given.1) refl
+returns-4 c s i = rw (c.is_second.ensures, c.before.before.shape-1.given.1) refl
 
-pub is-first-spec : {M : Type 1} → statement M
-is-first-spec =
+pub is_first_spec : {M : Type 1} → statement M
+is_first_spec =
     tie.close
     (tie.spec
     enum_told

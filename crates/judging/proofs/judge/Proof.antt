@@ -18,78 +18,78 @@ use Rattle.judging.specs.JudgeLaws.{others_are, judges_refused, judges_rows}
 use Rattle.judging.proofs.judge.Statement.{statement}
 use Rattle.judging.proofs.judge.Tie as tie
 
-read-requires : tie.Need-read-requires
+read-requires : tie.Need-read-reading-requires
 read-requires c κs = search rules
 
-returns : tie.Need-returns
+returns : tie.Need-returns-then-reading-ne0
 returns c =
     let reading = c.before.before in
     let start = reading.before.before.before.before.args in
-    judges_refused _ _ _ _ (judged_refused _ start.rows.now _ _ (answer_refused start.question.now _ reading.read.ensures.0 c.if1.true))
+    judges_refused _ _ _ _ (judged_refused _ start.rows.now _ _ (answer_refused start.question.now _ reading.read-reading.ensures.0 c.if-reading-ne0.true))
 
-returns-2 : tie.Need-returns-2
+returns-2 : tie.Need-returns-then-rows-ne-ANSWER_BYTES
 returns-2 c =
     let reading = c.before.before.before in
     let start = reading.before.before.before.before.args in
-    let T = answer_taken start.question.now _ reading.read.ensures.0 _ reading.read.ensures.1.1.0 c.before.if1.false in
-    judges_refused _ _ 18 0 (judged_18 _ start.rows.now T.question T.read (rw (levels_are _ _ T.stands) (ne_eqb _ 1536 c.if2.true)))
+    let T = answer_taken start.question.now _ reading.read-reading.ensures.0 _ reading.read-reading.ensures.1.1.0 c.before.if-reading-ne0.false in
+    judges_refused _ _ 18 0 (judged_18 _ start.rows.now T.question T.read-reading (rw (levels_are _ _ T.stands) (ne_eqb _ 1536 c.if-rows-ne-ANSWER_BYTES.true)))
 
 -- what was read, once the tests are passed
-taken : (c : tie.After-struct-known2) → (
+taken : (c : tie.After-struct_known-2-1) → (
     let reading = c.before.before.before.before in
-    Taken reading.before.before.before.before.args.question.now reading.read.result reading.read.new.1.0)
+    Taken reading.before.before.before.before.args.question.now reading.read-reading.result reading.read-reading.new.1.0)
 taken c =
     let reading = c.before.before.before.before in
-    answer_taken reading.before.before.before.before.args.question.now _ reading.read.ensures.0 _ reading.read.ensures.1.1.0 c.before.before.if1.false
+    answer_taken reading.before.before.before.before.args.question.now _ reading.read-reading.ensures.0 _ reading.read-reading.ensures.1.1.0 c.before.before.if-reading-ne0.false
 
 -- the rows are as long as they must be
-long : (c : tie.After-struct-known2) → (
+long : (c : tie.After-struct_known-2-1) → (
     let start = c.before.before.before.before.before.before.before.before.args in
     length start.rows.now ≡ answer_bytes (taken c).question.constants.levels)
-long c = rw (levels_are _ _ (taken c).stands) c.before.if2.false
+long c = rw (levels_are _ _ (taken c).stands) c.before.if-rows-ne-ANSWER_BYTES.false
 
 -- whether those of no free variable are zero
-zero_others : (c : tie.After-struct-known2) (r : Bool) → (
+zero_others : (c : tie.After-struct_known-2-1) (r : Bool) → (
     let start = c.before.before.before.before.before.before.before.before.args in
-    T r ↔ ZeroBytes start.rows.now (8 * (c.before.before.before.before.read.result.question.free * 16)) (length start.rows.now)
+    T r ↔ ZeroBytes start.rows.now (8 * (c.before.before.before.before.read-reading.result.question.free * 16)) (length start.rows.now)
     → r ≡ is_zero (drop ((taken c).question.free * row_bytes (taken c).question.constants.levels) start.rows.now))
 zero_others c r E =
     let rows = c.before.before.before.before.before.before.before.before.args.rows.now in
-    let free = c.before.before.before.before.read.result.question.free in
+    let free = c.before.before.before.before.read-reading.result.question.free in
     rw (levels_are _ _ (taken c).stands, ← (taken c).stands.free) (others_are rows (free * 16) (free * 128) r (omega arith) E)
 
-mul-zero-from : tie.Need-overflow-mul-zero-from
+mul-zero-from : tie.Need-overflow_mul-reading
 mul-zero-from c = omega (arith, (taken c).stands.variables)
 
-zero-from-requires : tie.Need-zero-from-requires
+zero-from-requires : tie.Need-zero_from-requires
 zero-from-requires c κs = search rules
 
-returns-3 : tie.Need-returns-3
+returns-3 : tie.Need-returns-then-not-zero_from
 returns-3 c =
     let known = c.before.before in
     let start = known.before.before.before.before.before.before.before.before.args in
     let T = taken known in
-    judges_refused _ _ 19 0 (judged_19 _ start.rows.now T.question T.read (long known)
-    (sym (zero_others known c.before.zero-from.result c.before.zero-from.ensures) ∙ flip _ c.if3.true))
+    judges_refused _ _ 19 0 (judged_19 _ start.rows.now T.question T.read-reading (long known)
+    (sym (zero_others known c.before.zero_from.result c.before.zero_from.ensures) ∙ flip _ c.if-not-zero_from.true))
 
-judge-rows-requires : tie.Need-judge-rows-requires
+judge-rows-requires : tie.Need-judge_rows-requires
 judge-rows-requires c κs =
     let known = c.before.before.before in
     let T = taken known in
-    (known.before.if2.false, ((T.question, T.read, T.stands), known.before.before.before.before.read.ensures.1.1.1 T.question T.read))
+    (known.before.if-rows-ne-ANSWER_BYTES.false, ((T.question, T.read-reading, T.stands), known.before.before.before.before.read-reading.ensures.1.1.1 T.question T.read-reading))
 
-returns-4 : tie.Need-returns-4
+returns-4 : tie.Need-returns
 returns-4 c =
     let known = c.before.before.before.before in
     let start = known.before.before.before.before.before.before.before.before.args in
     let T = taken known in
     judges_rows _ start.rows.now T.question
-    (judged_on _ _ T.question T.read (long known)
-    (sym (zero_others known c.before.before.before.zero-from.result c.before.before.before.zero-from.ensures) ∙ flip _ c.before.before.if3.false))
-    _ (c.judge-rows.ensures T.question T.read T.stands)
+    (judged_on _ _ T.question T.read-reading (long known)
+    (sym (zero_others known c.before.before.before.zero_from.result c.before.before.before.zero_from.ensures) ∙ flip _ c.before.before.if-not-zero_from.false))
+    _ (c.judge_rows.ensures T.question T.read-reading T.stands)
 
-pub judge-spec : {M : Type 1} → statement M
-judge-spec =
+pub judge_spec : {M : Type 1} → statement M
+judge_spec =
     tie.close
     (tie.spec
     read-requires

@@ -12,142 +12,142 @@ use Rattle.judging.specs.WalkLaws.{read_past, read_unknown, read_short, read_tak
 use Rattle.judging.proofs.judge_first.Statement.{statement}
 use Rattle.judging.proofs.judge_first.Tie as tie
 
-abbrev invariant-loop : tie.invariant-loop
-invariant-loop bytes from leaves count₀ at₀ count at = Gone constant_levels bytes leaves at count
+abbrev invariant-loop-at : tie.invariant-loop-at
+invariant-loop-at bytes from leaves count₀ at₀ count at = Gone constant_levels bytes leaves at count
 
-abbrev decreases-loop : tie.decreases-loop
-decreases-loop bytes from leaves count₀ at₀ count at = length bytes - at
+abbrev decreases-loop-at : tie.decreases-loop-at
+decreases-loop-at bytes from leaves count₀ at₀ count at = length bytes - at
 
 -- the command that is read, where it is whole
-took : (c : tie.Else1 invariant-loop decreases-loop) → (
-    let at = c.before.before.before.before.before.before.before.before.loop.at in
+took : (c : tie.Else-bytes-first invariant-loop-at decreases-loop-at) → (
+    let at = c.before.before.before.before.before.before.before.before.loop-at.at in
     let bytes = c.before.before.before.before.before.before.before.before.before.before.args.bytes.now in
-    read_at bytes at ≡ Take (command_of bytes (at + 1) c.before.before.before.entry.given.0.0) (at + 1 + c.before.operand-count.result))
+    read_at bytes at ≡ Take (command_of bytes (at + 1) c.before.before.before.entry-1.given.0.0) (at + 1 + c.before.operand_count-width.result))
 took c =
     let announced = c.before.before.before.before.before in
-    rw c.before.operand-count.ensures
-    (read_take _ _ announced.before.before.loop-test.true _ (sym announced.entry_of.ensures ∙ c.before.before.before.entry.given.1)
-    (rw c.before.operand-count.ensures at c.if1.false))
+    rw c.before.operand_count-width.ensures
+    (read_take _ _ announced.before.before.loop-at-test.true _ (sym announced.entry_of-entry.ensures ∙ c.before.before.before.entry-1.given.1)
+    (rw c.before.operand_count-width.ensures at c.if-bytes-first.false))
 
-loop-holds : tie.Need-loop-init invariant-loop decreases-loop
+loop-holds : tie.Need-loop-at-init invariant-loop-at decreases-loop-at
 loop-holds c = rw c.before.requires.1 (gone_led _ _ _ 32 0 (gone_start _ _ _))
 
-shared-slice-read-entry-of : tie.Need-shared-slice-read-entry-of invariant-loop decreases-loop
+shared-slice-read-entry-of : tie.Need-bounds-bytes-at invariant-loop-at decreases-loop-at
 shared-slice-read-entry-of c = search rules
 
-entry-of-requires : tie.Need-entry-of-requires invariant-loop decreases-loop
+entry-of-requires : tie.Need-entry_of-entry-requires invariant-loop-at decreases-loop-at
 entry-of-requires c κs = search rules
 
-enum-known-entry : tie.Need-enum-known-entry invariant-loop decreases-loop
+enum-known-entry : tie.Need-enum_known-entry invariant-loop-at decreases-loop-at
 enum-known-entry c = search rules
 
-enum_told : tie.Need-enum-told invariant-loop decreases-loop
+enum_told : tie.Need-enum_told-1 invariant-loop-at decreases-loop-at
 enum_told c = search rules
 
-returns : tie.Need-returns invariant-loop decreases-loop
+returns : tie.Need-returns-in_default invariant-loop-at decreases-loop-at
 returns c =
     let test = c.before.before.before.before in
-    first_refused _ _ _ test.before.loop.invariant 3 (read_unknown _ _ test.loop-test.true (sym c.before.before.entry_of.ensures ∙ c.enum_told.given.1))
+    first_refused _ _ _ test.before.loop-at.invariant 3 (read_unknown _ _ test.loop-at-test.true (sym c.before.before.entry_of-entry.ensures ∙ c.enum_told-1.given.1))
 
-operand-count-requires : tie.Need-operand-count-requires invariant-loop decreases-loop
+operand-count-requires : tie.Need-operand_count-width-requires invariant-loop-at decreases-loop-at
 operand-count-requires c κs = search rules
 
-add-first : tie.Need-overflow-add-first invariant-loop decreases-loop
+add-first : tie.Need-overflow_add-first invariant-loop-at decreases-loop-at
 add-first c = search rules
 
-sub-if1 : tie.Need-overflow-sub-if1 invariant-loop decreases-loop
+sub-if1 : tie.Need-overflow_sub-bytes invariant-loop-at decreases-loop-at
 sub-if1 c = search rules
 
-returns-2 : tie.Need-returns-2 invariant-loop decreases-loop
+returns-2 : tie.Need-returns-then-bytes-first invariant-loop-at decreases-loop-at
 returns-2 c =
     let announced = c.before.before.before.before.before in
     let test = announced.before.before in
-    first_refused _ _ _ test.before.loop.invariant 2
-    (read_short _ _ test.loop-test.true _ (sym announced.entry_of.ensures ∙ c.before.before.before.entry.given.1) (rw c.before.operand-count.ensures at c.if1.true))
+    first_refused _ _ _ test.before.loop-at.invariant 2
+    (read_short _ _ test.loop-at-test.true _ (sym announced.entry_of-entry.ensures ∙ c.before.before.before.entry-1.given.1) (rw c.before.operand_count-width.ensures at c.if-bytes-first.true))
 
-is-end-requires : tie.Need-is-end-requires invariant-loop decreases-loop
+is-end-requires : tie.Need-is_end-requires invariant-loop-at decreases-loop-at
 is-end-requires c κs = search rules
 
-returns-3 : tie.Need-returns-3 invariant-loop decreases-loop
+returns-3 : tie.Need-returns-then-is_end invariant-loop-at decreases-loop-at
 returns-3 c =
     let whole = c.before.before in
-    first_end _ _ _ whole.before.before.before.before.before.before.before.before.loop.invariant (took whole) (sym (c.before.is_end_lem.ensures _ _) ∙ c.if2.true)
+    first_end _ _ _ whole.before.before.before.before.before.before.before.before.loop-at.invariant (took whole) (sym (c.before.is_end.ensures _ _) ∙ c.if-is_end.true)
 
-add-next : tie.Need-overflow-add-next invariant-loop decreases-loop
+add-next : tie.Need-overflow_add-next invariant-loop-at decreases-loop-at
 add-next c =
     let whole = c.before.before in
     let M = moves _ _ (took whole) in
-    omega (arith, M.1, whole.before.before.before.before.before.before.before.before.before.shared-slice-known.given 0)
+    omega (arith, M.1, whole.before.before.before.before.before.before.before.before.before.shared_slice_known-1.given 0)
 
-is-first-requires : tie.Need-is-first-requires invariant-loop decreases-loop
+is-first-requires : tie.Need-is_first-requires invariant-loop-at decreases-loop-at
 is-first-requires c κs = search rules
 
-is-broken-requires : tie.Need-is-broken-requires invariant-loop decreases-loop
+is-broken-requires : tie.Need-is_broken-requires invariant-loop-at decreases-loop-at
 is-broken-requires c κs =
     let whole = c.before.before.before.before in
     let start = whole.before.before.before.before.before.before.before.before.before.before in
     let F =
-    gone_fits _ _ _ whole.before.before.before.before.before.before.before.before.loop.invariant (took whole)
-    (sym (c.before.before.before.is_end_lem.ensures _ _) ∙ c.before.before.if2.false) (sym (c.before.is-first.ensures _ _) ∙ c.if3.true) start.requires.0.0 start.requires.0.1 in
-    (omega (arith, (moves _ _ (took whole)).1, whole.before.operand-count.ensures), F.0)
+    gone_fits _ _ _ whole.before.before.before.before.before.before.before.before.loop-at.invariant (took whole)
+    (sym (c.before.before.before.is_end.ensures _ _) ∙ c.before.before.if-is_end.false) (sym (c.before.is_first.ensures _ _) ∙ c.if-is_first.true) start.requires.0.0 start.requires.0.1 in
+    (omega (arith, (moves _ _ (took whole)).1, whole.before.operand_count-width.ensures), F.0)
 
-broken-at-requires : tie.Need-broken-at-requires invariant-loop decreases-loop
+broken-at-requires : tie.Need-broken_at-requires invariant-loop-at decreases-loop-at
 broken-at-requires c κs =
     let first = c.before.before in
     let whole = first.before.before.before.before in
     let start = whole.before.before.before.before.before.before.before.before.before.before in
     let F =
-    gone_fits _ _ _ whole.before.before.before.before.before.before.before.before.loop.invariant (took whole)
-    (sym (first.before.before.before.is_end_lem.ensures _ _) ∙ first.before.before.if2.false) (sym (first.before.is-first.ensures _ _) ∙ first.if3.true) start.requires.0.0 start.requires.0.1 in
-    ((omega (arith, (moves _ _ (took whole)).1, whole.before.operand-count.ensures), F.0), sym c.before.is-broken.ensures ∙ c.if4.true)
+    gone_fits _ _ _ whole.before.before.before.before.before.before.before.before.loop-at.invariant (took whole)
+    (sym (first.before.before.before.is_end.ensures _ _) ∙ first.before.before.if-is_end.false) (sym (first.before.is_first.ensures _ _) ∙ first.if-is_first.true) start.requires.0.0 start.requires.0.1 in
+    ((omega (arith, (moves _ _ (took whole)).1, whole.before.operand_count-width.ensures), F.0), sym c.before.is_broken.ensures ∙ c.if-is_broken.true)
 
-returns-4 : tie.Need-returns-4 invariant-loop decreases-loop
+returns-4 : tie.Need-returns-then-is_broken invariant-loop-at decreases-loop-at
 returns-4 k q rows constants named e laid =
     let c = k.before in
     let first = c.before.before in
     let whole = first.before.before.before.before in
-    k.broken-at.ensures
-    ∙ first_broken _ _ _ whole.before.before.before.before.before.before.before.before.loop.invariant (took whole)
-    (sym (first.before.before.before.is_end_lem.ensures _ _) ∙ first.before.before.if2.false) (sym (first.before.is-first.ensures _ _) ∙ first.if3.true) (sym c.before.is-broken.ensures ∙ c.if4.true) q rows constants named e laid
+    k.broken_at.ensures
+    ∙ first_broken _ _ _ whole.before.before.before.before.before.before.before.before.loop-at.invariant (took whole)
+    (sym (first.before.before.before.is_end.ensures _ _) ∙ first.before.before.if-is_end.false) (sym (first.before.is_first.ensures _ _) ∙ first.if-is_first.true) (sym c.before.is_broken.ensures ∙ c.if-is_broken.true) q rows constants named e laid
 
-add-count : tie.Need-overflow-add-count invariant-loop decreases-loop
+add-count : tie.Need-overflow_add-count invariant-loop-at decreases-loop-at
 add-count c =
     let first = c.before.before in
     let whole = first.before.before.before.before in
     let start = whole.before.before.before.before.before.before.before.before.before.before in
     let F =
-    gone_fits _ _ _ whole.before.before.before.before.before.before.before.before.loop.invariant (took whole)
-    (sym (first.before.before.before.is_end_lem.ensures _ _) ∙ first.before.before.if2.false) (sym (first.before.is-first.ensures _ _) ∙ first.if3.true) start.requires.0.0 start.requires.0.1 in
+    gone_fits _ _ _ whole.before.before.before.before.before.before.before.before.loop-at.invariant (took whole)
+    (sym (first.before.before.before.is_end.ensures _ _) ∙ first.before.before.if-is_end.false) (sym (first.before.is_first.ensures _ _) ∙ first.if-is_first.true) start.requires.0.0 start.requires.0.1 in
     omega (arith, F.1, first_few _ start.requires.0.0 start.requires.0.1)
 
-loop-less : tie.Need-loop-smaller invariant-loop decreases-loop
+loop-less : tie.Need-loop-at-smaller-else-is_broken invariant-loop-at decreases-loop-at
 loop-less c = let M = moves _ _ (took c.before.before.before.before.before.before) in omega (arith, M.0, M.1)
 
-loop-again : tie.Need-loop-preserved invariant-loop decreases-loop
+loop-again : tie.Need-loop-at-preserved-else-is_broken invariant-loop-at decreases-loop-at
 loop-again c =
     let first = c.before.before in
     let whole = first.before.before.before.before in
-    gone_first _ _ _ whole.before.before.before.before.before.before.before.before.loop.invariant (took whole)
-    (sym (first.before.before.before.is_end_lem.ensures _ _) ∙ first.before.before.if2.false) (sym (first.before.is-first.ensures _ _) ∙ first.if3.true) (sym c.before.is-broken.ensures ∙ c.if4.false)
+    gone_first _ _ _ whole.before.before.before.before.before.before.before.before.loop-at.invariant (took whole)
+    (sym (first.before.before.before.is_end.ensures _ _) ∙ first.before.before.if-is_end.false) (sym (first.before.is_first.ensures _ _) ∙ first.if-is_first.true) (sym c.before.is_broken.ensures ∙ c.if-is_broken.false)
 
-loop-less-2 : tie.Need-loop-smaller-2 invariant-loop decreases-loop
+loop-less-2 : tie.Need-loop-at-smaller invariant-loop-at decreases-loop-at
 loop-less-2 c = let M = moves _ _ (took c.before.before.before.before) in omega (arith, M.0, M.1)
 
-loop-again-2 : tie.Need-loop-preserved-2 invariant-loop decreases-loop
+loop-again-2 : tie.Need-loop-at-preserved invariant-loop-at decreases-loop-at
 loop-again-2 c =
     let whole = c.before.before.before.before in
-    gone_other _ _ _ whole.before.before.before.before.before.before.before.before.loop.invariant (took whole)
-    (sym (c.before.before.before.is_end_lem.ensures _ _) ∙ c.before.before.if2.false) (sym (c.before.is-first.ensures _ _) ∙ c.if3.false)
+    gone_other _ _ _ whole.before.before.before.before.before.before.before.before.loop-at.invariant (took whole)
+    (sym (c.before.before.before.is_end.ensures _ _) ∙ c.before.before.if-is_end.false) (sym (c.before.is_first.ensures _ _) ∙ c.if-is_first.false)
 
-returns-5 : tie.Need-returns-5 invariant-loop decreases-loop
-returns-5 c = first_refused _ _ _ c.before.loop.invariant 2 (read_past _ _ c.loop-test.false)
+returns-5 : tie.Need-returns invariant-loop-at decreases-loop-at
+returns-5 c = first_refused _ _ _ c.before.loop-at.invariant 2 (read_past _ _ c.loop-at-test.false)
 
-pub judge-first-spec : {M : Type 1} → statement M
-judge-first-spec =
+pub judge_first_spec : {M : Type 1} → statement M
+judge_first_spec =
     tie.close
     (tie.spec
-    invariant-loop
-    decreases-loop
+    invariant-loop-at
+    decreases-loop-at
     loop-holds
     shared-slice-read-entry-of
     entry-of-requires

@@ -4,42 +4,42 @@ use native.Mathlib.Omega.{arith}
 use Rattle.pass.proofs.first_like.Statement.{statement}
 use Rattle.pass.proofs.first_like.Tie as tie
 
-abbrev invariant-loop : tie.invariant-loop
-invariant-loop keys values b i₀ i = i ≤ b
+abbrev invariant-loop-i : tie.invariant-loop-i
+invariant-loop-i keys values b i₀ i = i ≤ b
 
-abbrev decreases-loop : tie.decreases-loop
-decreases-loop keys values b i₀ i = b - i
+abbrev decreases-loop-i : tie.decreases-loop-i
+decreases-loop-i keys values b i₀ i = b - i
 
-loop-holds : tie.Need-loop-init invariant-loop decreases-loop
+loop-holds : tie.Need-loop-i-init invariant-loop-i decreases-loop-i
 loop-holds c = omega arith
 
-mul-if1 : tie.Need-overflow-mul-if1 invariant-loop decreases-loop
+mul-if1 : tie.Need-offset_bounds-keys-i invariant-loop-i decreases-loop-i
 mul-if1 c = omega arith
 
-element-copy-out-if1 : tie.Need-element-copy-out-if1 invariant-loop decreases-loop
+element-copy-out-if1 : tie.Need-bounds-keys-i invariant-loop-i decreases-loop-i
 element-copy-out-if1 c = omega arith
 
-returns : tie.Need-returns invariant-loop decreases-loop
-returns c = (omega arith, λ l. c.if1.true)
+returns : tie.Need-returns-then-keys-i invariant-loop-i decreases-loop-i
+returns c = (omega arith, λ l. c.if-keys-i.true)
 
-add-i : tie.Need-overflow-add-i invariant-loop decreases-loop
+add-i : tie.Need-overflow_add-i invariant-loop-i decreases-loop-i
 add-i c = omega arith
 
-loop-less : tie.Need-loop-smaller invariant-loop decreases-loop
+loop-less : tie.Need-loop-i-smaller invariant-loop-i decreases-loop-i
 loop-less c = omega arith
 
-loop-again : tie.Need-loop-preserved invariant-loop decreases-loop
+loop-again : tie.Need-loop-i-preserved invariant-loop-i decreases-loop-i
 loop-again c = omega arith
 
-returns-2 : tie.Need-returns-2 invariant-loop decreases-loop
+returns-2 : tie.Need-returns invariant-loop-i decreases-loop-i
 returns-2 c = (omega arith, λ l. absurd (omega arith))
 
-pub first-like-spec : {M : Type 1} → statement M
-first-like-spec =
+pub first_like_spec : {M : Type 1} → statement M
+first_like_spec =
     tie.close
     (tie.spec
-    invariant-loop
-    decreases-loop
+    invariant-loop-i
+    decreases-loop-i
     loop-holds
     mul-if1
     element-copy-out-if1

@@ -11,59 +11,59 @@ use Rattle.pass.proofs.is_done.Tie as tie
 digit-requires : tie.Need-digit-requires
 digit-requires c κs = search rules
 
-returns : tie.Need-returns
+returns : tie.Need-returns-then-not-digit
 returns c e = absurd (true≢false (sym e))
 
-first-bits-requires : tie.Need-first-bits-requires
+first-bits-requires : tie.Need-first_bits-requires
 first-bits-requires c κs = search rules
 
-returns-2 : tie.Need-returns-2
+returns-2 : tie.Need-returns-then-first_bits-ne0
 returns-2 c e = absurd (true≢false (sym e))
 
-enum_told : tie.Need-enum-told
+enum_told : tie.Need-enum_told-1
 enum_told c = search rules
 
-enum-told-2 : tie.Need-enum-told-2
+enum-told-2 : tie.Need-enum_told-in-Unmet
 enum-told-2 c = search rules
 
-digit-requires-2 : tie.Need-digit-requires-2
+digit-requires-2 : tie.Need-digit-requires-in-Unmet
 digit-requires-2 c κs = search rules
 
-enum-told-3 : tie.Need-enum-told-3
+enum-told-3 : tie.Need-enum_told-in-Missed
 enum-told-3 c = search rules
 
-returns-3 : tie.Need-returns-3
+returns-3 : tie.Need-returns-in-First
 returns-3 c e =
     let s = c.before.before.before.before.before.before in
     let F = c.before.before.before.first_bits in
     record {
-      plain = sym c.before.before.before.before.before.digit.ensures ∙ not-false _ c.before.before.before.before.if1.false;
-      full = all_set s.args.met s.args.count F.result s.ranges.met.fits s.requires F.ensures.1 c.before.before.if2.false;
-      unmet = λ q. absurd (first_not_unmet (sym c.enum_told.given.1 ∙ q));
+      plain = sym c.before.before.before.before.before.digit.ensures ∙ not-false _ c.before.before.before.before.if-not-digit.false;
+      full = all_set s.args.met s.args.count F.result s.ranges.met.fits s.requires F.ensures.1 c.before.before.if-first_bits-ne0.false;
+      unmet = λ q. absurd (first_not_unmet (sym c.enum_told-1.given.1 ∙ q));
     }
 
-returns-4 : tie.Need-returns-4
+returns-4 : tie.Need-returns-in-Unmet
 returns-4 c e =
     let s = c.before.before.before.before.before.before.before in
     let F = c.before.before.before.before.first_bits in
     record {
-      plain = sym c.before.before.before.before.before.before.digit.ensures ∙ not-false _ c.before.before.before.before.before.if1.false;
-      full = all_set s.args.met s.args.count F.result s.ranges.met.fits s.requires F.ensures.1 c.before.before.before.if2.false;
-      unmet = λ q. sym c.digit2.ensures ∙ e;
+      plain = sym c.before.before.before.before.before.before.digit.ensures ∙ not-false _ c.before.before.before.before.before.if-not-digit.false;
+      full = all_set s.args.met s.args.count F.result s.ranges.met.fits s.requires F.ensures.1 c.before.before.before.if-first_bits-ne0.false;
+      unmet = λ q. sym c.digit-in-Unmet.ensures ∙ e;
     }
 
-returns-5 : tie.Need-returns-5
+returns-5 : tie.Need-returns-in-Missed
 returns-5 c e =
     let s = c.before.before.before.before.before.before in
     let F = c.before.before.before.first_bits in
     record {
-      plain = sym c.before.before.before.before.before.digit.ensures ∙ not-false _ c.before.before.before.before.if1.false;
-      full = all_set s.args.met s.args.count F.result s.ranges.met.fits s.requires F.ensures.1 c.before.before.if2.false;
-      unmet = λ q. absurd (missed_not_unmet _ (sym c.enum-told3.given.1 ∙ q));
+      plain = sym c.before.before.before.before.before.digit.ensures ∙ not-false _ c.before.before.before.before.if-not-digit.false;
+      full = all_set s.args.met s.args.count F.result s.ranges.met.fits s.requires F.ensures.1 c.before.before.if-first_bits-ne0.false;
+      unmet = λ q. absurd (missed_not_unmet _ (sym c.enum_told-in-Missed-1.given.1 ∙ q));
     }
 
-pub is-done-spec : {M : Type 1} → statement M
-is-done-spec =
+pub is_done_spec : {M : Type 1} → statement M
+is_done_spec =
     tie.close
     (tie.spec
     digit-requires

@@ -10,27 +10,27 @@ use Rattle.steps.specs.Steps.{stored_by}
 use Rattle.pass.proofs.pass_leaf.Statement.{statement}
 use Rattle.pass.proofs.pass_leaf.Tie as tie
 
-pass-words-requires : tie.Need-pass-words-requires
+pass-words-requires : tie.Need-pass_words-r-requires
 pass-words-requires c κs = let s = c.before.before.before.before in (s.requires.0, (s.requires.1.0, s.requires.1.1, s.requires.1.2))
 
-element-copy-out-put-entry : tie.Need-element-copy-out-put-entry
+element-copy-out-put-entry : tie.Need-bounds-firsts-64
 element-copy-out-put-entry c = search rules
 
-element-copy-out-put-entry-2 : tie.Need-element-copy-out-put-entry-2
+element-copy-out-put-entry-2 : tie.Need-bounds-firsts-65
 element-copy-out-put-entry-2 c = search rules
 
-put-entry-requires : tie.Need-put-entry-requires
+put-entry-requires : tie.Need-put_entry-requires
 put-entry-requires c κs = (c.before.before.before.before.before.before.before.before.requires.1.1, omega arith)
 
 -- the table of leaves has room
-room : (k : tie.After-put-entry-arg3) → (let a = k.before.before.before.before.before.before.before.before.args in 2 * a.leaf.number + 1 < length a.plains.now)
+room : (k : tie.After-put_entry-arg-3-1) → (let a = k.before.before.before.before.before.before.before.before.args in 2 * a.leaf.number + 1 < length a.plains.now)
 room k = omega (arith, k.before.before.before.before.before.before.before.before.requires.1.1)
 
 returns : tie.Need-returns
 returns c =
     let s = c.before.before.before.before.before.before.before.before.before.before in
     let a = s.args in
-    let p = c.before.before.before.before.before.pass-words in
+    let p = c.before.before.before.before.before.pass_words-r in
     let firsts = p.new.1.1.1.1.1.1.0 in
     let rows = p.new.1.1.1.1.1.1.1.0 in
     let g = c.before.put_entry in (
@@ -42,6 +42,6 @@ returns c =
           (subst (Put a.leaf.number firsts 32 a.plains.now) (sym g.ensures) (put_entry a.leaf.number firsts 32 a.plains.now (room c.before.before))),
     )
 
-pub pass-leaf-spec : {M : Type 1} → statement M
-pass-leaf-spec =
+pub pass_leaf_spec : {M : Type 1} → statement M
+pass_leaf_spec =
     tie.close (tie.spec pass-words-requires element-copy-out-put-entry element-copy-out-put-entry-2 put-entry-requires returns)

@@ -6,16 +6,16 @@ use borrow.Author.Tests.{eq-eqb, ne_eqb}
 use Rattle.plans.proofs.are_same.Statement.{statement}
 use Rattle.plans.proofs.are_same.Tie as tie
 
-returns : tie.Need-returns
+returns : tie.Need-returns-then-a-b
 returns c =
     let a = c.before.before.before.before.before.args in
-    sym (ap (λ t. t && eqb a.a.choices a.b.choices) (eq-eqb _ _ c.before.before.if1.true))
+    sym (ap (λ t. t && eqb a.a.choices a.b.choices) (eq-eqb _ _ c.before.before.if-a-b.true))
 
-returns-2 : tie.Need-returns-2
+returns-2 : tie.Need-returns-else-a-b
 returns-2 c =
     let a = c.before.before.before.args in
-    let e = ne_eqb a.a.word a.b.word c.if1.false in
+    let e = ne_eqb a.a.word a.b.word c.if-a-b.false in
     e ∙ sym (ap (λ t. t && eqb a.a.choices a.b.choices) e)
 
-pub are-same-spec : {M : Type 1} → statement M
-are-same-spec = tie.close (tie.spec returns returns-2)
+pub are_same_spec : {M : Type 1} → statement M
+are_same_spec = tie.close (tie.spec returns returns-2)

@@ -8,42 +8,42 @@ use Rattle.words.specs.Stores.{store_law}
 use Rattle.plans.proofs.fill_plain.Statement.{statement}
 use Rattle.plans.proofs.fill_plain.Tie as tie
 
-abbrev invariant-loop : tie.invariant-loop
-invariant-loop leaves count free plain₀ b₀ plain b = (b ≤ count) × (length plain ≡ 64) × ((i : ℕ) → i < b → get_or plain i 0 ≡ number_at leaves i)
+abbrev invariant-loop-b : tie.invariant-loop-b
+invariant-loop-b leaves count free plain₀ b₀ plain b = (b ≤ count) × (length plain ≡ 64) × ((i : ℕ) → i < b → get_or plain i 0 ≡ number_at leaves i)
 
-abbrev decreases-loop : tie.decreases-loop
-decreases-loop leaves count free plain₀ b₀ plain b = count - b
+abbrev decreases-loop-b : tie.decreases-loop-b
+decreases-loop-b leaves count free plain₀ b₀ plain b = count - b
 
-loop-holds : tie.Need-loop-init invariant-loop decreases-loop
+loop-holds : tie.Need-loop-b-init invariant-loop-b decreases-loop-b
 loop-holds c = (omega arith, c.before.requires.2, λ i l. absurd (omega arith))
 
-plain-at-requires : tie.Need-plain-at-requires invariant-loop decreases-loop
+plain-at-requires : tie.Need-plain_at-requires invariant-loop-b decreases-loop-b
 plain-at-requires c κs =
     let s = c.before.before.before.before in
-    let l = c.before.before.loop in
+    let l = c.before.before.loop-b in
     let leaves = s.args.leaves.now in (
       (omega arith, s.requires.1, l.invariant.1),
       (
-        s.requires.3 l.b c.before.loop-test.true,
+        s.requires.3 l.b c.before.loop-b-test.true,
         λ p. l.invariant.2 (l.b - 1) (omega arith),
       ),
     )
 
-mul-plain : tie.Need-overflow-mul-plain invariant-loop decreases-loop
+mul-plain : tie.Need-offset_bounds-plain-b invariant-loop-b decreases-loop-b
 mul-plain c = omega arith
 
-slice-write-plain : tie.Need-slice-write-plain invariant-loop decreases-loop
+slice-write-plain : tie.Need-bounds-plain-b invariant-loop-b decreases-loop-b
 slice-write-plain c = omega arith
 
-add-b : tie.Need-overflow-add-b invariant-loop decreases-loop
+add-b : tie.Need-overflow_add-b invariant-loop-b decreases-loop-b
 add-b c = omega arith
 
-loop-less : tie.Need-loop-smaller invariant-loop decreases-loop
+loop-less : tie.Need-loop-b-smaller invariant-loop-b decreases-loop-b
 loop-less c = omega arith
 
-loop-again : tie.Need-loop-preserved invariant-loop decreases-loop
+loop-again : tie.Need-loop-b-preserved invariant-loop-b decreases-loop-b
 loop-again c =
-    let l = c.before.before.before.loop in
+    let l = c.before.before.before.loop-b in
     let leaves = c.before.before.before.before.before.args.leaves.now in (
       omega arith,
       simp length-set l.invariant.1,
@@ -51,18 +51,18 @@ loop-again c =
           (λ i n h. l.invariant.2 i (omega arith)) (λ h. c.plain_at.ensures),
     )
 
-same_length : tie.Need-same-length invariant-loop decreases-loop
+same_length : tie.Need-shape_of-plain invariant-loop-b decreases-loop-b
 same_length c = omega arith
 
-returns : tie.Need-returns invariant-loop decreases-loop
-returns c b l = c.before.loop.invariant.2 b (omega arith)
+returns : tie.Need-returns invariant-loop-b decreases-loop-b
+returns c b l = c.before.loop-b.invariant.2 b (omega arith)
 
-pub fill-plain-spec : {M : Type 1} → statement M
-fill-plain-spec =
+pub fill_plain_spec : {M : Type 1} → statement M
+fill_plain_spec =
     tie.close
     (tie.spec
-    invariant-loop
-    decreases-loop
+    invariant-loop-b
+    decreases-loop-b
     loop-holds
     plain-at-requires
     mul-plain

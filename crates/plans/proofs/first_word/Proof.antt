@@ -5,33 +5,33 @@ use borrow.Author.Rules.{rules}
 use Rattle.plans.proofs.first_word.Statement.{statement}
 use Rattle.plans.proofs.first_word.Tie as tie
 
-mul-t3 : tie.Need-overflow-mul-t3
+mul-t3 : tie.Need-overflow_mul-result
 mul-t3 c = search rules
 
-mul-t4 : tie.Need-overflow-mul-t4
+mul-t4 : tie.Need-offset_bounds-firsts-entry
 mul-t4 c = search rules
 
-element-copy-out-t7 : tie.Need-element-copy-out-t7
+element-copy-out-t7 : tie.Need-bounds-firsts-entry
 element-copy-out-t7 c = search rules
 
-mul-t9 : tie.Need-overflow-mul-t9
+mul-t9 : tie.Need-overflow_mul-result-2
 mul-t9 c = search rules
 
-add-t10 : tie.Need-overflow-add-t10
+add-t10 : tie.Need-overflow_add-result
 add-t10 c = search rules
 
-mul-t11 : tie.Need-overflow-mul-t11
+mul-t11 : tie.Need-offset_bounds-firsts-entry-2
 mul-t11 c = search rules
 
-element-copy-out-t14 : tie.Need-element-copy-out-t14
+element-copy-out-t14 : tie.Need-bounds-firsts-entry-2
 element-copy-out-t14 c = search rules
 
 returns : tie.Need-returns
 unfolding number_at
 returns c = refl
 
-pub first-word-spec : {M : Type 1} → statement M
-first-word-spec =
+pub first_word_spec : {M : Type 1} → statement M
+first_word_spec =
     tie.close
     (tie.spec
     mul-t3

@@ -10,53 +10,53 @@ use borrow.Author.Rules.{rules}
 use Rattle.plans.proofs.plain_at.Statement.{statement}
 use Rattle.plans.proofs.plain_at.Tie as tie
 
-leaf-word-requires : tie.Need-leaf-word-requires
+leaf-word-requires : tie.Need-leaf_word-kept-requires
 leaf-word-requires c κs = search rules
 
-sub-leaf-word : tie.Need-overflow-sub-leaf-word
+sub-leaf-word : tie.Need-overflow_sub-b
 sub-leaf-word c = search rules
 
-leaf-word-requires-2 : tie.Need-leaf-word-requires-2
+leaf-word-requires-2 : tie.Need-leaf_word-requires
 leaf-word-requires-2 c κs = search rules
 
-are-same-requires : tie.Need-are-same-requires
+are-same-requires : tie.Need-are_same-requires
 are-same-requires c κs = search rules
 
-sub-result : tie.Need-overflow-sub-result
+sub-result : tie.Need-overflow_sub-result
 sub-result c = search rules
 
-mul-result : tie.Need-overflow-mul-result
+mul-result : tie.Need-offset_bounds-plain-b
 mul-result c = search rules
 
-shared-slice-read-result : tie.Need-shared-slice-read-result
+shared-slice-read-result : tie.Need-bounds-plain-b
 shared-slice-read-result c = search rules
 
-returns : tie.Need-returns
+returns : tie.Need-returns-then-are_same
 returns c =
     let same = c.before.before in
     let first = same.before.before.before in
-    first.before.before.requires.1.1 same.before.before.if1.true
-    ∙ sym same.before.leaf-word2.ensures
-    ∙ same_least _ _ (of_true (sym same.are-same.ensures ∙ c.before.if2.true))
-    ∙ first.leaf_word.ensures
+    first.before.before.requires.1.1 same.before.before.if-b-gt0.true
+    ∙ sym same.before.leaf_word.ensures
+    ∙ same_least _ _ (of_true (sym same.are_same.ensures ∙ c.before.if-are_same.true))
+    ∙ first.leaf_word-kept.ensures
 
 -- the number of the leaf's word is the choice
 alone : (s : tie.Start) → number_at s.args.leaves.now s.args.b % leaf_width s.args.free ≡ number_at s.args.leaves.now s.args.b
 alone s = mod-eq_of_lt (le_trans s.requires.1.0 (width_enough s.args.free))
 
-choice-of-requires : tie.Need-choice-of-requires
+choice-of-requires : tie.Need-choice_of-requires
 choice-of-requires c κs =
     let s = c.before.before.before in
-    (s.requires.0.1, rw (c.before.leaf_word.ensures, alone s) s.requires.1.0)
+    (s.requires.0.1, rw (c.before.leaf_word-kept.ensures, alone s) s.requires.1.0)
 
-returns-2 : tie.Need-returns-2
+returns-2 : tie.Need-returns
 returns-2 c =
     let first = c.before.before in
     let s = first.before.before in
-    c.choice-of.ensures ∙ ap (λ z. z % leaf_width s.args.free) first.leaf_word.ensures ∙ alone s
+    c.choice_of.ensures ∙ ap (λ z. z % leaf_width s.args.free) first.leaf_word-kept.ensures ∙ alone s
 
-pub plain-at-spec : {M : Type 1} → statement M
-plain-at-spec =
+pub plain_at_spec : {M : Type 1} → statement M
+plain_at_spec =
     tie.close
     (tie.spec
     leaf-word-requires

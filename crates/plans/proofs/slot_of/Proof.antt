@@ -6,11 +6,11 @@ use borrow.Author.Tests.{lt-ltb, le-ltb}
 use Rattle.plans.proofs.slot_of.Statement.{statement}
 use Rattle.plans.proofs.slot_of.Tie as tie
 
-returns : tie.Need-returns
-returns c = let a = c.before.args in sym (ap (λ t. cond t 31 (a.e - a.extra)) (lt-ltb a.e a.extra c.if1.true))
+returns : tie.Need-returns-then-e-extra
+returns c = let a = c.before.args in sym (ap (λ t. cond t 31 (a.e - a.extra)) (lt-ltb a.e a.extra c.if-e-extra.true))
 
-returns-2 : tie.Need-returns-2
-returns-2 c = let a = c.before.args in sym (ap (λ t. cond t 31 (a.e - a.extra)) (le-ltb a.e a.extra c.if1.false))
+returns-2 : tie.Need-returns
+returns-2 c = let a = c.before.args in sym (ap (λ t. cond t 31 (a.e - a.extra)) (le-ltb a.e a.extra c.if-e-extra.false))
 
-pub slot-of-spec : {M : Type 1} → statement M
-slot-of-spec = tie.close (tie.spec returns returns-2)
+pub slot_of_spec : {M : Type 1} → statement M
+slot_of_spec = tie.close (tie.spec returns returns-2)

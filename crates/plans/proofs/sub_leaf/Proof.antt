@@ -11,17 +11,17 @@ use Rattle.plans.proofs.sub_leaf.Tie as tie
 first_le : (c : tie.Start) → c.args.leaf * 2 ^ c.args.splits ≤ 2016
 first_le c = mul-le-mul {n₂ = 63} {m₂ = 32} (omega arith) (pow_mono {j = 5} c.requires.1)
 
-shl-result : tie.Need-overflow-shl-result
+shl-result : tie.Need-overflow_shl-result
 shl-result c = search rules
 
-add_result : tie.Need-overflow-add-result
+add_result : tie.Need-overflow_add-result
 add_result c = omega (arith, first_le c)
 
-cast-result : tie.Need-overflow-cast-result
+cast-result : tie.Need-overflow_cast-result
 cast-result c = omega (arith, first_le c)
 
 returns : tie.Need-returns
 returns c = omega (arith, first_le c)
 
-pub sub-leaf-spec : {M : Type 1} → statement M
-sub-leaf-spec = tie.close (tie.spec shl-result add_result cast-result returns)
+pub sub_leaf_spec : {M : Type 1} → statement M
+sub_leaf_spec = tie.close (tie.spec shl-result add_result cast-result returns)

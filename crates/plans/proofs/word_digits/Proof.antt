@@ -4,11 +4,11 @@ use Rattle.plans.specs.PairLaws.{words_few, words_many}
 use Rattle.plans.proofs.word_digits.Statement.{statement}
 use Rattle.plans.proofs.word_digits.Tie as tie
 
-returns : tie.Need-returns
-returns c = (words_few c.before.args.n c.if1.true, omega arith)
+returns : tie.Need-returns-then-n-lt6
+returns c = (words_few c.before.args.n c.if-n-lt6.true, omega arith)
 
-returns-2 : tie.Need-returns-2
+returns-2 : tie.Need-returns
 returns-2 c = (words_many c.before.args.n, omega arith)
 
-pub word-digits-spec : {M : Type 1} → statement M
-word-digits-spec = tie.close (tie.spec returns returns-2)
+pub word_digits_spec : {M : Type 1} → statement M
+word_digits_spec = tie.close (tie.spec returns returns-2)

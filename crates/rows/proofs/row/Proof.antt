@@ -8,29 +8,29 @@ use borrow.Author.Rules.{rules}
 use Rattle.rows.proofs.row.Statement.{statement}
 use Rattle.rows.proofs.row.Tie as tie
 
-row-range-requires : tie.Need-row-range-requires
+row-range-requires : tie.Need-row_range-range-requires
 row-range-requires c κs = search rules
 
-part-result-end : tie.Need-slice-bounds-result-end
-part-result-end c = rw c.before.row-range.ensures (range_inside _ _ _).0
+part-result-end : tie.Need-slice_bounds-result-end
+part-result-end c = rw c.before.row_range-range.ensures (range_inside _ _ _).0
 
-add-end : tie.Need-overflow-add-end
+add-end : tie.Need-overflow_add-end
 add-end c = omega (arith, part-result-end c)
 
-sub-result : tie.Need-overflow-sub-result
+sub-result : tie.Need-slice_bounds-result-count
 sub-result c = search rules
 
-part-result-start : tie.Need-slice-bounds-result-start
+part-result-start : tie.Need-slice_bounds-result-start
 part-result-start c = search rules
 
 returns : tie.Need-returns
 unfolding row_part
 returns c =
-    let range = c.before.before.row-range in
+    let range = c.before.before.row_range-range in
     let size : range.result.offset + range.result.bytes - range.result.offset ≡ range.result.bytes = omega arith in
     rw (size, range.ensures) (refl, (refl, omega arith))
 
-pub row-spec : {M : Type 1} → statement M
-row-spec =
+pub row_spec : {M : Type 1} → statement M
+row_spec =
     tie.close
     (tie.spec row-range-requires add-end sub-result part-result-start part-result-end returns)

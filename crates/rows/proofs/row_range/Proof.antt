@@ -7,24 +7,24 @@ use borrow.Author.Rules.{rules}
 use Rattle.rows.proofs.row_range.Statement.{statement}
 use Rattle.rows.proofs.row_range.Tie as tie
 
-mul-t5 : tie.Need-overflow-mul-t5
+mul-t5 : tie.Need-overflow_mul-result
 mul-t5 c = search rules
 
-returns : tie.Need-returns
-returns c = sym (range_some (row_levels constant_levels) _ _ c.before.if1.true c.if2.true)
+returns : tie.Need-returns-then-bytes-ge-ANSWER_BYTES
+returns c = sym (range_some (row_levels constant_levels) _ _ c.before.if-variable-lt-ROW_COUNT.true c.if-bytes-ge-ANSWER_BYTES.true)
 
 nothing-requires : tie.Need-nothing-requires
 nothing-requires c κs = search rules
 
-returns-2 : tie.Need-returns-2
-returns-2 c = c.nothing.ensures ∙ sym (range_short (row_levels constant_levels) _ _ c.before.before.if1.true c.before.if2.false)
+returns-2 : tie.Need-returns-then-variable-lt-ROW_COUNT
+returns-2 c = c.nothing.ensures ∙ sym (range_short (row_levels constant_levels) _ _ c.before.before.if-variable-lt-ROW_COUNT.true c.before.if-bytes-ge-ANSWER_BYTES.false)
 
 nothing-requires-2 : tie.Need-nothing-requires-2
 nothing-requires-2 c κs = search rules
 
-returns-3 : tie.Need-returns-3
-returns-3 c = c.nothing2.ensures ∙ sym (range_none (row_levels constant_levels) _ _ c.before.if1.false)
+returns-3 : tie.Need-returns
+returns-3 c = c.nothing-2.ensures ∙ sym (range_none (row_levels constant_levels) _ _ c.before.if-variable-lt-ROW_COUNT.false)
 
-pub row-range-spec : {M : Type 1} → statement M
-row-range-spec =
+pub row_range_spec : {M : Type 1} → statement M
+row_range_spec =
     tie.close (tie.spec mul-t5 returns nothing-requires returns-2 nothing-requires-2 returns-3)

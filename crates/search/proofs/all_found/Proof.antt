@@ -7,14 +7,14 @@ use Rattle.search.proofs.all_found.Tie as tie
 digit-requires : tie.Need-digit-requires
 digit-requires c κs = search rules
 
-all-set-requires : tie.Need-all-set-requires
+all-set-requires : tie.Need-all_set-requires
 all-set-requires c κs = search rules
 
-returns : tie.Need-returns
-returns c = rw (sym c.before.before.digit.ensures ∙ c.before.if1.true) c.all_set.ensures
+returns : tie.Need-returns-then-digit
+returns c = rw (sym c.before.before.digit.ensures ∙ c.before.if-digit.true) c.all_set.ensures
 
-returns-2 : tie.Need-returns-2
-returns-2 c = c.if1.false ∙ sym (rw (sym c.before.digit.ensures ∙ c.if1.false))
+returns-2 : tie.Need-returns-else-digit
+returns-2 c = c.if-digit.false ∙ sym (rw (sym c.before.digit.ensures ∙ c.if-digit.false))
 
-pub all-found-spec : {M : Type 1} → statement M
-all-found-spec = tie.close (tie.spec digit-requires all-set-requires returns returns-2)
+pub all_found_spec : {M : Type 1} → statement M
+all_found_spec = tie.close (tie.spec digit-requires all-set-requires returns returns-2)

@@ -14,5 +14,5 @@ returns c =
     let a = c.before.args in
     ap (leb a.count) c.lowest.ensures ∙ bits_all 64 a.x a.count c.before.ranges.x.fits c.before.requires
 
-pub all-set-spec : {M : Type 1} → statement M
-all-set-spec = tie.close (tie.spec lowest-requires returns)
+pub all_set_spec : {M : Type 1} → statement M
+all_set_spec = tie.close (tie.spec lowest-requires returns)

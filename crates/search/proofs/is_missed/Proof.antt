@@ -7,26 +7,26 @@ use Rattle.search.proofs.is_missed.Tie as tie
 digit-requires : tie.Need-digit-requires
 digit-requires c κs = search rules
 
-add-all-set : tie.Need-overflow-add-all-set
+add-all-set : tie.Need-overflow_add-j
 add-all-set c = search rules
 
-mul-all-set : tie.Need-overflow-mul-all-set
+mul-all-set : tie.Need-offset_bounds-rows-j
 mul-all-set c = search rules
 
-element-copy-out-all-set : tie.Need-element-copy-out-all-set
+element-copy-out-all-set : tie.Need-bounds-rows-j
 element-copy-out-all-set c = search rules
 
-all-set-requires : tie.Need-all-set-requires
+all-set-requires : tie.Need-all_set-requires
 all-set-requires c κs = search rules
 
-returns : tie.Need-returns
-returns c = rw (sym c.before.before.before.digit.ensures ∙ c.before.before.if1.true) c.all_set.ensures
+returns : tie.Need-returns-then-digit
+returns c = rw (sym c.before.before.before.digit.ensures ∙ c.before.before.if-digit.true) c.all_set.ensures
 
-returns-2 : tie.Need-returns-2
-returns-2 c = c.if1.false ∙ sym (rw (sym c.before.digit.ensures ∙ c.if1.false))
+returns-2 : tie.Need-returns-else-digit
+returns-2 c = c.if-digit.false ∙ sym (rw (sym c.before.digit.ensures ∙ c.if-digit.false))
 
-pub is-missed-spec : {M : Type 1} → statement M
-is-missed-spec =
+pub is_missed_spec : {M : Type 1} → statement M
+is_missed_spec =
     tie.close
     (tie.spec
     digit-requires

@@ -9,42 +9,42 @@ use Rattle.search.specs.Found.{is_missed}
 use Rattle.search.proofs.lowest_missed.Statement.{statement}
 use Rattle.search.proofs.lowest_missed.Tie as tie
 
-abbrev invariant-loop : tie.invariant-loop
-invariant-loop possible rows first_count second-count lowest₀ lowest = (k : ℕ) → k < lowest → is_missed possible rows first_count k ≡ false
+abbrev invariant-loop-lowest : tie.invariant-loop-lowest
+invariant-loop-lowest possible rows first_count second-count lowest₀ lowest = (k : ℕ) → k < lowest → is_missed possible rows first_count k ≡ false
 
-abbrev decreases-loop : tie.decreases-loop
-decreases-loop possible rows first_count second-count lowest₀ lowest = second-count - lowest
+abbrev decreases-loop-lowest : tie.decreases-loop-lowest
+decreases-loop-lowest possible rows first_count second-count lowest₀ lowest = second-count - lowest
 
-loop-holds : tie.Need-loop-init invariant-loop decreases-loop
+loop-holds : tie.Need-loop-lowest-init invariant-loop-lowest decreases-loop-lowest
 loop-holds c k l = absurd (omega arith)
 
-is-missed-requires : tie.Need-is-missed-requires invariant-loop decreases-loop
+is-missed-requires : tie.Need-is_missed-requires invariant-loop-lowest decreases-loop-lowest
 is-missed-requires c κs = omega arith
 
-returns : tie.Need-returns invariant-loop decreases-loop
+returns : tie.Need-returns-then-is_missed invariant-loop-lowest decreases-loop-lowest
 returns c =
-    let l = c.before.before.before.loop in
-    sym (first_is _ _ l.lowest c.before.before.loop-test.true l.invariant (sym c.before.is-missed.ensures ∙ c.if1.true))
+    let l = c.before.before.before.loop-lowest in
+    sym (first_is _ _ l.lowest c.before.before.loop-lowest-test.true l.invariant (sym c.before.is_missed.ensures ∙ c.if-is_missed.true))
 
-add-lowest : tie.Need-overflow-add-lowest invariant-loop decreases-loop
+add-lowest : tie.Need-overflow_add-lowest invariant-loop-lowest decreases-loop-lowest
 add-lowest c = omega arith
 
-loop-less : tie.Need-loop-smaller invariant-loop decreases-loop
+loop-less : tie.Need-loop-lowest-smaller invariant-loop-lowest decreases-loop-lowest
 loop-less c = omega arith
 
-loop-again : tie.Need-loop-preserved invariant-loop decreases-loop
+loop-again : tie.Need-loop-lowest-preserved invariant-loop-lowest decreases-loop-lowest
 loop-again c =
-    below_more _ _ c.before.before.before.loop.invariant (sym c.before.is-missed.ensures ∙ c.if1.false)
+    below_more _ _ c.before.before.before.loop-lowest.invariant (sym c.before.is_missed.ensures ∙ c.if-is_missed.false)
 
-returns-2 : tie.Need-returns-2 invariant-loop decreases-loop
-returns-2 c = sym (first_none _ _ (λ k h. c.before.loop.invariant k (omega arith)))
+returns-2 : tie.Need-returns invariant-loop-lowest decreases-loop-lowest
+returns-2 c = sym (first_none _ _ (λ k h. c.before.loop-lowest.invariant k (omega arith)))
 
-pub lowest-missed-spec : {M : Type 1} → statement M
-lowest-missed-spec =
+pub lowest_missed_spec : {M : Type 1} → statement M
+lowest_missed_spec =
     tie.close
     (tie.spec
-    invariant-loop
-    decreases-loop
+    invariant-loop-lowest
+    decreases-loop-lowest
     loop-holds
     is-missed-requires
     returns

@@ -7,48 +7,48 @@ use borrow.Author.Rules.{rules}
 use Rattle.search.proofs.survey_leaves.Statement.{statement}
 use Rattle.search.proofs.survey_leaves.Tie as tie
 
-element-copy-out-second-count : tie.Need-element-copy-out-second-count
+element-copy-out-second-count : tie.Need-bounds-sizes-3
 element-copy-out-second-count c = search rules
 
-pass-leaves-requires : tie.Need-pass-leaves-requires
+pass-leaves-requires : tie.Need-pass_leaves-seen-requires
 pass-leaves-requires c κs =
     let p = c.before.before.before.before.requires in
     (p.0, (tt, p.1.0, p.1.1, λ k. replicate_at 96 k 0))
 
-element-copy-out-all-found : tie.Need-element-copy-out-all-found
+element-copy-out-all-found : tie.Need-bounds-sizes-1
 element-copy-out-all-found c = search rules
 
-all-found-requires : tie.Need-all-found-requires
+all-found-requires : tie.Need-all_found-requires
 all-found-requires c κs = search rules
 
-returns : tie.Need-returns
+returns : tie.Need-returns-then-not-all_found
 returns c =
-    surveyed_none _ _ _ _ _ _ c.before.before.before.pass-leaves.ensures (sym c.before.all_found.ensures ∙ not-true _ c.if1.true)
+    surveyed_none _ _ _ _ _ _ c.before.before.before.pass_leaves-seen.ensures (sym c.before.all_found.ensures ∙ not-true _ c.if-not-all_found.true)
 
 digit-requires : tie.Need-digit-requires
 digit-requires c κs = search rules
 
-returns-2 : tie.Need-returns-2
+returns-2 : tie.Need-returns-then-digit
 returns-2 c =
     let found = c.before.before in
-    surveyed_unmet _ _ _ _ _ _ found.before.before.before.pass-leaves.ensures
-    (sym found.before.all_found.ensures ∙ not-false _ found.if1.false) (sym c.before.digit.ensures ∙ c.if2.true)
+    surveyed_unmet _ _ _ _ _ _ found.before.before.before.pass_leaves-seen.ensures
+    (sym found.before.all_found.ensures ∙ not-false _ found.if-not-all_found.false) (sym c.before.digit.ensures ∙ c.if-digit.true)
 
-element-copy-out-lowest-missed : tie.Need-element-copy-out-lowest-missed
+element-copy-out-lowest-missed : tie.Need-bounds-sizes-1-2
 element-copy-out-lowest-missed c = search rules
 
-lowest-missed-requires : tie.Need-lowest-missed-requires
+lowest-missed-requires : tie.Need-lowest_missed-requires
 lowest-missed-requires c κs = search rules
 
-returns-3 : tie.Need-returns-3
+returns-3 : tie.Need-returns
 returns-3 c =
     let more = c.before.before.before in
     let found = more.before.before in
-    surveyed_missed _ _ _ _ _ _ found.before.before.before.pass-leaves.ensures _
-    (sym found.before.all_found.ensures ∙ not-false _ found.if1.false) (sym more.before.digit.ensures ∙ more.if2.false) c.lowest_missed_lem.ensures
+    surveyed_missed _ _ _ _ _ _ found.before.before.before.pass_leaves-seen.ensures _
+    (sym found.before.all_found.ensures ∙ not-false _ found.if-not-all_found.false) (sym more.before.digit.ensures ∙ more.if-digit.false) c.lowest_missed.ensures
 
-pub survey-leaves-spec : {M : Type 1} → statement M
-survey-leaves-spec =
+pub survey_leaves_spec : {M : Type 1} → statement M
+survey_leaves_spec =
     tie.close
     (tie.spec
     element-copy-out-second-count

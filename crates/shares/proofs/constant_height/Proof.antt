@@ -10,7 +10,7 @@ use Rattle.shares.proofs.constant_height.Tie as tie
 unlike-requires : tie.Need-unlike-requires
 unlike-requires c κs = search rules
 
-unlike-height-requires : tie.Need-unlike-height-requires
+unlike-height-requires : tie.Need-unlike_height-requires
 unlike-height-requires c κs = search rules
 
 returns : tie.Need-returns
@@ -18,5 +18,5 @@ returns c =
     c.unlike_height.ensures ∙ ap (raised constant_levels constant_levels) c.before.unlike.ensures
     ∙ unlike_height constant_levels c.before.before.args.a
 
-pub constant-height-spec : {M : Type 1} → statement M
-constant-height-spec = tie.close (tie.spec unlike-requires unlike-height-requires returns)
+pub constant_height_spec : {M : Type 1} → statement M
+constant_height_spec = tie.close (tie.spec unlike-requires unlike-height-requires returns)

@@ -23,18 +23,18 @@ joined : (levels a b : ℕ) → a < 2 ^ (2 ^ levels) → b < 2 ^ (2 ^ levels) �
 joined levels a b ha hb true e = (sym (join_numbers levels a b ha hb ∙ rw e refl), rw e refl)
 joined levels a b ha hb false e = (sym (join_numbers levels a b ha hb ∙ rw e refl), rw e refl)
 
-returns : tie.Need-returns
-returns c = joined constant_levels c.before.before.args.a c.before.before.args.b (omega arith) (omega arith) true (sym c.before.overlap.ensures ∙ c.if1.true)
+returns : tie.Need-returns-then-overlap
+returns c = joined constant_levels c.before.before.args.a c.before.before.args.b (omega arith) (omega arith) true (sym c.before.overlap.ensures ∙ c.if-overlap.true)
 
-returns-2 : tie.Need-returns-2
-returns-2 c = joined constant_levels c.before.before.args.a c.before.before.args.b (omega arith) (omega arith) false (sym c.before.overlap.ensures ∙ c.if1.false)
+returns-2 : tie.Need-returns
+returns-2 c = joined constant_levels c.before.before.args.a c.before.before.args.b (omega arith) (omega arith) false (sym c.before.overlap.ensures ∙ c.if-overlap.false)
 
 -- the sum fits: this need stands without its name, so that it is also asked of an edit that has another operation
-pub join-constants-spec : {M : Type 1} → statement M
-join-constants-spec =
+pub join_constants_spec : {M : Type 1} → statement M
+join_constants_spec =
     tie.close
     (tie.spec
     overlap-requires
     returns
-    (λ c. omega (arith, sum_lt (2 ^ constant_levels) c.before.before.args.a c.before.before.args.b (omega arith) (omega arith) (of_false (sym c.before.overlap.ensures ∙ c.if1.false))))
+    (λ c. omega (arith, sum_lt (2 ^ constant_levels) c.before.before.args.a c.before.before.args.b (omega arith) (omega arith) (of_false (sym c.before.overlap.ensures ∙ c.if-overlap.false))))
     returns-2)

@@ -10,5 +10,5 @@ use Rattle.shares.proofs.overlap.Tie as tie
 returns : tie.Need-returns
 returns c = rw (set_in_both_lem (2 ^ constant_levels) c.args.a c.args.b (omega arith) (omega arith)) refl
 
-pub overlap-spec : {M : Type 1} → statement M
-overlap-spec = tie.close (tie.spec returns)
+pub overlap_spec : {M : Type 1} → statement M
+overlap_spec = tie.close (tie.spec returns)

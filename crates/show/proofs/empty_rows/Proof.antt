@@ -11,26 +11,26 @@ use borrow.Author.Rules.{rules}
 use Rattle.show.proofs.empty_rows.Statement.{statement}
 use Rattle.show.proofs.empty_rows.Tie as tie
 
-slice-relend-prefix-fill : tie.Need-slice-relend-prefix-fill
+slice-relend-prefix-fill : tie.Need-slice_bounds-fill-end
 slice-relend-prefix-fill c = search rules
 
-slice-aggregate-fill : tie.Need-slice-aggregate-fill
-slice-aggregate-fill c = sym (length-take-le (answer_bytes constant_levels) c.before.before.args.answer.now c.before.before.requires)
+slice-aggregate-fill : tie.Need-slice_bounds-fill-end-2
+slice-aggregate-fill c = sym (length-take-le (answer_bytes constant_levels) c.before.before.args.answer-1.now c.before.before.requires)
 
 fill-requires : tie.Need-fill-requires
 fill-requires c κs = search rules
 
-same_length : tie.Need-same-length
+same_length : tie.Need-shape_of-answer
 same_length c = search rules
 
 returns : tie.Need-returns
 unfolding emptied zeros
 returns c =
     let start = c.before.before.before.before.before in
-    let size = length-take-le (answer_bytes constant_levels) start.args.answer.now start.requires in
-    ap (λ l. l ++ drop (answer_bytes constant_levels) start.args.answer.now) (c.before.before.fill.ensures ∙ ap (λ (n : ℕ). replicate n 0) size)
+    let size = length-take-le (answer_bytes constant_levels) start.args.answer-1.now start.requires in
+    ap (λ l. l ++ drop (answer_bytes constant_levels) start.args.answer-1.now) (c.before.before.fill.ensures ∙ ap (λ (n : ℕ). replicate n 0) size)
 
-pub empty-rows-spec : {M : Type 1} → statement M
-empty-rows-spec =
+pub empty_rows_spec : {M : Type 1} → statement M
+empty_rows_spec =
     tie.close
     (tie.spec slice-relend-prefix-fill slice-aggregate-fill fill-requires same_length returns)

@@ -20,73 +20,73 @@ use Rattle.show.proofs.write_leaves.Tie as tie
 abbrev digits : List ℕ → ℕ → ℕ → Bool
 digits plain p k = bit (get_or plain k 0) p
 
-abbrev invariant-loop : tie.invariant-loop
-invariant-loop row₀ plain low p height count k₀ row k = (k ≤ count) × (length row ≡ length row₀) × FirstBlocks row height k (digits plain p)
+abbrev invariant-loop-k : tie.invariant-loop-k
+invariant-loop-k row₀ plain low p height count k₀ row k = (k ≤ count) × (length row ≡ length row₀) × FirstBlocks row height k (digits plain p)
 
-abbrev decreases-loop : tie.decreases-loop
-decreases-loop row₀ plain low p height count k₀ row k = count - k
+abbrev decreases-loop-k : tie.decreases-loop-k
+decreases-loop-k row₀ plain low p height count k₀ row k = count - k
 
-sub-height : tie.Need-overflow-sub-height invariant-loop decreases-loop
+sub-height : tie.Need-overflow_sub-height invariant-loop-k decreases-loop-k
 sub-height c = omega arith
 
-power-requires : tie.Need-power-requires invariant-loop decreases-loop
+power-requires : tie.Need-power-count-requires invariant-loop-k decreases-loop-k
 power-requires c κs = omega arith
 
-loop-holds : tie.Need-loop-init invariant-loop decreases-loop
+loop-holds : tie.Need-loop-k-init invariant-loop-k decreases-loop-k
 loop-holds c =
     let start = c.before.before in
     (omega arith, refl, rw start.requires.1 (blocks_none _ (digits start.args.plain.now start.args.p) (row_bytes constant_levels)))
 
-mul-digit-of : tie.Need-overflow-mul-digit-of invariant-loop decreases-loop
+mul-digit-of : tie.Need-offset_bounds-plain-k invariant-loop-k decreases-loop-k
 mul-digit-of c = omega (arith, pow_mono c.before.before.before.before.before.requires.0)
 
-element-copy-out-digit-of : tie.Need-element-copy-out-digit-of invariant-loop decreases-loop
+element-copy-out-digit-of : tie.Need-bounds-plain-k invariant-loop-k decreases-loop-k
 element-copy-out-digit-of c = omega (arith, pow_mono c.before.before.before.before.before.requires.0)
 
-digit-of-requires : tie.Need-digit-of-requires invariant-loop decreases-loop
+digit-of-requires : tie.Need-digit_of-requires invariant-loop-k decreases-loop-k
 digit-of-requires c κs = c.before.before.before.before.before.before.requires.2
 
-change-block-requires : tie.Need-change-block-requires invariant-loop decreases-loop
+change-block-requires : tie.Need-change_block-requires invariant-loop-k decreases-loop-k
 change-block-requires c κs =
     let start = c.before.before.before.before.before.before.before in
-    let l = c.before.before.before.before.loop in
+    let l = c.before.before.before.before.loop-k in
     let within : start.args.low ≤ row_levels constant_levels = omega arith in
     let below : l.k < 2 ^ start.args.low = omega arith in
     let size = l.invariant.1 ∙ ap length start.requires.1 ∙ zeros_length (row_bytes constant_levels) in (
       subst (Inside (row_levels constant_levels - start.args.low) l.k) (sym size) (leaf_inside (lit≤ tt) (lit≤ tt) within below),
-      blocks_next _ (digits start.args.plain.now start.args.p) _ l.row l.invariant.2,
+      blocks_next _ (digits start.args.plain.now start.args.p) _ l.row-1 l.invariant.2,
     )
 
-add-k : tie.Need-overflow-add-k invariant-loop decreases-loop
+add-k : tie.Need-overflow_add-k invariant-loop-k decreases-loop-k
 add-k c = omega arith
 
-loop-less : tie.Need-loop-smaller invariant-loop decreases-loop
+loop-less : tie.Need-loop-k-smaller invariant-loop-k decreases-loop-k
 loop-less c = omega arith
 
-loop-again : tie.Need-loop-preserved invariant-loop decreases-loop
+loop-again : tie.Need-loop-k-preserved invariant-loop-k decreases-loop-k
 loop-again c =
     let start = c.before.before.before.before.before.before.before.before.before.before in
-    let l = c.before.before.before.before.before.before.before.loop in (
+    let l = c.before.before.before.before.before.before.before.loop-k in (
       omega arith,
-      c.before.before.change-block.auto.0 ∙ l.invariant.1,
-      blocks_more _ (digits start.args.plain.now start.args.p) _ _ l.row _ l.invariant.2 c.before.before.change-block.ensures c.before.before.before.digit_of.ensures,
+      c.before.before.change_block.auto.0 ∙ l.invariant.1,
+      blocks_more _ (digits start.args.plain.now start.args.p) _ _ l.row-1 _ l.invariant.2 c.before.before.change_block.ensures c.before.before.before.digit_of.ensures,
     )
 
-same_length : tie.Need-same-length invariant-loop decreases-loop
-same_length c = c.before.loop.invariant.1
+same_length : tie.Need-shape_of-row invariant-loop-k decreases-loop-k
+same_length c = c.before.loop-k.invariant.1
 
-returns : tie.Need-returns invariant-loop decreases-loop
+returns : tie.Need-returns invariant-loop-k decreases-loop-k
 returns c =
     let start = c.before.before.before.before in
     let within : start.args.low ≤ row_levels constant_levels = omega arith in
-    λ i l. blocks_all _ (digits start.args.plain.now start.args.p) _ c.before.loop.row c.before.loop.invariant.2 i (omega (arith, block_lt within l))
+    λ i l. blocks_all _ (digits start.args.plain.now start.args.p) _ c.before.loop-k.row-1 c.before.loop-k.invariant.2 i (omega (arith, block_lt within l))
 
-pub write-leaves-spec : {M : Type 1} → statement M
-write-leaves-spec =
+pub write_leaves_spec : {M : Type 1} → statement M
+write_leaves_spec =
     tie.close
     (tie.spec
-    invariant-loop
-    decreases-loop
+    invariant-loop-k
+    decreases-loop-k
     sub-height
     power-requires
     loop-holds

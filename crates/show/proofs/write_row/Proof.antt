@@ -10,30 +10,30 @@ use borrow.Author.Rules.{rules}
 use Rattle.show.proofs.write_row.Statement.{statement}
 use Rattle.show.proofs.write_row.Tie as tie
 
-write-leaves-requires : tie.Need-write-leaves-requires
+write-leaves-requires : tie.Need-write_leaves-requires
 write-leaves-requires c κs = search rules
 
-write-sub-leaves-requires : tie.Need-write-sub-leaves-requires
+write-sub-leaves-requires : tie.Need-write_sub_leaves-requires
 write-sub-leaves-requires c κs =
     let start = c.before.before.before.before.before.before in (
       start.requires.0,
       (
-        c.before.before.before.write-leaves.auto.0 ∙ ap length start.requires.1.0 ∙ zeros_length (row_bytes constant_levels),
+        c.before.before.before.write_leaves.auto.0 ∙ ap length start.requires.1.0 ∙ zeros_length (row_bytes constant_levels),
         start.requires.1.2,
-        shows_plain (row_levels constant_levels) _ start.requires.0 _ _ (rw start.requires.1.1 at c.before.before.before.write-leaves.ensures),
+        shows_plain (row_levels constant_levels) _ start.requires.0 _ _ (rw start.requires.1.1 at c.before.before.before.write_leaves.ensures),
       ),
     )
 
-same_length : tie.Need-same-length
+same_length : tie.Need-shape_of-row
 same_length c = search rules
 
 returns : tie.Need-returns
 returns c =
     let start = c.before.before.before.before.before.before.before.before.before in
     shows_all (row_levels constant_levels) _ start.requires.0 _ (lit≤ tt) _
-    (c.before.before.write-sub-leaves.auto.0 ∙ c.before.before.before.before.before.before.write-leaves.auto.0 ∙ ap length start.requires.1.0 ∙ zeros_length (row_bytes constant_levels))
-    (λ j. (c.slice-known3.given j).fits) c.before.before.write-sub-leaves.ensures
+    (c.before.before.write_sub_leaves.auto.0 ∙ c.before.before.before.before.before.before.write_leaves.auto.0 ∙ ap length start.requires.1.0 ∙ zeros_length (row_bytes constant_levels))
+    (λ j. (c.slice_known-3-1.given j).fits) c.before.before.write_sub_leaves.ensures
 
-pub write-row-spec : {M : Type 1} → statement M
-write-row-spec =
+pub write_row_spec : {M : Type 1} → statement M
+write_row_spec =
     tie.close (tie.spec write-leaves-requires write-sub-leaves-requires same_length returns)

@@ -13,10 +13,10 @@ use Rattle.words.specs.Table.{Terms}
 use Rattle.steps.proofs.first_word.Statement.{statement}
 use Rattle.steps.proofs.first_word.Tie as tie
 
-element-copy-out-section-word : tie.Need-element-copy-out-section-word
+element-copy-out-section-word : tie.Need-bounds-sizes-0
 element-copy-out-section-word c = search rules
 
-section-word-requires : tie.Need-section-word-requires
+section-word-requires : tie.Need-section_word-requires
 section-word-requires c κs = c.before.requires.0.first_positive
 
 returns : tie.Need-returns
@@ -25,10 +25,10 @@ returns c =
     let P = c.before.before.requires in
     let S = stored_by a.t3 a.clauses.now [] in
     let bits : (values : ℕ) → Terms a.t3.free a.t3.own values a.w a.terms.now → (i : ℕ) → i < 64
-    → bit c.section-word.result i ≡ first_meets S values (64 * a.w + i) =
-    λ values t i l. c.section-word.ensures i l ∙ ap₂ ◌&&◌ (bit_ones 64 i l) (first_bits a.t3 a.clauses.now P.0 values a.w a.terms.now t i l) in
+    → bit c.section_word.result i ≡ first_meets S values (64 * a.w + i) =
+    λ values t i l. c.section_word.ensures i l ∙ ap₂ ◌&&◌ (bit_ones 64 i l) (first_bits a.t3 a.clauses.now P.0 values a.w a.terms.now t i l) in
     let (values, t) = P.1.1 in
-    (word_free a.t3.free a.w c.section-word.result (first_meets S values) P.1.0 (first_periodic S values) (bits values t), bits)
+    (word_free a.t3.free a.w c.section_word.result (first_meets S values) P.1.0 (first_periodic S values) (bits values t), bits)
 
-pub first-word-spec : {M : Type 1} → statement M
-first-word-spec = tie.close (tie.spec element-copy-out-section-word section-word-requires returns)
+pub first_word_spec : {M : Type 1} → statement M
+first_word_spec = tie.close (tie.spec element-copy-out-section-word section-word-requires returns)

@@ -16,24 +16,24 @@ use Rattle.shares.specs.Shifts.{power_shift, power_bit}
 use Rattle.steps.proofs.missed_word.Statement.{statement}
 use Rattle.steps.proofs.missed_word.Tie as tie
 
-returns : tie.Need-returns
+returns : tie.Need-returns-then-x-eq0
 returns c values t bits =
     let a = c.before.args in
-    (t, λ i l. bit_zero i ∙ sym (ap (λ b. b && not (second_differs (stored_by a.sizes a.clauses.now []) values a.j (64 * a.w + i))) (sym (bits i l) ∙ ap (λ x. bit x i) c.if1.true ∙ bit_zero i)))
+    (t, λ i l. bit_zero i ∙ sym (ap (λ b. b && not (second_differs (stored_by a.sizes a.clauses.now []) values a.j (64 * a.w + i))) (sym (bits i l) ∙ ap (λ x. bit x i) c.if-x-eq0.true ∙ bit_zero i)))
 
-shl-missing : tie.Need-overflow-shl-missing
+shl-missing : tie.Need-overflow_shl-j
 shl-missing c = search rules
 
 missing-requires : tie.Need-missing-requires
 missing-requires c κs = (c.before.before.before.requires.0, (c.before.before.before.requires.1.0, omega arith, c.before.before.before.requires.1.2))
 
-mul-result : tie.Need-overflow-mul-result
+mul-result : tie.Need-offset_bounds-rows-j
 mul-result c = search rules
 
-element-copy-out-result : tie.Need-element-copy-out-result
+element-copy-out-result : tie.Need-bounds-rows-j
 element-copy-out-result c = search rules
 
-returns-2 : tie.Need-returns-2
+returns-2 : tie.Need-returns
 returns-2 c values t bits =
     let a = c.before.before.before.before.before.args in
     let P = c.before.before.before.before.before.requires in
@@ -44,7 +44,7 @@ returns-2 c values t bits =
           ∙ ap (λ b. b && not (second_differs (stored_by a.sizes a.clauses.now []) values a.j (64 * a.w + i))) (bits i l),
     )
 
-pub missed-word-spec : {M : Type 1} → statement M
-missed-word-spec =
+pub missed_word_spec : {M : Type 1} → statement M
+missed_word_spec =
     tie.close
     (tie.spec returns shl-missing missing-requires mul-result element-copy-out-result returns-2)

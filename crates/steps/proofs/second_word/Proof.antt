@@ -9,63 +9,63 @@ use Rattle.steps.proofs.second_word.Tie as tie
 digit-requires : tie.Need-digit-requires
 digit-requires c κs = search rules
 
-returns : tie.Need-returns
+returns : tie.Need-returns-then-digit
 returns c =
     let a = c.before.before.args in
-    (λ values t. (t, λ first. second_before a.t3 a.clauses.now values a.at a.seen _ _ (sym c.before.digit.ensures ∙ c.if1.true)), (refl, λ k n. refl, λ k n. refl))
+    (λ values t. (t, λ first. second_before a.t3 a.clauses.now values a.at a.seen _ _ (sym c.before.digit.ensures ∙ c.if-digit.true)), (refl, λ k n. refl, λ k n. refl))
 
-missing-requires : tie.Need-missing-requires
+missing-requires : tie.Need-missing-none-requires
 missing-requires c κs = let s = c.before.before.before.before in (s.requires.0, (s.requires.1.0, omega arith, s.requires.1.1))
 
-keep-word-requires : tie.Need-keep-word-requires
+keep-word-requires : tie.Need-keep_word-met-requires
 keep-word-requires c κs = search rules
 
-returns-2 : tie.Need-returns-2
+returns-2 : tie.Need-returns-then-seen-eq0
 returns-2 c =
     let s = c.before.before.before.before.before.before.before.before.before in
     let a = s.args in
-    let M = c.before.before.before.before.missing.ensures in
-    let K = c.before.before.keep_word.ensures in (
+    let M = c.before.before.before.before.missing-none.ensures in
+    let K = c.before.before.keep_word-met.ensures in (
       λ values t. (
         (M.0 values t).0,
-        λ first Z. second_alone a.t3 a.clauses.now s.requires.0 values a.at a.seen _ _ first _ _ (M.0 values t).1 M.1 (sym c.before.before.before.before.before.before.before.before.digit.ensures ∙ c.before.before.before.before.before.before.before.if1.false) Z _ _ K c.if2.true,
+        λ first Z. second_alone a.t3 a.clauses.now s.requires.0 values a.at a.seen _ _ first _ _ (M.0 values t).1 M.1 (sym c.before.before.before.before.before.before.before.before.digit.ensures ∙ c.before.before.before.before.before.before.before.if-digit.false) Z _ _ K c.if-seen-eq0.true,
       ),
       (refl, K.met_kept, K.firsts_kept),
     )
 
-element-copy-out-fill-failing : tie.Need-element-copy-out-fill-failing
+element-copy-out-fill-failing : tie.Need-bounds-sizes-1
 element-copy-out-fill-failing c = search rules
 
-fill-failing-requires : tie.Need-fill-failing-requires
+fill-failing-requires : tie.Need-fill_failing-any-requires
 fill-failing-requires c κs = search rules
 
-element-copy-out-mark-all : tie.Need-element-copy-out-mark-all
+element-copy-out-mark-all : tie.Need-bounds-sizes-1-2
 element-copy-out-mark-all c = search rules
 
-element-copy-out-mark-all-2 : tie.Need-element-copy-out-mark-all-2
+element-copy-out-mark-all-2 : tie.Need-bounds-sizes-3
 element-copy-out-mark-all-2 c = search rules
 
-mark-all-requires : tie.Need-mark-all-requires
+mark-all-requires : tie.Need-mark_all-more-requires
 mark-all-requires c κs = search rules
 
-returns-3 : tie.Need-returns-3
+returns-3 : tie.Need-returns
 returns-3 c =
     let s = c.before.before.before.before.before.before.before.before.before.before.before.before.before.before.before.before.before in
     let a = s.args in
-    let M = c.before.before.before.before.before.before.before.before.before.before.before.before.missing.ensures in
-    let K = c.before.before.before.before.before.before.before.before.before.before.keep_word.ensures in
-    let F = c.before.before.before.before.fill-failing.ensures in (
+    let M = c.before.before.before.before.before.before.before.before.before.before.before.before.missing-none.ensures in
+    let K = c.before.before.before.before.before.before.before.before.before.before.keep_word-met.ensures in
+    let F = c.before.before.before.before.fill_failing-any.ensures in (
       λ values t. (
         (M.0 values t).0,
         λ first Z.
-            second_marked a.t3 a.clauses.now s.requires.0 values a.at a.seen _ _ first _ _ (M.0 values t).1 M.1 (sym c.before.before.before.before.before.before.before.before.before.before.before.before.before.before.before.before.digit.ensures ∙ c.before.before.before.before.before.before.before.before.before.before.before.before.before.before.before.if1.false) Z _ _ K
-            c.before.before.before.before.before.before.before.before.before.before.before.before.missing.new.0 _ (M.0 values t).0 F.0 F.1.0 _ _ _ c.mark-all.ensures,
+            second_marked a.t3 a.clauses.now s.requires.0 values a.at a.seen _ _ first _ _ (M.0 values t).1 M.1 (sym c.before.before.before.before.before.before.before.before.before.before.before.before.before.before.before.before.digit.ensures ∙ c.before.before.before.before.before.before.before.before.before.before.before.before.before.before.before.if-digit.false) Z _ _ K
+            c.before.before.before.before.before.before.before.before.before.before.before.before.missing-none.new.0 _ (M.0 values t).0 F.0 F.1.0 _ _ _ c.mark_all-more.ensures,
       ),
       (refl, K.met_kept, K.firsts_kept),
     )
 
-pub second-word-spec : {M : Type 1} → statement M
-second-word-spec =
+pub second_word_spec : {M : Type 1} → statement M
+second_word_spec =
     tie.close
     (tie.spec
     digit-requires

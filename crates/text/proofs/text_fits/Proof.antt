@@ -13,19 +13,19 @@ use Rattle.text.proofs.Answers.{row_inside, row_text_lem}
 use Rattle.text.proofs.text_fits.Statement.{statement}
 use Rattle.text.proofs.text_fits.Tie as tie
 
-returns : tie.Need-returns
+returns : tie.Need-returns-then-room-ge-LONGEST_TEXT
 returns c =
     let row = c.before.before.args.row.now in
     let short : length (row_text (row_levels constant_levels) row) ≤ c.before.before.args.room = omega (arith, row_text_length (row_levels constant_levels) row) in
     sym (le-leb _ _ short)
 
-text-length-requires : tie.Need-text-length-requires
+text-length-requires : tie.Need-text_length-requires
 text-length-requires c κs = row_inside (row_levels constant_levels) _ (lit≤ tt) (lit≤ tt) c.before.before.requires
 
-returns-2 : tie.Need-returns-2
+returns-2 : tie.Need-returns
 returns-2 c =
     let start = c.before.before.before in
-    ap (λ (n : ℕ). leb n start.args.room) (c.text_length_lem.ensures.0 ∙ ap length (row_text_lem _ start.args.row.now))
+    ap (λ (n : ℕ). leb n start.args.room) (c.text_length.ensures.0 ∙ ap length (row_text_lem _ start.args.row.now))
 
-pub text-fits-spec : {M : Type 1} → statement M
-text-fits-spec = tie.close (tie.spec returns text-length-requires returns-2)
+pub text_fits_spec : {M : Type 1} → statement M
+text_fits_spec = tie.close (tie.spec returns text-length-requires returns-2)

@@ -12,46 +12,46 @@ use Rattle.unfolded.specs.UnfoldedLaws.{every_word, first_not_last}
 use Rattle.unfolded.proofs.everywhere.Statement.{statement}
 use Rattle.unfolded.proofs.everywhere.Tie as tie
 
-abbrev invariant-loop : tie.invariant-loop
-invariant-loop table join w₀ w = (w ≤ 16) × (every_below (64 * w) (join_at (row_words constant_levels) table join) ≡ true)
+abbrev invariant-loop-w : tie.invariant-loop-w
+invariant-loop-w table join w₀ w = (w ≤ 16) × (every_below (64 * w) (join_at (row_words constant_levels) table join) ≡ true)
 
-abbrev decreases-loop : tie.decreases-loop
-decreases-loop table join w₀ w = 16 - w
+abbrev decreases-loop-w : tie.decreases-loop-w
+decreases-loop-w table join w₀ w = 16 - w
 
-loop-holds : tie.Need-loop-init invariant-loop decreases-loop
+loop-holds : tie.Need-loop-w-init invariant-loop-w decreases-loop-w
 unfolding every_below
 loop-holds c = (omega arith, refl)
 
-join-word-requires : tie.Need-join-word-requires invariant-loop decreases-loop
+join-word-requires : tie.Need-join_word-requires invariant-loop-w decreases-loop-w
 join-word-requires c κs = search rules
 
-returns : tie.Need-returns invariant-loop decreases-loop
+returns : tie.Need-returns-then-join_word invariant-loop-w decreases-loop-w
 returns c =
-    let x = c.before.join-word in
-    let l = c.before.before.before.loop in
-    sym (first_not_last _ l.w x.result x.ensures l.invariant.1 x.type-inv c.if1.true 16 (omega arith))
+    let x = c.before.join_word in
+    let l = c.before.before.before.loop-w in
+    sym (first_not_last _ l.w x.result x.ensures l.invariant.1 x.type-inv c.if-join_word.true 16 (omega arith))
 
-add-w : tie.Need-overflow-add-w invariant-loop decreases-loop
+add-w : tie.Need-overflow_add-w invariant-loop-w decreases-loop-w
 add-w c = omega arith
 
-loop-less : tie.Need-loop-smaller invariant-loop decreases-loop
+loop-less : tie.Need-loop-w-smaller invariant-loop-w decreases-loop-w
 loop-less c = omega arith
 
-loop-again : tie.Need-loop-preserved invariant-loop decreases-loop
+loop-again : tie.Need-loop-w-preserved invariant-loop-w decreases-loop-w
 loop-again c =
-    let l = c.before.before.before.loop in
-    let x = c.before.join-word in
-    (omega arith, every_word _ l.w x.result x.ensures l.invariant.1 c.if1.false)
+    let l = c.before.before.before.loop-w in
+    let x = c.before.join_word in
+    (omega arith, every_word _ l.w x.result x.ensures l.invariant.1 c.if-join_word.false)
 
-returns-2 : tie.Need-returns-2 invariant-loop decreases-loop
-returns-2 c = let e : c.before.loop.w ≡ 16 = omega arith in sym (sym (every_first 1024 _) ∙ rw e at c.before.loop.invariant.1)
+returns-2 : tie.Need-returns invariant-loop-w decreases-loop-w
+returns-2 c = let e : c.before.loop-w.w ≡ 16 = omega arith in sym (sym (every_first 1024 _) ∙ rw e at c.before.loop-w.invariant.1)
 
-pub everywhere-spec : {M : Type 1} → statement M
-everywhere-spec =
+pub everywhere_spec : {M : Type 1} → statement M
+everywhere_spec =
     tie.close
     (tie.spec
-    invariant-loop
-    decreases-loop
+    invariant-loop-w
+    decreases-loop-w
     loop-holds
     join-word-requires
     returns

@@ -13,55 +13,55 @@ use Rattle.unfolded.specs.UnfoldedLaws.{every_word, first_word}
 use Rattle.unfolded.proofs.first_failing.Statement.{statement}
 use Rattle.unfolded.proofs.first_failing.Tie as tie
 
-abbrev invariant-loop : tie.invariant-loop
-invariant-loop table join word₀ word = (word ≤ 16) × (every_below (64 * word) (join_at (row_words constant_levels) table join) ≡ true)
+abbrev invariant-loop-word : tie.invariant-loop-word
+invariant-loop-word table join word₀ word = (word ≤ 16) × (every_below (64 * word) (join_at (row_words constant_levels) table join) ≡ true)
 
-abbrev decreases-loop : tie.decreases-loop
-decreases-loop table join word₀ word = 16 - word
+abbrev decreases-loop-word : tie.decreases-loop-word
+decreases-loop-word table join word₀ word = 16 - word
 
-loop-holds : tie.Need-loop-init invariant-loop decreases-loop
+loop-holds : tie.Need-loop-word-init invariant-loop-word decreases-loop-word
 unfolding every_below
 loop-holds c = (omega arith, refl)
 
-join-word-requires : tie.Need-join-word-requires invariant-loop decreases-loop
+join-word-requires : tie.Need-join_word-holds-requires invariant-loop-word decreases-loop-word
 join-word-requires c κs = search rules
 
-mul-result : tie.Need-overflow-mul-result invariant-loop decreases-loop
+mul-result : tie.Need-overflow_mul-result invariant-loop-word decreases-loop-word
 mul-result c = omega arith
 
-lowest-requires : tie.Need-lowest-requires invariant-loop decreases-loop
+lowest-requires : tie.Need-lowest-requires invariant-loop-word decreases-loop-word
 lowest-requires c κs = search rules
 
-add_result : tie.Need-overflow-add-result invariant-loop decreases-loop
+add_result : tie.Need-overflow_add-result invariant-loop-word decreases-loop-word
 add_result c = let small : c.lowest.result ≤ 64 = rw c.lowest.ensures (first_le 64 _) in omega (arith, small)
 
-returns : tie.Need-returns invariant-loop decreases-loop
+returns : tie.Need-returns-then-holds invariant-loop-word decreases-loop-word
 returns c =
-    let l = c.before.before.before.before.loop in
-    let x = c.before.before.join-word in
-    ap (λ (k : ℕ). 64 * l.word + k) c.lowest.ensures ∙ sym (first_word _ l.word x.result x.ensures l.invariant.1 x.type-inv c.before.if1.true 16 (omega arith))
+    let l = c.before.before.before.before.loop-word in
+    let x = c.before.before.join_word-holds in
+    ap (λ (k : ℕ). 64 * l.word + k) c.lowest.ensures ∙ sym (first_word _ l.word x.result x.ensures l.invariant.1 x.type-inv c.before.if-holds.true 16 (omega arith))
 
-add-word : tie.Need-overflow-add-word invariant-loop decreases-loop
+add-word : tie.Need-overflow_add-word invariant-loop-word decreases-loop-word
 add-word c = omega arith
 
-loop-less : tie.Need-loop-smaller invariant-loop decreases-loop
+loop-less : tie.Need-loop-word-smaller invariant-loop-word decreases-loop-word
 loop-less c = omega arith
 
-loop-again : tie.Need-loop-preserved invariant-loop decreases-loop
+loop-again : tie.Need-loop-word-preserved invariant-loop-word decreases-loop-word
 loop-again c =
-    let l = c.before.before.before.loop in
-    let x = c.before.join-word in
-    (omega arith, every_word _ l.word x.result x.ensures l.invariant.1 c.if1.false)
+    let l = c.before.before.before.loop-word in
+    let x = c.before.join_word-holds in
+    (omega arith, every_word _ l.word x.result x.ensures l.invariant.1 c.if-holds.false)
 
-returns-2 : tie.Need-returns-2 invariant-loop decreases-loop
-returns-2 c = let e : c.before.loop.word ≡ 16 = omega arith in sym (eqb-true _ 1024 (sym (every_first 1024 _) ∙ rw e at c.before.loop.invariant.1))
+returns-2 : tie.Need-returns invariant-loop-word decreases-loop-word
+returns-2 c = let e : c.before.loop-word.word ≡ 16 = omega arith in sym (eqb-true _ 1024 (sym (every_first 1024 _) ∙ rw e at c.before.loop-word.invariant.1))
 
-pub first-failing-spec : {M : Type 1} → statement M
-first-failing-spec =
+pub first_failing_spec : {M : Type 1} → statement M
+first_failing_spec =
     tie.close
     (tie.spec
-    invariant-loop
-    decreases-loop
+    invariant-loop-word
+    decreases-loop-word
     loop-holds
     join-word-requires
     mul-result

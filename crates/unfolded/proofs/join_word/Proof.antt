@@ -7,17 +7,17 @@ use Rattle.unfolded.specs.UnfoldedLaws.{join_bits}
 use Rattle.unfolded.proofs.join_word.Statement.{statement}
 use Rattle.unfolded.proofs.join_word.Tie as tie
 
-part-words-requires : tie.Need-part-words-requires
+part-words-requires : tie.Need-part_words-parts-requires
 part-words-requires c κs = search rules
 
-test-word-requires : tie.Need-test-word-requires
+test-word-requires : tie.Need-test_word-requires
 test-word-requires c κs = search rules
 
 returns : tie.Need-returns
 returns c i l =
     let s = c.before.before.args in
-    let parts = c.before.part-words in
+    let parts = c.before.part_words-parts in
     c.test_word.ensures i l ∙ ap (is_way Holds) (join_bits 16 s.table.now s.join s.w parts.result parts.ensures i l)
 
-pub join-word-spec : {M : Type 1} → statement M
-join-word-spec = tie.close (tie.spec part-words-requires test-word-requires returns)
+pub join_word_spec : {M : Type 1} → statement M
+join_word_spec = tie.close (tie.spec part-words-requires test-word-requires returns)

@@ -11,7 +11,7 @@ use Rattle.unfolded.proofs.part_word.Tie as tie
 index-requires : tie.Need-index-requires
 index-requires c κs = search rules
 
-word-of-requires : tie.Need-word-of-requires
+word-of-requires : tie.Need-word_of-requires
 word-of-requires c κs = search rules
 
 returns : tie.Need-returns
@@ -19,5 +19,5 @@ returns c =
     let s = c.before.before in
     c.word_of.ensures ∙ ap (λ t. get_or s.args.table.now (row_words constant_levels * t + s.args.w) 0) c.before.index.ensures.0
 
-pub part-word-spec : {M : Type 1} → statement M
-part-word-spec = tie.close (tie.spec index-requires word-of-requires returns)
+pub part_word_spec : {M : Type 1} → statement M
+part_word_spec = tie.close (tie.spec index-requires word-of-requires returns)

@@ -11,50 +11,50 @@ use Rattle.unfolded.specs.Filling.{WordOf}
 use Rattle.unfolded.proofs.put_rows.Statement.{statement}
 use Rattle.unfolded.proofs.put_rows.Tie as tie
 
-abbrev invariant-loop : tie.invariant-loop
-invariant-loop rows table₀ j₀ table j = (j ≤ 192) × (length table ≡ 1024) × Stored 0 j (WordOf (row_leaf rows)) table₀ table
+abbrev invariant-loop-j : tie.invariant-loop-j
+invariant-loop-j rows table₀ j₀ table j = (j ≤ 192) × (length table ≡ 1024) × Stored 0 j (WordOf (row_leaf rows)) table₀ table
 
-abbrev decreases-loop : tie.decreases-loop
-decreases-loop rows table₀ j₀ table j = 192 - j
+abbrev decreases-loop-j : tie.decreases-loop-j
+decreases-loop-j rows table₀ j₀ table j = 192 - j
 
-loop-holds : tie.Need-loop-init invariant-loop decreases-loop
+loop-holds : tie.Need-loop-j-init invariant-loop-j decreases-loop-j
 loop-holds c = (omega arith, c.before.before.requires.1, stored_none _ _ _)
 
-word-at-requires : tie.Need-word-at-requires invariant-loop decreases-loop
+word-at-requires : tie.Need-word_at-requires invariant-loop-j decreases-loop-j
 word-at-requires c κs = omega arith
 
-mul-table : tie.Need-overflow-mul-table invariant-loop decreases-loop
+mul-table : tie.Need-offset_bounds-table-j invariant-loop-j decreases-loop-j
 mul-table c = omega arith
 
-slice-write-table : tie.Need-slice-write-table invariant-loop decreases-loop
+slice-write-table : tie.Need-bounds-table-j invariant-loop-j decreases-loop-j
 slice-write-table c = omega arith
 
-add-j : tie.Need-overflow-add-j invariant-loop decreases-loop
+add-j : tie.Need-overflow_add-j invariant-loop-j decreases-loop-j
 add-j c = omega arith
 
-loop-less : tie.Need-loop-smaller invariant-loop decreases-loop
+loop-less : tie.Need-loop-j-smaller invariant-loop-j decreases-loop-j
 loop-less c = omega arith
 
-loop-again : tie.Need-loop-preserved invariant-loop decreases-loop
+loop-again : tie.Need-loop-j-preserved invariant-loop-j decreases-loop-j
 loop-again c =
-    let l = c.before.before.loop in (
+    let l = c.before.before.loop-j in (
       omega arith,
       simp length-set l.invariant.1,
       rw zero-add at (stored_more _ _ _ l.j c.word_at.result l.table (omega arith) c.word_at.ensures l.invariant.2),
     )
 
-same_length : tie.Need-same-length invariant-loop decreases-loop
+same_length : tie.Need-shape_of-table invariant-loop-j decreases-loop-j
 same_length c = omega arith
 
-returns : tie.Need-returns invariant-loop decreases-loop
-returns c = let e : c.before.loop.j ≡ 192 = omega arith in rw e at c.before.loop.invariant.2
+returns : tie.Need-returns invariant-loop-j decreases-loop-j
+returns c = let e : c.before.loop-j.j ≡ 192 = omega arith in rw e at c.before.loop-j.invariant.2
 
-pub put-rows-spec : {M : Type 1} → statement M
-put-rows-spec =
+pub put_rows_spec : {M : Type 1} → statement M
+put_rows_spec =
     tie.close
     (tie.spec
-    invariant-loop
-    decreases-loop
+    invariant-loop-j
+    decreases-loop-j
     loop-holds
     word-at-requires
     mul-table

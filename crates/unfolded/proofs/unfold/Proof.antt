@@ -6,21 +6,21 @@ use Rattle.unfolded.specs.UnfoldedLaws.{unfolded_all}
 use Rattle.unfolded.proofs.unfold.Statement.{statement}
 use Rattle.unfolded.proofs.unfold.Tie as tie
 
-put-rows-requires : tie.Need-put-rows-requires
+put-rows-requires : tie.Need-put_rows-requires
 put-rows-requires c κs = search rules
 
-put-full-requires : tie.Need-put-full-requires
+put-full-requires : tie.Need-put_full-requires
 put-full-requires c κs = search rules
 
-put-constants-requires : tie.Need-put-constants-requires
+put-constants-requires : tie.Need-put_constants-requires
 put-constants-requires c κs = search rules
 
 returns : tie.Need-returns
 returns c =
     let s = c.before.before.before.before.before.before.before in
     unfolded_all constant_levels (omega arith) s.args.rows.now s.args.constants.now s.args.named s.requires.0 s.requires.2
-    c.before.before.before.before.put-rows.ensures c.before.before.put_full.ensures c.put-constants.ensures
+    c.before.before.before.before.put_rows.ensures c.before.before.put_full.ensures c.put_constants.ensures
 
-pub unfold-spec : {M : Type 1} → statement M
-unfold-spec =
+pub unfold_spec : {M : Type 1} → statement M
+unfold_spec =
     tie.close (tie.spec put-rows-requires put-full-requires put-constants-requires returns)

@@ -10,25 +10,25 @@ use Rattle.unfolded.specs.UnfoldedLaws.{word_halves, bytes_leaf}
 use Rattle.unfolded.proofs.word_at.Statement.{statement}
 use Rattle.unfolded.proofs.word_at.Tie as tie
 
-mul-four-bytes : tie.Need-overflow-mul-four-bytes
+mul-four-bytes : tie.Need-overflow_mul-w
 mul-four-bytes c = search rules
 
-four-bytes-requires : tie.Need-four-bytes-requires
+four-bytes-requires : tie.Need-four_bytes-low-requires
 four-bytes-requires c κs = search rules
 
-mul-four-bytes-2 : tie.Need-overflow-mul-four-bytes-2
+mul-four-bytes-2 : tie.Need-overflow_mul-w-2
 mul-four-bytes-2 c = search rules
 
-add-four-bytes : tie.Need-overflow-add-four-bytes
+add-four-bytes : tie.Need-overflow_add-w
 add-four-bytes c = search rules
 
-four-bytes-requires-2 : tie.Need-four-bytes-requires-2
+four-bytes-requires-2 : tie.Need-four_bytes-high-requires
 four-bytes-requires-2 c κs = search rules
 
-mul-result : tie.Need-overflow-mul-result
+mul-result : tie.Need-overflow_mul-result
 mul-result c = search rules
 
-add_result : tie.Need-overflow-add-result
+add_result : tie.Need-overflow_add-result
 add_result c = search rules
 
 returns : tie.Need-returns
@@ -36,15 +36,15 @@ returns c =
     let s = c.before.before in
     let rows = s.before.args.rows.now in
     let w = s.before.args.w in
-    let low = c.before.four_bytes in
-    let high = c.four-bytes2 in
-    let byte : (j : ℕ) → get_or rows j 0 < 2 ^ 8 = λ j. (s.shared-slice-known.given j).fits in
+    let low = c.before.four_bytes-low in
+    let high = c.four_bytes-high in
+    let byte : (j : ℕ) → get_or rows j 0 < 2 ^ 8 = λ j. (s.shared_slice_known-1.given j).fits in
     word_halves (row_leaf rows) w low.result high.result low.ensures.1
     (λ i l. ap (λ x. bit x i) low.ensures.0 ∙ bytes_leaf rows byte 4 (8 * w) i l ∙ ap (row_leaf rows) (omega arith))
     (λ i l. ap (λ x. bit x i) high.ensures.0 ∙ bytes_leaf rows byte 4 (8 * w + 4) i l ∙ ap (row_leaf rows) (omega arith))
 
-pub word-at-spec : {M : Type 1} → statement M
-word-at-spec =
+pub word_at_spec : {M : Type 1} → statement M
+word_at_spec =
     tie.close
     (tie.spec
     mul-four-bytes

@@ -10,49 +10,49 @@ use Rattle.unfolded.specs.UnfoldedLaws.{zero_more, zero_past}
 use Rattle.unfolded.proofs.zero_from.Statement.{statement}
 use Rattle.unfolded.proofs.zero_from.Tie as tie
 
-abbrev invariant-loop : tie.invariant-loop
-invariant-loop rows start all₀ w₀ all w = (start ≤ w) × (all ≡ 0 ↔ ZeroBytes rows (8 * start) (8 * w))
+abbrev invariant-loop-w : tie.invariant-loop-w
+invariant-loop-w rows start all₀ w₀ all w = (start ≤ w) × (all ≡ 0 ↔ ZeroBytes rows (8 * start) (8 * w))
 
-abbrev decreases-loop : tie.decreases-loop
-decreases-loop rows start all₀ w₀ all w = 192 - w
+abbrev decreases-loop-w : tie.decreases-loop-w
+decreases-loop-w rows start all₀ w₀ all w = 192 - w
 
-loop-holds : tie.Need-loop-init invariant-loop decreases-loop
+loop-holds : tie.Need-loop-w-init invariant-loop-w decreases-loop-w
 loop-holds c = (omega arith, (λ e i l m. absurd (omega arith), λ none. refl))
 
-word-at-requires : tie.Need-word-at-requires invariant-loop decreases-loop
+word-at-requires : tie.Need-word_at-all-requires invariant-loop-w decreases-loop-w
 word-at-requires c κs = omega arith
 
-add-w : tie.Need-overflow-add-w invariant-loop decreases-loop
+add-w : tie.Need-overflow_add-w invariant-loop-w decreases-loop-w
 add-w c = omega arith
 
-loop-less : tie.Need-loop-smaller invariant-loop decreases-loop
+loop-less : tie.Need-loop-w-smaller invariant-loop-w decreases-loop-w
 loop-less c = omega arith
 
-loop-again : tie.Need-loop-preserved invariant-loop decreases-loop
+loop-again : tie.Need-loop-w-preserved invariant-loop-w decreases-loop-w
 loop-again c =
     let known = c.before.before.before in
-    let l = c.before.before.loop in
-    let x = c.word_at in
+    let l = c.before.before.loop-w in
+    let x = c.word_at-all in
     let start = known.before.args.start in (
       omega arith,
-      zero_more known.before.args.rows.now l.w x.result x.ensures (λ i. (known.shared-slice-known.given i).fits) x.type-inv
+      zero_more known.before.args.rows.now l.w x.result x.ensures (λ i. (known.shared_slice_known-1.given i).fits) x.type-inv
           (8 * start) l.all (omega arith) l.invariant.1,
     )
 
-returns : tie.Need-returns invariant-loop decreases-loop
+returns : tie.Need-returns invariant-loop-w decreases-loop-w
 returns c =
     let rows = c.before.before.before.args.rows.now in
-    let l = c.before.loop in (
+    let l = c.before.loop-w in (
       λ t i h m. l.invariant.1.0 (eqb-true l.all 0 (is_true _ t)) i h (omega arith),
       λ none. of_true (eq-eqb l.all 0 (l.invariant.1.1 (zero_past rows _ (8 * l.w) none))),
     )
 
-pub zero-from-spec : {M : Type 1} → statement M
-zero-from-spec =
+pub zero_from_spec : {M : Type 1} → statement M
+zero_from_spec =
     tie.close
     (tie.spec
-    invariant-loop
-    decreases-loop
+    invariant-loop-w
+    decreases-loop-w
     loop-holds
     word-at-requires
     add-w

@@ -9,14 +9,14 @@ use Rattle.words.proofs.DigitMasks.{mask_digit}
 use Rattle.words.proofs.digit_word.Statement.{statement}
 use Rattle.words.proofs.digit_word.Tie as tie
 
-mul-result : tie.Need-overflow-mul-result
+mul-result : tie.Need-offset_bounds-p
 mul-result c = search rules
 
-array-read-result : tie.Need-array-read-result
+array-read-result : tie.Need-bounds-p
 array-read-result c = search rules
 
-returns : tie.Need-returns
-returns c i h = mask_digit c.before.args.p c.before.args.w i c.if1.true h
+returns : tie.Need-returns-then-p-lt6
+returns c i h = mask_digit c.before.args.p c.before.args.w i c.if-p-lt6.true h
 
 digit-requires : tie.Need-digit-requires
 digit-requires c κs = search rules
@@ -24,7 +24,7 @@ digit-requires c κs = search rules
 spread-requires : tie.Need-spread-requires
 spread-requires c κs = search rules
 
-returns-2 : tie.Need-returns-2
+returns-2 : tie.Need-returns
 returns-2 c i h =
     let s = c.before.before in
     let a = s.before.args in
@@ -32,7 +32,7 @@ returns-2 c i h =
     c.spread.ensures i h ∙ c.before.digit.ensures
     ∙ sym (bit_high 6 a.w i h (a.p - 6)) ∙ ap (λ z. bit z (6 + (a.p - 6))) (omega arith) ∙ ap (bit (64 * a.w + i)) e
 
-pub digit-word-spec : {M : Type 1} → statement M
-digit-word-spec =
+pub digit_word_spec : {M : Type 1} → statement M
+digit_word_spec =
     tie.close
     (tie.spec mul-result array-read-result returns digit-requires spread-requires returns-2)

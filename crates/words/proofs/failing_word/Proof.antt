@@ -8,12 +8,12 @@ use Rattle.words.specs.ClauseLaws.{not_bits}
 use Rattle.words.proofs.failing_word.Statement.{statement}
 use Rattle.words.proofs.failing_word.Tie as tie
 
-clause-word-requires : tie.Need-clause-word-requires
+clause-word-requires : tie.Need-clause_word-requires
 clause-word-requires c κs = search rules
 
 returns : tie.Need-returns
 returns c i h =
-    bit_of_and _ _ i ∙ ap (◌&&◌ (bit c.before.args.x i)) (not_bits c.clause-word.result i _ c.clause-word.type-inv h (c.clause-word.ensures i h))
+    bit_of_and _ _ i ∙ ap (◌&&◌ (bit c.before.args.x i)) (not_bits c.clause_word.result i _ c.clause_word.type-inv h (c.clause_word.ensures i h))
 
-pub failing-word-spec : {M : Type 1} → statement M
-failing-word-spec = tie.close (tie.spec clause-word-requires returns)
+pub failing_word_spec : {M : Type 1} → statement M
+failing_word_spec = tie.close (tie.spec clause-word-requires returns)

@@ -8,8 +8,8 @@ use Rattle.words.proofs.lowest.Tie as tie
 returns : tie.Need-returns
 returns c = zeros_first 64 c.args.x
 
-cast-result : tie.Need-overflow-cast-result
+cast-result : tie.Need-overflow_cast-result
 cast-result c = omega (arith, trailing_le 64 c.args.x)
 
-pub lowest-spec : {M : Type 1} → statement M
-lowest-spec = tie.close (tie.spec cast-result returns)
+pub lowest_spec : {M : Type 1} → statement M
+lowest_spec = tie.close (tie.spec cast-result returns)

@@ -12,61 +12,61 @@ use Rattle.words.specs.ClauseLaws.{clauses_at, section_more, section_stays}
 use Rattle.words.proofs.section_word.Statement.{statement}
 use Rattle.words.proofs.section_word.Tie as tie
 
-abbrev invariant-loop : tie.invariant-loop
-invariant-loop terms clauses start count x r₀ k₀ r k = (k ≤ count) × ((i : ℕ) → i < 64 → bit r i ≡ (bit x i && all_clauses clauses (λ t. bit (get_or terms t 0) i) start k))
+abbrev invariant-loop-k : tie.invariant-loop-k
+invariant-loop-k terms clauses start count x r₀ k₀ r k = (k ≤ count) × ((i : ℕ) → i < 64 → bit r i ≡ (bit x i && all_clauses clauses (λ t. bit (get_or terms t 0) i) start k))
 
-abbrev decreases-loop : tie.decreases-loop
-decreases-loop terms clauses start count x r₀ k₀ r k = count - k
+abbrev decreases-loop-k : tie.decreases-loop-k
+decreases-loop-k terms clauses start count x r₀ k₀ r k = count - k
 
-loop-holds : tie.Need-loop-init invariant-loop decreases-loop
+loop-holds : tie.Need-loop-k-init invariant-loop-k decreases-loop-k
 unfolding all_clauses every_below
 loop-holds c = (omega arith, λ i h. sym (and-true _))
 
-returns : tie.Need-returns invariant-loop decreases-loop
+returns : tie.Need-returns-then-r-eq0 invariant-loop-k decreases-loop-k
 returns c i h =
-    let l = c.before.before.loop in
-    let z : bit l.r i ≡ false = ap (λ x. bit x i) c.if1.true ∙ bit_zero i in
+    let l = c.before.before.loop-k in
+    let z : bit l.r i ≡ false = ap (λ x. bit x i) c.if-r-eq0.true ∙ bit_zero i in
     let a = c.before.before.before.args in
     bit_zero i
     ∙ sym (section_stays (bit a.x i) a.clauses.now (λ t. bit (get_or a.terms.now t 0) i) a.start l.k a.count l.invariant.0 (sym (l.invariant.1 i h) ∙ z))
 
-mul-clause-word : tie.Need-overflow-mul-clause-word invariant-loop decreases-loop
+mul-clause-word : tie.Need-overflow_mul-k invariant-loop-k decreases-loop-k
 mul-clause-word c = omega (arith, c.before.before.before.requires.room)
 
-add-clause-word : tie.Need-overflow-add-clause-word invariant-loop decreases-loop
+add-clause-word : tie.Need-overflow_add-start invariant-loop-k decreases-loop-k
 add-clause-word c = omega (arith, c.before.before.before.requires.room)
 
-clause-word-requires : tie.Need-clause-word-requires invariant-loop decreases-loop
-clause-word-requires c κs = clauses_at c.before.before.before.requires c.before.before.loop.k c.before.loop-test.true
+clause-word-requires : tie.Need-clause_word-r-requires invariant-loop-k decreases-loop-k
+clause-word-requires c κs = clauses_at c.before.before.before.requires c.before.before.loop-k.k c.before.loop-k-test.true
 
-add-k : tie.Need-overflow-add-k invariant-loop decreases-loop
+add-k : tie.Need-overflow_add-k invariant-loop-k decreases-loop-k
 add-k c = omega arith
 
-loop-less : tie.Need-loop-smaller invariant-loop decreases-loop
+loop-less : tie.Need-loop-k-smaller invariant-loop-k decreases-loop-k
 loop-less c = omega arith
 
-loop-again : tie.Need-loop-preserved invariant-loop decreases-loop
+loop-again : tie.Need-loop-k-preserved invariant-loop-k decreases-loop-k
 loop-again c =
-    let l = c.before.before.before.loop in
+    let l = c.before.before.before.loop-k in
     let a = c.before.before.before.before.args in (
       omega arith,
       λ i h.
-          bit_of_and l.r c.clause-word.result i ∙ ap₂ ◌&&◌ (l.invariant.1 i h) (c.clause-word.ensures i h)
+          bit_of_and l.r c.clause_word-r.result i ∙ ap₂ ◌&&◌ (l.invariant.1 i h) (c.clause_word-r.ensures i h)
           ∙ section_more (bit a.x i) a.clauses.now (λ t. bit (get_or a.terms.now t 0) i) a.start l.k,
     )
 
-returns-2 : tie.Need-returns-2 invariant-loop decreases-loop
+returns-2 : tie.Need-returns invariant-loop-k decreases-loop-k
 returns-2 c i h =
-    let e : c.before.loop.k ≡ c.before.before.args.count = omega arith in
+    let e : c.before.loop-k.k ≡ c.before.before.args.count = omega arith in
     let a = c.before.before.args in
-    c.before.loop.invariant.1 i h ∙ ap (λ k. bit a.x i && all_clauses a.clauses.now (λ t. bit (get_or a.terms.now t 0) i) a.start k) e
+    c.before.loop-k.invariant.1 i h ∙ ap (λ k. bit a.x i && all_clauses a.clauses.now (λ t. bit (get_or a.terms.now t 0) i) a.start k) e
 
-pub section-word-spec : {M : Type 1} → statement M
-section-word-spec =
+pub section_word_spec : {M : Type 1} → statement M
+section_word_spec =
     tie.close
     (tie.spec
-    invariant-loop
-    decreases-loop
+    invariant-loop-k
+    decreases-loop-k
     loop-holds
     returns
     mul-clause-word

@@ -15,75 +15,75 @@ use Rattle.words.specs.LowestLaws.{nonzero, lowest_below, without_less}
 use Rattle.words.proofs.set_constants.Statement.{statement}
 use Rattle.words.proofs.set_constants.Tie as tie
 
-abbrev invariant-loop : tie.invariant-loop
-invariant-loop values named terms₀ rest₀ terms rest =
+abbrev invariant-loop-rest : tie.invariant-loop-rest
+invariant-loop-rest values named terms₀ rest₀ terms rest =
     (rest ≤ named) × (length terms ≡ 64) × ((k : ℕ) → T (bit rest k) → T (bit named k)) × ConstantWords named rest values terms₀ terms
 
-abbrev decreases-loop : tie.decreases-loop
-decreases-loop values named terms₀ rest₀ terms rest = rest
+abbrev decreases-loop-rest : tie.decreases-loop-rest
+decreases-loop-rest values named terms₀ rest₀ terms rest = rest
 
 -- the lowest bit that is left
-here : (c : tie.After-lowest invariant-loop decreases-loop) → (c.lowest.result < 32) × T (bit c.before.before.loop.rest c.lowest.result)
-here c = lowest_below 32 _ _ (omega arith) (omega (arith, c.before.before.loop.invariant.0, c.before.before.before.before.requires.0)) c.before.loop-test.true c.lowest.ensures
+here : (c : tie.After-lowest-i invariant-loop-rest decreases-loop-rest) → (c.lowest-i.result < 32) × T (bit c.before.before.loop-rest.rest c.lowest-i.result)
+here c = lowest_below 32 _ _ (omega arith) (omega (arith, c.before.before.loop-rest.invariant.0, c.before.before.before.before.requires.0)) c.before.loop-rest-test.true c.lowest-i.ensures
 
 -- what is left without it
-out : (c : tie.After-without-lowest invariant-loop decreases-loop) (k : ℕ)
-    → bit c.without-lowest.result k ≡ (bit c.before.before.before.before.before.loop.rest k && not (eqb k c.before.before.before.lowest.result))
-out c k = rw c.before.before.before.lowest.ensures (c.without-lowest.ensures.1 k)
+out : (c : tie.After-without_lowest-rest invariant-loop-rest decreases-loop-rest) (k : ℕ)
+    → bit c.without_lowest-rest.result k ≡ (bit c.before.before.before.before.before.loop-rest.rest k && not (eqb k c.before.before.before.lowest-i.result))
+out c k = rw c.before.before.before.lowest-i.ensures (c.without_lowest-rest.ensures.1 k)
 
-loop-holds : tie.Need-loop-init invariant-loop decreases-loop
+loop-holds : tie.Need-loop-rest-init invariant-loop-rest decreases-loop-rest
 loop-holds c = (le_refl _, c.before.requires.1, λ k t. t, words_none _ _ _)
 
-lowest-requires : tie.Need-lowest-requires invariant-loop decreases-loop
+lowest-requires : tie.Need-lowest-i-requires invariant-loop-rest decreases-loop-rest
 lowest-requires c κs = tt
 
-digit-requires : tie.Need-digit-requires invariant-loop decreases-loop
+digit-requires : tie.Need-digit-requires invariant-loop-rest decreases-loop-rest
 digit-requires c κs = omega (arith, (here c).0)
 
-spread-requires : tie.Need-spread-requires invariant-loop decreases-loop
+spread-requires : tie.Need-spread-requires invariant-loop-rest decreases-loop-rest
 spread-requires c κs = search rules
 
-add-terms : tie.Need-overflow-add-terms invariant-loop decreases-loop
+add-terms : tie.Need-overflow_add-terms invariant-loop-rest decreases-loop-rest
 add-terms c = omega (arith, (here c.before.before).0)
 
-mul-terms : tie.Need-overflow-mul-terms invariant-loop decreases-loop
+mul-terms : tie.Need-offset_bounds-terms-i invariant-loop-rest decreases-loop-rest
 mul-terms c = omega (arith, (here c.before.before).0)
 
-slice-write-terms : tie.Need-slice-write-terms invariant-loop decreases-loop
-slice-write-terms c = omega (arith, (here c.before.before).0, c.before.before.before.before.loop.invariant.1)
+slice-write-terms : tie.Need-bounds-terms-i invariant-loop-rest decreases-loop-rest
+slice-write-terms c = omega (arith, (here c.before.before).0, c.before.before.before.before.loop-rest.invariant.1)
 
-without-lowest-requires : tie.Need-without-lowest-requires invariant-loop decreases-loop
-without-lowest-requires c κs = nonzero _ c.before.before.before.loop-test.true
+without-lowest-requires : tie.Need-without_lowest-rest-requires invariant-loop-rest decreases-loop-rest
+without-lowest-requires c κs = nonzero _ c.before.before.before.loop-rest-test.true
 
-loop-less : tie.Need-loop-smaller invariant-loop decreases-loop
-loop-less c = without_less _ _ _ c.without-lowest.ensures.0 (out c) (here c.before.before.before).1
+loop-less : tie.Need-loop-rest-smaller invariant-loop-rest decreases-loop-rest
+loop-less c = without_less _ _ _ c.without_lowest-rest.ensures.0 (out c) (here c.before.before.before).1
 
-loop-again : tie.Need-loop-preserved invariant-loop decreases-loop
+loop-again : tie.Need-loop-rest-preserved invariant-loop-rest decreases-loop-rest
 loop-again c =
-    let l = c.before.before.before.before.before.loop in
+    let l = c.before.before.before.before.before.loop-rest in
     let low = here c.before.before.before in (
-      omega (arith, c.without-lowest.ensures.0, l.invariant.0),
+      omega (arith, c.without_lowest-rest.ensures.0, l.invariant.0),
       simp length-set l.invariant.1,
       λ k t. l.invariant.2 k (and_left (bit l.rest k) _ (subst T (out c k) t)),
-      words_more _ l.rest _ _ _ l.terms c.before.before.before.lowest.result c.before.spread.result (omega (arith, low.0, l.invariant.1)) l.invariant.2 low.1 (out c)
+      words_more _ l.rest _ _ _ l.terms c.before.before.before.lowest-i.result c.before.spread.result (omega (arith, low.0, l.invariant.1)) l.invariant.2 low.1 (out c)
           (λ k h. c.before.spread.ensures k h ∙ c.before.before.digit.ensures) l.invariant.3,
     )
 
-same_length : tie.Need-same-length invariant-loop decreases-loop
-same_length c = omega (arith, c.before.loop.invariant.1, c.before.before.before.requires.1)
+same_length : tie.Need-shape_of-terms invariant-loop-rest decreases-loop-rest
+same_length c = omega (arith, c.before.loop-rest.invariant.1, c.before.before.before.requires.1)
 
-returns : tie.Need-returns invariant-loop decreases-loop
+returns : tie.Need-returns invariant-loop-rest decreases-loop-rest
 returns c n m old w h wo wv =
-    let l = c.before.loop in
+    let l = c.before.loop-rest in
     let a = c.before.before.before.args in
-    terms_changed n m a.named a.values old w a.terms.now l.terms h wo wv (rw c.loop-test.false at l.invariant.3)
+    terms_changed n m a.named a.values old w a.terms.now l.terms h wo wv (rw c.loop-rest-test.false at l.invariant.3)
 
-pub set-constants-spec : {M : Type 1} → statement M
-set-constants-spec =
+pub set_constants_spec : {M : Type 1} → statement M
+set_constants_spec =
     tie.close
     (tie.spec
-    invariant-loop
-    decreases-loop
+    invariant-loop-rest
+    decreases-loop-rest
     loop-holds
     lowest-requires
     digit-requires

@@ -5,22 +5,22 @@ use borrow.Author.Rules.{rules}
 use Rattle.words.proofs.term_word.Statement.{statement}
 use Rattle.words.proofs.term_word.Tie as tie
 
-element-copy-out-index : tie.Need-element-copy-out-index
+element-copy-out-index : tie.Need-bounds-clauses-at
 element-copy-out-index c = search rules
 
-index-requires : tie.Need-index-requires
+index-requires : tie.Need-index-t-requires
 index-requires c κs = search rules
 
-mul-result : tie.Need-overflow-mul-result
+mul-result : tie.Need-offset_bounds-terms-t
 mul-result c = search rules
 
-element-copy-out-result : tie.Need-element-copy-out-result
+element-copy-out-result : tie.Need-bounds-terms-t
 element-copy-out-result c = search rules
 
 returns : tie.Need-returns
-returns c = ap (λ t. get_or c.before.before.before.args.terms.now t 0) c.before.index.ensures.0
+returns c = ap (λ t. get_or c.before.before.before.args.terms.now t 0) c.before.index-t.ensures.0
 
-pub term-word-spec : {M : Type 1} → statement M
-term-word-spec =
+pub term_word_spec : {M : Type 1} → statement M
+term_word_spec =
     tie.close
     (tie.spec element-copy-out-index index-requires mul-result element-copy-out-result returns)

@@ -4,13 +4,13 @@ use Rattle.words.specs.ClauseLaws.{holds_word}
 use Rattle.words.proofs.test_word.Statement.{statement}
 use Rattle.words.proofs.test_word.Tie as tie
 
-ways-word-requires : tie.Need-ways-word-requires
+ways-word-requires : tie.Need-ways_word-ways-requires
 ways-word-requires c κs = search rules
 
 returns : tie.Need-returns
 returns c i h =
     let s = c.before.before.before.args in
-    holds_word s.form s.a s.b s.c _ c.before.before.ways-word.ensures (search rules) (search rules) (search rules) i h
+    holds_word s.form s.a s.b s.c _ c.before.before.ways_word-ways.ensures (search rules) (search rules) (search rules) i h
 
-pub test-word-spec : {M : Type 1} → statement M
-test-word-spec = tie.close (tie.spec ways-word-requires returns)
+pub test_word_spec : {M : Type 1} → statement M
+test_word_spec = tie.close (tie.spec ways-word-requires returns)

@@ -8,38 +8,38 @@ use Rattle.words.proofs.way_at.Tie as tie
 digit-requires : tie.Need-digit-requires
 digit-requires c κs = search rules
 
-returns : tie.Need-returns
+returns : tie.Need-returns-then-digit
 returns k form a b c W =
     let start = k.before.before in
-    way_overlap form a b c _ W start.args.i start.requires (sym k.before.digit.ensures ∙ k.if1.true)
+    way_overlap form a b c _ W start.args.i start.requires (sym k.before.digit.ensures ∙ k.if-digit.true)
 
 digit-requires-2 : tie.Need-digit-requires-2
 digit-requires-2 c κs = search rules
 
-returns-2 : tie.Need-returns-2
+returns-2 : tie.Need-returns-then-digit-2
 returns-2 k form a b c W =
     let start = k.before.before.before.before in
-    way_surplus form a b c _ W start.args.i start.requires (sym k.before.digit2.ensures ∙ k.if2.true)
+    way_surplus form a b c _ W start.args.i start.requires (sym k.before.digit-2.ensures ∙ k.if-digit-2.true)
 
 digit-requires-3 : tie.Need-digit-requires-3
 digit-requires-3 c κs = search rules
 
-returns-3 : tie.Need-returns-3
+returns-3 : tie.Need-returns-then-digit-3
 returns-3 k form a b c W =
     let start = k.before.before.before.before.before.before in
-    way_shortfall form a b c _ W start.args.i start.requires (sym k.before.digit3.ensures ∙ k.if3.true)
+    way_shortfall form a b c _ W start.args.i start.requires (sym k.before.digit-3.ensures ∙ k.if-digit-3.true)
 
-returns-4 : tie.Need-returns-4
+returns-4 : tie.Need-returns
 returns-4 k form a b c W =
     let third = k.before in
     let second = third.before.before in
     let first = second.before.before in
     let start = first.before in
-    way_holds form a b c _ W start.args.i start.requires (sym first.digit.ensures ∙ second.before.if1.false)
-    (sym second.digit2.ensures ∙ third.before.if2.false) (sym third.digit3.ensures ∙ k.if3.false)
+    way_holds form a b c _ W start.args.i start.requires (sym first.digit.ensures ∙ second.before.if-digit.false)
+    (sym second.digit-2.ensures ∙ third.before.if-digit-2.false) (sym third.digit-3.ensures ∙ k.if-digit-3.false)
 
-pub way-at-spec : {M : Type 1} → statement M
-way-at-spec =
+pub way_at_spec : {M : Type 1} → statement M
+way_at_spec =
     tie.close
     (tie.spec
     digit-requires

@@ -5,44 +5,44 @@ use borrow.Author.Rules.{rules}
 use Rattle.zimorgal.proofs.constant_number.Statement.{statement}
 use Rattle.zimorgal.proofs.constant_number.Tie as tie
 
-enum-known-read : tie.Need-enum-known-read
+enum-known-read : tie.Need-enum_known-read
 enum-known-read c = search rules
 
-cast-result : tie.Need-overflow-cast-result
+cast-result : tie.Need-overflow_cast-result
 cast-result c = search rules
 
-enum_told : tie.Need-enum-told
+enum_told : tie.Need-enum_told-1
 enum_told c = search rules
 
-mul-result : tie.Need-overflow-mul-result
+mul-result : tie.Need-overflow_mul-result
 mul-result c = search rules
 
-enum-told-2 : tie.Need-enum-told-2
+enum-told-2 : tie.Need-enum_told-in-NotFolded
 enum-told-2 c = search rules
 
-mul-result-2 : tie.Need-overflow-mul-result-2
+mul-result-2 : tie.Need-overflow_mul-result-in-NotFolded
 mul-result-2 c = search rules
 
-enum-told-3 : tie.Need-enum-told-3
+enum-told-3 : tie.Need-enum_told-in-TooTall
 enum-told-3 c = search rules
 
-mul-result-3 : tie.Need-overflow-mul-result-3
+mul-result-3 : tie.Need-overflow_mul-result-in-TooTall
 mul-result-3 c = search rules
 
-returns : tie.Need-returns
-returns c = rw c.before.read.given.1 (omega arith)
+returns : tie.Need-returns-in-Constant
+returns c = rw c.before.read-1.given.1 (omega arith)
 
-returns-2 : tie.Need-returns-2
-returns-2 c = rw c.enum_told.given.1 refl
+returns-2 : tie.Need-returns-in-NotTreeText
+returns-2 c = rw c.enum_told-1.given.1 refl
 
-returns-3 : tie.Need-returns-3
-returns-3 c = rw c.enum-told2.given.1 refl
+returns-3 : tie.Need-returns-in-NotFolded
+returns-3 c = rw c.enum_told-in-NotFolded-1.given.1 refl
 
-returns-4 : tie.Need-returns-4
-returns-4 c = rw c.enum-told3.given.1 refl
+returns-4 : tie.Need-returns-in-TooTall
+returns-4 c = rw c.enum_told-in-TooTall-1.given.1 refl
 
-pub constant-number-spec : {M : Type 1} → statement M
-constant-number-spec =
+pub constant_number_spec : {M : Type 1} → statement M
+constant_number_spec =
     tie.close
     (tie.spec
     enum-known-read

@@ -5,49 +5,49 @@ use borrow.Author.Rules.{rules}
 use Rattle.zimorgal.proofs.judgement_number.Statement.{statement}
 use Rattle.zimorgal.proofs.judgement_number.Tie as tie
 
-enum-known-judgement : tie.Need-enum-known-judgement
+enum-known-judgement : tie.Need-enum_known-judgement
 enum-known-judgement c = search rules
 
 wide-requires : tie.Need-wide-requires
 wide-requires c κs = search rules
 
-mul-result : tie.Need-overflow-mul-result
+mul-result : tie.Need-overflow_mul-result
 mul-result c = search rules
 
-mul-result-2 : tie.Need-overflow-mul-result-2
-mul-result-2 c = let S = rw c.before.before.judgement.given.1 at c.before.before.before.before.requires in omega (arith, S.1)
+mul-result-2 : tie.Need-overflow_mul-result-in-Refused
+mul-result-2 c = let S = rw c.before.before.judgement-1.given.1 at c.before.before.before.before.requires in omega (arith, S.1)
 
-add_result : tie.Need-overflow-add-result
+add_result : tie.Need-overflow_add-result
 add_result c =
-    let S = rw c.before.before.judgement.given.1 at c.before.before.before.before.requires in
+    let S = rw c.before.before.judgement-1.given.1 at c.before.before.before.before.requires in
     omega (arith, S.0, S.1, c.wide.ensures.0)
 
-enum_told : tie.Need-enum-told
+enum_told : tie.Need-enum_told-1
 enum_told c = search rules
 
-enum-known-judgement-2 : tie.Need-enum-known-judgement-2
+enum-known-judgement-2 : tie.Need-enum_known-judgement-in-Broken-1
 enum-known-judgement-2 c = search rules
 
-broken-number-requires : tie.Need-broken-number-requires
-broken-number-requires c κs = rw c.before.judgement2.given.1 at c.before.before.before.requires
+broken-number-requires : tie.Need-broken_number-requires
+broken-number-requires c κs = rw c.before.judgement-in-Broken-1.given.1 at c.before.before.before.requires
 
-enum-told-2 : tie.Need-enum-told-2
+enum-told-2 : tie.Need-enum_told-in-Extending
 enum-told-2 c = search rules
 
-returns : tie.Need-returns
-returns c = rw c.before.before.judgement.given.1 (omega (arith, c.wide.ensures.0))
+returns : tie.Need-returns-in-Refused
+returns c = rw c.before.before.judgement-1.given.1 (omega (arith, c.wide.ensures.0))
 
-returns-2 : tie.Need-returns-2
-returns-2 c = rw c.enum_told.given.1 refl
+returns-2 : tie.Need-returns-in-Accepted
+returns-2 c = rw c.enum_told-1.given.1 refl
 
-returns-3 : tie.Need-returns-3
-returns-3 c = rw c.before.before.judgement2.given.1 c.broken-number.ensures
+returns-3 : tie.Need-returns-in-Broken
+returns-3 c = rw c.before.before.judgement-in-Broken-1.given.1 c.broken_number.ensures
 
-returns-4 : tie.Need-returns-4
-returns-4 c = rw c.enum-told2.given.1 refl
+returns-4 : tie.Need-returns-in-Extending
+returns-4 c = rw c.enum_told-in-Extending-1.given.1 refl
 
-pub judgement-number-spec : {M : Type 1} → statement M
-judgement-number-spec =
+pub judgement_number_spec : {M : Type 1} → statement M
+judgement_number_spec =
     tie.close
     (tie.spec
     enum-known-judgement

@@ -9,44 +9,44 @@ wide-requires c κs = search rules
 wide-requires-2 : tie.Need-wide-requires-2
 wide-requires-2 c κs = search rules
 
-mul_low : tie.Need-overflow-mul-low
+mul_low : tie.Need-overflow_mul-low
 mul_low c = search rules
 
-add_low : tie.Need-overflow-add-low
+add_low : tie.Need-overflow_add-low
 add_low c = search rules
 
-mul-low-2 : tie.Need-overflow-mul-low-2
+mul-low-2 : tie.Need-overflow_mul-low-2
 mul-low-2 c = search rules
 
-add-low-2 : tie.Need-overflow-add-low-2
+add-low-2 : tie.Need-overflow_add-low-2
 add-low-2 c = search rules
 
-mul-height : tie.Need-overflow-mul-height
+mul-height : tie.Need-overflow_mul-height
 mul-height c = search rules
 
-wide-requires-3 : tie.Need-wide-requires-3
+wide-requires-3 : tie.Need-wide-reason-requires
 wide-requires-3 c κs = search rules
 
-mul-reason : tie.Need-overflow-mul-reason
+mul-reason : tie.Need-overflow_mul-reason
 mul-reason c = search rules
 
-mul-number : tie.Need-overflow-mul-number
+mul-number : tie.Need-overflow_mul-number
 mul-number c = search rules
 
-add_result : tie.Need-overflow-add-result
+add_result : tie.Need-overflow_add-result
 add_result c = search rules
 
-add_result_2 : tie.Need-overflow-add-result-2
+add_result_2 : tie.Need-overflow_add-result-2
 add_result_2 c = search rules
 
-add-result-3 : tie.Need-overflow-add-result-3
+add-result-3 : tie.Need-overflow_add-result-3
 add-result-3 c = search rules
 
 returns : tie.Need-returns
 returns c = search rules
 
-pub pack-spec : {M : Type 1} → statement M
-pack-spec =
+pub pack_spec : {M : Type 1} → statement M
+pack_spec =
     tie.close
     (tie.spec
     wide-requires

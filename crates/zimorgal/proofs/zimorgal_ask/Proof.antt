@@ -13,17 +13,17 @@ ask-requires c κs = search rules
 pack-requires : tie.Need-pack-requires
 pack-requires c κs = subst InBytes (sym c.before.before.before.before.ask.ensures.0) (outcome_fits _ _ _)
 
-same_length : tie.Need-same-length
+same_length : tie.Need-shape_of-answer
 same_length c = search rules
 
-same-length-2 : tie.Need-same-length-2
+same-length-2 : tie.Need-shape_of-work
 same-length-2 c = search rules
 
 returns : tie.Need-returns
 returns c =
     let start = c.before.before.before.before.before.before.before.before.before.before.before.args in
-    given_packed start.question.now start.answer.now start.work.now _ _ _ c.before.before.before.before.before.ask.ensures _ c.pack.ensures
+    given_packed start.question.now start.answer-1.now start.work-1.now _ _ _ c.before.before.before.before.before.ask.ensures _ c.pack.ensures
 
-pub zimorgal-ask-spec : {M : Type 1} → statement M
-zimorgal-ask-spec =
+pub zimorgal_ask_spec : {M : Type 1} → statement M
+zimorgal_ask_spec =
     tie.close (tie.spec ask-requires pack-requires same_length same-length-2 returns)

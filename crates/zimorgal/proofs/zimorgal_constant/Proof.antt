@@ -5,14 +5,14 @@ use borrow.Author.Rules.{rules}
 use Rattle.zimorgal.proofs.zimorgal_constant.Statement.{statement}
 use Rattle.zimorgal.proofs.zimorgal_constant.Tie as tie
 
-from-text-requires : tie.Need-from-text-requires
+from-text-requires : tie.Need-from_text-requires
 from-text-requires c κs = search rules
 
-constant-number-requires : tie.Need-constant-number-requires
+constant-number-requires : tie.Need-constant_number-requires
 constant-number-requires c κs = search rules
 
 returns : tie.Need-returns
-returns c = c.constant_number.ensures ∙ ap constant_number c.before.from-text.ensures
+returns c = c.constant_number.ensures ∙ ap constant_number c.before.from_text.ensures
 
-pub zimorgal-constant-spec : {M : Type 1} → statement M
-zimorgal-constant-spec = tie.close (tie.spec from-text-requires constant-number-requires returns)
+pub zimorgal_constant_spec : {M : Type 1} → statement M
+zimorgal_constant_spec = tie.close (tie.spec from-text-requires constant-number-requires returns)

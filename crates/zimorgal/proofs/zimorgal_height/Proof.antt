@@ -4,10 +4,10 @@ use Rattle.zimorgal.proofs.zimorgal_height.Statement.{statement}
 use Rattle.zimorgal.proofs.zimorgal_height.Tie as tie
 
 returns : tie.Need-returns
-returns c = c.constant-height.ensures
+returns c = c.constant_height.ensures
 
-constant-height-requires : tie.Need-constant-height-requires
+constant-height-requires : tie.Need-constant_height-requires
 constant-height-requires c κs = search rules
 
-pub zimorgal-height-spec : {M : Type 1} → statement M
-zimorgal-height-spec = tie.close (tie.spec constant-height-requires returns)
+pub zimorgal_height_spec : {M : Type 1} → statement M
+zimorgal_height_spec = tie.close (tie.spec constant-height-requires returns)

@@ -11,10 +11,10 @@ use Rattle.zimorgal.specs.CallLaws.{join_told, number_cases}
 use Rattle.zimorgal.proofs.zimorgal_join.Statement.{statement}
 use Rattle.zimorgal.proofs.zimorgal_join.Tie as tie
 
-join-constants-requires : tie.Need-join-constants-requires
+join-constants-requires : tie.Need-join_constants-requires
 join-constants-requires c κs = search rules
 
-join-number-requires : tie.Need-join-number-requires
+join-number-requires : tie.Need-join_number-requires
 join-number-requires c κs = search rules
 
 returns : tie.Need-returns
@@ -22,9 +22,9 @@ returns c =
     let a = c.before.before.args.a in
     let b = c.before.before.args.b in
     let shared = set_in_both (2 ^ constant_levels) a b in
-    let joined : c.before.join-constants.result ≡ cond shared Undefined (Constant (a + b)) = c.before.join-constants.ensures.1 in
-    let told = c.join-number.ensures ∙ ap (join_number constant_levels) joined ∙ number_cases constant_levels shared (a + b) in
+    let joined : c.before.join_constants.result ≡ cond shared Undefined (Constant (a + b)) = c.before.join_constants.ensures.1 in
+    let told = c.join_number.ensures ∙ ap (join_number constant_levels) joined ∙ number_cases constant_levels shared (a + b) in
     (join_told constant_levels a b (omega arith) (omega arith) _ told, told)
 
-pub zimorgal-join-spec : {M : Type 1} → statement M
-zimorgal-join-spec = tie.close (tie.spec join-constants-requires join-number-requires returns)
+pub zimorgal_join_spec : {M : Type 1} → statement M
+zimorgal_join_spec = tie.close (tie.spec join-constants-requires join-number-requires returns)

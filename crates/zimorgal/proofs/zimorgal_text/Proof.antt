@@ -5,20 +5,20 @@ use borrow.Author.Rules.{rules}
 use Rattle.zimorgal.proofs.zimorgal_text.Statement.{statement}
 use Rattle.zimorgal.proofs.zimorgal_text.Tie as tie
 
-tree-text-requires : tie.Need-tree-text-requires
+tree-text-requires : tie.Need-tree_text-requires
 tree-text-requires c κs = search rules
 
-text-number-requires : tie.Need-text-number-requires
+text-number-requires : tie.Need-text_number-requires
 text-number-requires c κs = search rules
 
-same_length : tie.Need-same-length
+same_length : tie.Need-shape_of-text
 same_length c = search rules
 
 returns : tie.Need-returns
 returns c =
-    let t = c.before.before.before.tree-text.ensures in
-    (c.text-number.ensures ∙ ap text_number t.0, t.1)
+    let t = c.before.before.before.tree_text.ensures in
+    (c.text_number.ensures ∙ ap text_number t.0, t.1)
 
-pub zimorgal-text-spec : {M : Type 1} → statement M
-zimorgal-text-spec =
+pub zimorgal_text_spec : {M : Type 1} → statement M
+zimorgal_text_spec =
     tie.close (tie.spec tree-text-requires text-number-requires same_length returns)

@@ -6,5 +6,5 @@ use Rattle.zimorgal.proofs.zimorgal_version.Tie as tie
 returns : tie.Need-returns
 returns c = refl
 
-pub zimorgal-version-spec : {M : Type 1} → statement M
-zimorgal-version-spec = tie.close (tie.spec returns)
+pub zimorgal_version_spec : {M : Type 1} → statement M
+zimorgal_version_spec = tie.close (tie.spec returns)

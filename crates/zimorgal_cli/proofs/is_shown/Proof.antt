@@ -4,11 +4,11 @@ use borrow.Author.Tests.{eq-eqb, ne_eqb}
 use Rattle.zimorgal_cli.proofs.is_shown.Statement.{statement}
 use Rattle.zimorgal_cli.proofs.is_shown.Tie as tie
 
-returns : tie.Need-returns
-returns c = simp (eq-eqb _ _ c.if1.true) refl
+returns : tie.Need-returns-then-kind-eq0
+returns c = simp (eq-eqb _ _ c.if-kind-eq0.true) refl
 
-returns-2 : tie.Need-returns-2
-returns-2 c = simp (ne_eqb _ _ c.if1.false) refl
+returns-2 : tie.Need-returns
+returns-2 c = simp (ne_eqb _ _ c.if-kind-eq0.false) refl
 
-pub is-shown-spec : {M : Type 1} → statement M
-is-shown-spec = tie.close (tie.spec returns returns-2)
+pub is_shown_spec : {M : Type 1} → statement M
+is_shown_spec = tie.close (tie.spec returns returns-2)

@@ -7,36 +7,36 @@ use Rattle.commands.proofs.CommandFacts.{not_below}
 use Rattle.commands.proofs.table.policy_entry.Statement.{statement}
 use Rattle.commands.proofs.table.policy_entry.Tie as tie
 
-returns : tie.Need-returns
+returns : tie.Need-returns-in-48
 unfolding entry_of
-returns c = rw c.match.keys1 refl
+returns c = rw c.in-48.keys1 refl
 
-returns-2 : tie.Need-returns-2
+returns-2 : tie.Need-returns-in-49
 unfolding entry_of
-returns-2 c = rw c.match.keys2 refl
+returns-2 c = rw c.in-48.keys2 refl
 
-returns-3 : tie.Need-returns-3
+returns-3 : tie.Need-returns-in-50
 unfolding entry_of
-returns-3 c = rw c.match.keys3 refl
+returns-3 c = rw c.in-48.keys3 refl
 
-returns-4 : tie.Need-returns-4
+returns-4 : tie.Need-returns-in-56
 unfolding entry_of
-returns-4 c = rw c.match.keys4 refl
+returns-4 c = rw c.in-48.keys4 refl
 
-returns-5 : tie.Need-returns-5
+returns-5 : tie.Need-returns-in-57
 unfolding entry_of
-returns-5 c = rw c.match.keys5 refl
+returns-5 c = rw c.in-48.keys5 refl
 
-returns-6 : tie.Need-returns-6
+returns-6 : tie.Need-returns-in-58
 unfolding entry_of
-returns-6 c = rw c.match.keys6 refl
+returns-6 c = rw c.in-48.keys6 refl
 
-returns-7 : tie.Need-returns-7
+returns-7 : tie.Need-returns-in_default
 unfolding entry_of
 returns-7 c =
-    let r = c.match.rest in
+    let r = c.in-48.rest in
     let below = not_below c.before.requires in
     simp (below 0x00 (omega arith), below 0x01 (omega arith), below 0x03 (omega arith), below 0x10 (omega arith), below 0x11 (omega arith), below 0x12 (omega arith), below 0x13 (omega arith), below 0x20 (omega arith), below 0x21 (omega arith), below 0x22 (omega arith), below 0x23 (omega arith), ne_eqb _ _ r.0.0.0.0.0.1, ne_eqb _ _ r.0.0.0.0.1, ne_eqb _ _ r.0.0.0.1, ne_eqb _ _ r.0.0.1, ne_eqb _ _ r.0.1, ne_eqb _ _ r.1)
 
-pub policy-entry-spec : {M : Type 1} → statement M
-policy-entry-spec = tie.close (tie.spec returns returns-2 returns-3 returns-4 returns-5 returns-6 returns-7)
+pub policy_entry_spec : {M : Type 1} → statement M
+policy_entry_spec = tie.close (tie.spec returns returns-2 returns-3 returns-4 returns-5 returns-6 returns-7)

@@ -4,36 +4,36 @@ use borrow.Author.Rules.{rules}
 use Rattle.commands.proofs.table.term_count.Statement.{statement}
 use Rattle.commands.proofs.table.term_count.Tie as tie
 
-enum_told : tie.Need-enum-told
+enum_told : tie.Need-enum_told-1
 enum_told c = search rules
 
-enum-told-2 : tie.Need-enum-told-2
+enum-told-2 : tie.Need-enum_told-in-Equality
 enum-told-2 c = search rules
 
-enum-told-3 : tie.Need-enum-told-3
+enum-told-3 : tie.Need-enum_told-in-Full
 enum-told-3 c = search rules
 
-enum-told-4 : tie.Need-enum-told-4
+enum-told-4 : tie.Need-enum_told-in-Empty
 enum-told-4 c = search rules
 
-enum-told-5 : tie.Need-enum-told-5
+enum-told-5 : tie.Need-enum_told-in-Together
 enum-told-5 c = search rules
 
-returns : tie.Need-returns
-returns c = rw c.enum_told.given.1 refl
+returns : tie.Need-returns-in-Join
+returns c = rw c.enum_told-1.given.1 refl
 
-returns-2 : tie.Need-returns-2
-returns-2 c = rw c.enum-told2.given.1 refl
+returns-2 : tie.Need-returns-in-Equality
+returns-2 c = rw c.enum_told-in-Equality-1.given.1 refl
 
-returns-3 : tie.Need-returns-3
-returns-3 c = rw c.enum-told3.given.1 refl
+returns-3 : tie.Need-returns-in-Full
+returns-3 c = rw c.enum_told-in-Full-1.given.1 refl
 
-returns-4 : tie.Need-returns-4
-returns-4 c = rw c.enum-told4.given.1 refl
+returns-4 : tie.Need-returns-in-Empty
+returns-4 c = rw c.enum_told-in-Empty-1.given.1 refl
 
-returns-5 : tie.Need-returns-5
-returns-5 c = rw c.enum-told5.given.1 refl
+returns-5 : tie.Need-returns-in-Together
+returns-5 c = rw c.enum_told-in-Together-1.given.1 refl
 
-pub term-count-spec : {M : Type 1} → statement M
-term-count-spec =
+pub term_count_spec : {M : Type 1} → statement M
+term_count_spec =
     tie.close (tie.spec enum_told enum-told-2 enum-told-3 enum-told-4 enum-told-5 returns returns-2 returns-3 returns-4 returns-5)

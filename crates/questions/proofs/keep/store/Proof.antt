@@ -6,28 +6,28 @@ use borrow.Author.Rules.{rules}
 use Rattle.questions.proofs.keep.store.Statement.{statement}
 use Rattle.questions.proofs.keep.store.Tie as tie
 
-slice-write-clauses : tie.Need-slice-write-clauses
+slice-write-clauses : tie.Need-bounds-clauses-i
 slice-write-clauses c = search rules
 
-add-clauses : tie.Need-overflow-add-clauses
+add-clauses : tie.Need-overflow_add-clauses
 add-clauses c = search rules
 
-slice-write-clauses-2 : tie.Need-slice-write-clauses-2
+slice-write-clauses-2 : tie.Need-bounds-clauses-i-2
 slice-write-clauses-2 c = simp length-set (omega (arith, c.requires))
 
-add-clauses-2 : tie.Need-overflow-add-clauses-2
+add-clauses-2 : tie.Need-overflow_add-clauses-2
 add-clauses-2 c = search rules
 
-slice-write-clauses-3 : tie.Need-slice-write-clauses-3
+slice-write-clauses-3 : tie.Need-bounds-clauses-i-3
 slice-write-clauses-3 c = simp length-set (omega (arith, c.requires))
 
-add-clauses-3 : tie.Need-overflow-add-clauses-3
+add-clauses-3 : tie.Need-overflow_add-clauses-3
 add-clauses-3 c = search rules
 
-slice-write-clauses-4 : tie.Need-slice-write-clauses-4
+slice-write-clauses-4 : tie.Need-bounds-clauses-i-4
 slice-write-clauses-4 c = simp length-set (omega (arith, c.requires))
 
-same_length : tie.Need-same-length
+same_length : tie.Need-shape_of-clauses
 same_length c = search rules
 
 returns : tie.Need-returns

@@ -7,20 +7,20 @@ use Rattle.rows.specs.BlockLaws.{leaf_same}
 use Rattle.rows.proofs.blocks.change_block.Statement.{statement}
 use Rattle.rows.proofs.blocks.change_block.Tie as tie
 
-returns : tie.Need-returns
+returns : tie.Need-returns-then-old-full
 returns c =
     let a = c.before.before.args in
-    let e = (beq_iff a.old a.full).0 (of_true c.if1.true) in
-    leaf_same _ _ _ _ (subst (AllLeaves a.row.now a.height a.q) e c.before.before.requires.1)
+    let e = (beq_iff a.old a.full).0 (of_true c.if-old-full.true) in
+    leaf_same _ _ _ _ (subst (AllLeaves a.row-1.now a.height a.q) e c.before.before.requires.1)
 
-write-block-requires : tie.Need-write-block-requires
+write-block-requires : tie.Need-write_block-requires
 write-block-requires c κs = search rules
 
-same_length : tie.Need-same-length
+same_length : tie.Need-shape_of-row
 same_length c = search rules
 
-returns-2 : tie.Need-returns-2
+returns-2 : tie.Need-returns
 returns-2 c = search rules
 
-pub change-block-spec : {M : Type 1} → statement M
-change-block-spec = tie.close (tie.spec returns write-block-requires same_length returns-2)
+pub change_block_spec : {M : Type 1} → statement M
+change_block_spec = tie.close (tie.spec returns write-block-requires same_length returns-2)

@@ -12,10 +12,10 @@ use Rattle.rows.proofs.blocks.first_leaf.Tie as tie
 power-requires : tie.Need-power-requires
 power-requires c κs = search rules
 
-mul-i : tie.Need-overflow-mul-i
+mul-i : tie.Need-overflow_mul-i
 mul-i c = omega (arith, first_at_lem c.before.before.args.row.now _ _ c.before.before.requires _ c.power.ensures, c.before.before.requires.few)
 
-shared-slice-read-wide : tie.Need-shared-slice-read-wide
+shared-slice-read-wide : tie.Need-bounds-row-i
 shared-slice-read-wide c = omega (arith, first_at_lem c.before.before.before.args.row.now _ _ c.before.before.before.requires _ c.before.power.ensures)
 
 wide-requires : tie.Need-wide-requires
@@ -31,7 +31,7 @@ returns c =
     let e = c.before.before.before.power.ensures in
     c.digit.ensures ∙ ap (λ (b : ℕ). bit b (a.q * c.before.before.before.power.result % 8)) c.before.wide.ensures.0 ∙ ap (λ (s : ℕ). row_leaf a.row.now (a.q * s)) e
 
-pub first-leaf-spec : {M : Type 1} → statement M
-first-leaf-spec =
+pub first_leaf_spec : {M : Type 1} → statement M
+first_leaf_spec =
     tie.close
     (tie.spec power-requires mul-i shared-slice-read-wide wide-requires digit-requires returns)

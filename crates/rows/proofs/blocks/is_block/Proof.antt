@@ -17,5 +17,5 @@ returns c =
     let small : c.mask.result < 256 = omega arith in
     block_test _ _ _ _ _ _ c.before.whole.ensures c.mask.ensures small
 
-pub is-block-spec : {M : Type 1} → statement M
-is-block-spec = tie.close (tie.spec whole-requires mask-requires returns)
+pub is_block_spec : {M : Type 1} → statement M
+is_block_spec = tie.close (tie.spec whole-requires mask-requires returns)

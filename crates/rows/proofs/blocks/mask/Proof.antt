@@ -5,32 +5,32 @@ use borrow.Author.Rules.{rules}
 use Rattle.rows.proofs.blocks.mask.Statement.{statement}
 use Rattle.rows.proofs.blocks.mask.Tie as tie
 
-power-requires : tie.Need-power-requires
+power-requires : tie.Need-power-size-requires
 power-requires c κs = search rules
 
-power-requires-2 : tie.Need-power-requires-2
-power-requires-2 c κs = omega (arith, mask_size _ _ c.before.requires _ c.power.ensures)
+power-requires-2 : tie.Need-power-ones-requires
+power-requires-2 c κs = omega (arith, mask_size _ _ c.before.requires _ c.power-size.ensures)
 
-sub-ones : tie.Need-overflow-sub-ones
-sub-ones c = ones_pos _ _ c.before.before.requires _ c.before.power.ensures _ c.power2.ensures
+sub-ones : tie.Need-overflow_sub-ones
+sub-ones c = ones_pos _ _ c.before.before.requires _ c.before.power-size.ensures _ c.power-ones.ensures
 
-mul_power : tie.Need-overflow-mul-power
-mul_power c = omega (arith, mask_shift _ _ c.before.before.requires _ c.before.power.ensures)
+mul_power : tie.Need-overflow_mul-a
+mul_power c = omega (arith, mask_shift _ _ c.before.before.requires _ c.before.power-size.ensures)
 
-power-requires-3 : tie.Need-power-requires-3
-power-requires-3 c κs = omega (arith, mask_shift _ _ c.before.before.requires _ c.before.power.ensures)
+power-requires-3 : tie.Need-power-requires
+power-requires-3 c κs = omega (arith, mask_shift _ _ c.before.before.requires _ c.before.power-size.ensures)
 
-mul-result : tie.Need-overflow-mul-result
-mul-result c = omega (arith, mask_fits _ _ c.before.before.before.requires _ c.before.before.power.ensures _ c.before.power2.ensures _ c.power3.ensures)
+mul-result : tie.Need-overflow_mul-result
+mul-result c = omega (arith, mask_fits _ _ c.before.before.before.requires _ c.before.before.power-size.ensures _ c.before.power-ones.ensures _ c.power.ensures)
 
-cast-result : tie.Need-overflow-cast-result
-cast-result c = omega (arith, mask_fits _ _ c.before.before.before.requires _ c.before.before.power.ensures _ c.before.power2.ensures _ c.power3.ensures)
+cast-result : tie.Need-overflow_cast-result
+cast-result c = omega (arith, mask_fits _ _ c.before.before.before.requires _ c.before.before.power-size.ensures _ c.before.power-ones.ensures _ c.power.ensures)
 
 returns : tie.Need-returns
-returns c = mask_right _ _ c.before.before.before.requires _ c.before.before.power.ensures _ c.before.power2.ensures _ c.power3.ensures
+returns c = mask_right _ _ c.before.before.before.requires _ c.before.before.power-size.ensures _ c.before.power-ones.ensures _ c.power.ensures
 
-pub mask-spec : {M : Type 1} → statement M
-mask-spec =
+pub mask_spec : {M : Type 1} → statement M
+mask_spec =
     tie.close
     (tie.spec
     power-requires
