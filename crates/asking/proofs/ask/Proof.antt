@@ -17,64 +17,64 @@ refused-requires c κs = search rules
 
 returns : tie.Need-returns-then-reading-ne0
 returns c =
-    let reading = c.before.before in
-    let start = reading.before.before.before.before.before.args in
-    let E = answer_refused start.question.now _ reading.read-reading.ensures.0 c.before.if-reading-ne0.true in
-    given_refused start.question.now start.answer-1.now start.work-1.now _ _
-    (asked_refused start.question.now (length start.answer-1.now) (length start.work-1.now) _ _ E) _ c.refused.ensures
+    let reading = c in
+    let start = reading.args in
+    let E = answer_refused start.question.now _ reading.read-reading.ensures.0 c.if-reading-ne0.true in
+    given_refused start.question.now start.answer.now start.work.now _ _
+    (asked_refused start.question.now (length start.answer.now) (length start.work.now) _ _ E) _ c.refused.ensures
 
 refused-requires-2 : tie.Need-refused-requires-then-answer-lt-ANSWER_BYTES
 refused-requires-2 c κs = search rules
 
 returns-2 : tie.Need-returns-then-answer-lt-ANSWER_BYTES
 returns-2 c =
-    let reading = c.before.before.before in
-    let start = reading.before.before.before.before.before.args in
-    let T = answer_taken start.question.now _ reading.read-reading.ensures.0 _ reading.read-reading.ensures.1.1.0 c.before.before.if-reading-ne0.false in
-    given_refused start.question.now start.answer-1.now start.work-1.now 11 0
-    (asked_11 start.question.now (length start.answer-1.now) (length start.work-1.now) T.question T.read-reading
-    (rw (levels_are _ _ T.stands) c.before.if-answer-lt-ANSWER_BYTES.true)) _ c.refused-then-answer-lt-ANSWER_BYTES.ensures
+    let reading = c in
+    let start = reading.args in
+    let T = answer_taken start.question.now _ reading.read-reading.ensures.0 _ reading.read-reading.ensures.1.1.0 c.if-reading-ne0.false in
+    given_refused start.question.now start.answer.now start.work.now 11 0
+    (asked_11 start.question.now (length start.answer.now) (length start.work.now) T.question T.read
+    (rw (levels_are _ _ T.stands) c.if-answer-lt-ANSWER_BYTES.true)) _ c.refused-then-answer-lt-ANSWER_BYTES.ensures
 
 refused-requires-3 : tie.Need-refused-requires-then-work-lt-WORK_BYTES
 refused-requires-3 c κs = search rules
 
 returns-3 : tie.Need-returns-then-work-lt-WORK_BYTES
 returns-3 c =
-    let reading = c.before.before.before.before in
-    let start = reading.before.before.before.before.before.args in
-    let T = answer_taken start.question.now _ reading.read-reading.ensures.0 _ reading.read-reading.ensures.1.1.0 c.before.before.before.if-reading-ne0.false in
-    given_refused start.question.now start.answer-1.now start.work-1.now 12 0
-    (asked_12 start.question.now (length start.answer-1.now) (length start.work-1.now) T.question T.read-reading
-    (rw (levels_are _ _ T.stands) c.before.before.if-answer-lt-ANSWER_BYTES.false) c.before.if-work-lt-WORK_BYTES.true) _ c.refused-then-work-lt-WORK_BYTES.ensures
+    let reading = c in
+    let start = reading.args in
+    let T = answer_taken start.question.now _ reading.read-reading.ensures.0 _ reading.read-reading.ensures.1.1.0 c.if-reading-ne0.false in
+    given_refused start.question.now start.answer.now start.work.now 12 0
+    (asked_12 start.question.now (length start.answer.now) (length start.work.now) T.question T.read
+    (rw (levels_are _ _ T.stands) c.if-answer-lt-ANSWER_BYTES.false) c.if-work-lt-WORK_BYTES.true) _ c.refused-then-work-lt-WORK_BYTES.ensures
 
 -- what was read, once the tests are passed
 taken : (c : tie.Else-work-lt-WORK_BYTES) → (
-    let reading = c.before.before.before in
-    Taken reading.before.before.before.before.before.args.question.now reading.read-reading.result reading.read-reading.new.1.0)
+    let reading = c in
+    Taken reading.args.question.now reading.read-reading.result reading.read-reading.new.1.0)
 taken c =
-    let reading = c.before.before.before in
-    answer_taken reading.before.before.before.before.before.args.question.now _ reading.read-reading.ensures.0 _ reading.read-reading.ensures.1.1.0 c.before.before.if-reading-ne0.false
+    let reading = c in
+    answer_taken reading.args.question.now _ reading.read-reading.ensures.0 _ reading.read-reading.ensures.1.1.0 c.if-reading-ne0.false
 
 sizes-of-requires : tie.Need-sizes_of-sizes-requires
-sizes-of-requires c κs = let T = taken c.before.before.before in (refl, (T.question, record { clauses = _; stands = T.stands }))
+sizes-of-requires c κs = let T = taken c.before.before in (refl, (T.question, record { clauses = _; stands = T.stands }))
 
 decide-requires : tie.Need-decide-finding-requires
 decide-requires c κs =
-    let sized = c.before.before.before.before.before.before in
-    let T = taken sized.before.before.before.before in
+    let sized = c in
+    let T = taken sized.before.before.before.before.before.before.before.before in
     ((T.question, T.stands, T.formed), sized.sizes_of-sizes.ensures, refl)
 
 show-solution-requires : tie.Need-show_solution-requires
 show-solution-requires c κs =
-    let sized = c.before.before.before.before.before.before.before.before.before.before in
-    let passed = sized.before.before.before.before in
+    let sized = c in
+    let passed = sized.before.before.before.before.before.before.before.before.before.before.before.before in
     let T = taken passed in (
-      passed.before.if-answer-lt-ANSWER_BYTES.false,
+      passed.if-answer-lt-ANSWER_BYTES.false,
       (
         T.question,
         record {
-          sizing = record { question = passed.before.before.before.read-reading.result.question; standing = record { clauses = _; stands = T.stands }; sized = sized.sizes_of-sizes.ensures };
-          decided = c.before.before.before.decide-finding.ensures T.question T.stands T.formed;
+          sizing = record { question = passed.read-reading.result.question; standing = record { clauses = _; stands = T.stands }; sized = sized.sizes_of-sizes.ensures };
+          decided = c.decide-finding.ensures T.question T.stands T.formed;
         },
       ),
     )
@@ -84,10 +84,10 @@ clear-work-requires c κs = search rules
 
 found-requires : tie.Need-found-requires
 found-requires c κs =
-    let sizes = c.before.before.before.before.before.before.before.before.before.before.before.before.before.before.before.before.before in
-    let passed = sizes.before.before.before.before in
+    let sizes = c in
+    let passed = sizes.before.before.before.before.before.before.before.before.before.before.before.before.before.before.before.before.before.before.before in
     let T = taken passed in
-    (T.question, record { question = passed.before.before.before.read-reading.result.question; standing = record { clauses = _; stands = T.stands }; sized = sizes.sizes_of-sizes.ensures })
+    (T.question, record { question = passed.read-reading.result.question; standing = record { clauses = _; stands = T.stands }; sized = sizes.sizes_of-sizes.ensures })
 
 same_length : tie.Need-shape_of-answer
 same_length c = search rules
@@ -97,19 +97,19 @@ same-length-2 c = search rules
 
 returns-4 : tie.Need-returns
 returns-4 c =
-    let shown = c.before.before.before.before.before.before.before in
-    let found = shown.before.before.before.before in
-    let sized = found.before.before.before.before.before.before.before in
-    let passed = sized.before.before.before.before in
-    let start = passed.before.before.before.before.before.before.before.before.args in
+    let shown = c in
+    let found = shown in
+    let sized = found in
+    let passed = sized.before.before.before.before.before.before.before.before.before.before.before.before.before.before.before.before.before.before.before.before in
+    let start = passed.args in
     let T = taken passed in
-    given_answer start.question.now start.answer-1.now start.work-1.now _ _ T
-    (rw (levels_are _ _ T.stands) passed.before.if-answer-lt-ANSWER_BYTES.false) passed.if-work-lt-WORK_BYTES.false _ _ _ _
+    given_answer start.question.now start.answer.now start.work.now _ _ T
+    (rw (levels_are _ _ T.stands) passed.if-answer-lt-ANSWER_BYTES.false) passed.if-work-lt-WORK_BYTES.false _ _ _ _
     (record {
-      sizing = record { question = passed.before.before.before.read-reading.result.question; standing = record { clauses = _; stands = T.stands }; sized = sized.sizes_of-sizes.ensures };
+      sizing = record { question = passed.read-reading.result.question; standing = record { clauses = _; stands = T.stands }; sized = sized.sizes_of-sizes.ensures };
       decided = found.decide-finding.ensures T.question T.stands T.formed;
     })
-    _ c.found.ensures _ shown.show_solution.ensures _ c.before.before.before.clear_work.ensures
+    _ c.found.ensures _ shown.show_solution.ensures _ c.clear_work.ensures
 
 pub ask_spec : {M : Type 1} → statement M
 ask_spec =

@@ -23,8 +23,8 @@ same_length c = search rules
 
 returns : tie.Need-returns
 returns c =
-    cleared c.before.before.before.before.before.args.work-1.now _ _ c.before.before.fill.ensures
-    (sym c.before.before.before.fill-arg-1.given.1)
+    cleared c.args.work.now _ _ c.fill.ensures
+    (sym c.fill-arg-1.given.1)
 
 pub clear_work_spec : {M : Type 1} → statement M
 clear_work_spec =

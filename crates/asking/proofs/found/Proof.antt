@@ -10,7 +10,7 @@ outcome-of-requires : tie.Need-outcome_of-requires
 outcome-of-requires c κs = search rules
 
 returns : tie.Need-returns
-returns c = λ q S. rw (← (c.before.height_given.ensures q S)) c.outcome_of.ensures
+returns c = λ q S. rw (← (c.height_given.ensures q S)) c.outcome_of.ensures
 
 pub found_spec : {M : Type 1} → statement M
 found_spec = tie.close (tie.spec height-given-requires outcome-of-requires returns)

@@ -12,28 +12,28 @@ is-shown-requires : tie.Need-is_shown-requires
 is-shown-requires c κs = search rules
 
 plan-requires : tie.Need-plan-plan-requires
-plan-requires c κs = (c.before.before.before.requires.1, of_true (sym c.before.is_shown.ensures ∙ c.if-is_shown.true))
+plan-requires c κs = (c.requires.1, of_true (sym c.is_shown.ensures ∙ c.if-is_shown.true))
 
 write-rows-requires : tie.Need-write_rows-requires
 write-rows-requires c κs =
-    let start = c.before.before.before.before.before in
+    let start = c in
     let (q, D) = start.requires.1 in
-    (rw (levels_are _ _ D.sizing.standing.stands) at (c.before.plan-plan.ensures q D).formed, (start.requires.0, omega (arith, ap (λ s. s.free) D.sizing.sized, D.sizing.standing.stands.variables)))
+    (rw (levels_are _ _ D.sizing.standing.stands) at (c.plan-plan.ensures q D).formed, (start.requires.0, omega (arith, ap (λ s. s.free) D.sizing.sized, D.sizing.standing.stands.variables)))
 
 same_length : tie.Need-shape_of-answer
 same_length c = search rules
 
 returns : tie.Need-returns-then-is_shown
 returns c =
-    let plan = c.before.before.before.before in
+    let plan = c in
     λ q D.
-    c.before.before.write_rows.ensures
+    c.write_rows.ensures
     ∙ answer_shown q _ _ _ _ D.decided _ (levels_are _ _ D.sizing.standing.stands)
-    (sym plan.before.before.is_shown.ensures ∙ plan.before.if-is_shown.true) _ (plan.plan-plan.ensures q D) _
+    (sym plan.is_shown.ensures ∙ plan.if-is_shown.true) _ (plan.plan-plan.ensures q D) _
     (ap (λ s. s.free) D.sizing.sized ∙ D.sizing.standing.stands.free) _
 
 returns-2 : tie.Need-returns-else-is_shown
-returns-2 c = λ q D. answer_kept q _ _ _ _ D.decided (sym c.before.is_shown.ensures ∙ c.if-is_shown.false) _
+returns-2 c = λ q D. answer_kept q _ _ _ _ D.decided (sym c.is_shown.ensures ∙ c.if-is_shown.false) _
 
 pub show_solution_spec : {M : Type 1} → statement M
 show_solution_spec =

@@ -20,21 +20,21 @@ abbrev decreases-loop-p : tie.decreases-loop-p
 decreases-loop-p x n r₀ p₀ r p = 6 - p
 
 returns : tie.Need-returns-then-n-ge6 invariant-loop-p decreases-loop-p
-returns c = merged_same c.before.args.n c.before.args.x c.if-n-ge6.true
+returns c = merged_same c.args.n c.args.x c.if-n-ge6.true
 
 loop-holds : tie.Need-loop-p-init invariant-loop-p decreases-loop-p
-loop-holds c = (omega arith, omega arith, merge_start c.before.args.n c.before.args.x)
+loop-holds c = (omega arith, omega arith, merge_start c.args.n c.args.x)
 
 shl-turned : tie.Need-overflow_shl-p invariant-loop-p decreases-loop-p
 shl-turned c = omega arith
 
 -- the turn is by 2 ^ p
-turn : (c : tie.In-loop-p invariant-loop-p decreases-loop-p) → (1 * 2 ^ c.before.loop-p.p) % 2 ^ 64 ≡ 2 ^ c.before.loop-p.p
-turn c = power_shift c.before.loop-p.p (omega arith)
+turn : (c : tie.In-loop-p invariant-loop-p decreases-loop-p) → (1 * 2 ^ c.loop-p.p) % 2 ^ 64 ≡ 2 ^ c.loop-p.p
+turn c = power_shift c.loop-p.p (omega arith)
 
 turned-requires : tie.Need-turned-r-requires invariant-loop-p decreases-loop-p
 turned-requires c κs =
-    subst (λ k. (0 < k) × (k < 64)) (sym (turn c)) (pow_pos c.before.loop-p.p, pow-lt {j = 6} c.loop-p-test.true)
+    subst (λ k. (0 < k) × (k < 64)) (sym (turn c)) (pow_pos c.loop-p.p, pow-lt {j = 6} c.loop-p-test.true)
 
 add-p : tie.Need-overflow_add-p invariant-loop-p decreases-loop-p
 add-p c = omega arith
@@ -44,7 +44,7 @@ loop-less c = omega arith
 
 loop-again : tie.Need-loop-p-preserved invariant-loop-p decreases-loop-p
 loop-again c =
-    let l = c.before.before.loop-p in (
+    let l = c.loop-p in (
       omega arith,
       omega arith,
       merge_more _ l.p _ l.r _ l.invariant.0 l.invariant.2
@@ -55,9 +55,9 @@ loop-again c =
 
 returns-2 : tie.Need-returns invariant-loop-p decreases-loop-p
 returns-2 c =
-    let l = c.before.loop-p in
+    let l = c.loop-p in
     let e : l.p ≡ 6 = omega arith in
-    let a = c.before.before.before.args in
+    let a = c.args in
     merge_whole a.n a.x l.r (omega arith) (subst (λ k. MergedTo a.n k a.x l.r) e l.invariant.2)
 
 pub merge_word_spec : {M : Type 1} → statement M

@@ -14,8 +14,8 @@ put-all-requires c κs = search rules
 
 sweep-requires : tie.Need-sweep-none-requires
 sweep-requires c κs =
-    let p = c.before.before.before.before.before.before.before.before.requires in
-    let put = c.before.before.before.before.put_all in
+    let p = c.requires in
+    let put = c.put_all in
     (p.0, (p.1.0, omega (arith, put.auto.0, p.1.1), put.ensures.0))
 
 move-terms-requires : tie.Need-move_terms-requires
@@ -32,14 +32,14 @@ same_length c = search rules
 
 returns : tie.Need-returns
 returns c =
-    let s = c.before.before.before.before.before.before.before.before.before.before.before.before.before.before.before.before.before.before in
+    let s = c in
     let a = s.args in
-    let put = c.before.before.before.before.before.before.before.before.before.before.before.before.before.before.put_all in
-    let sweep = c.before.before.before.before.before.before.before.before.before.sweep-none in
-    let share = c.before.before.before.share_words in (
+    let put = c.put_all in
+    let sweep = c.sweep-none in
+    let share = c.share_words in (
       λ values t.
           let S = sweep.ensures.0 values t in (
-            c.before.before.before.before.before.move_terms.ensures values S.swept.at S.swept.table,
+            c.move_terms.ensures values S.swept.at S.swept.table,
             swept_missing a.clauses.now a.t3.counts a.t3.free a.t3.own values a.w a.x a.wanted sweep.result c.share_word.result _ sweep.new.1.1.1.1.1.1.0 share.new.0
                 s.requires.1.0 s.requires.1.2 c.share_word.ensures share.ensures.0 S,
           ),

@@ -18,7 +18,7 @@ word-count-requires c κs = search rules
 returns : tie.Need-returns-then-n-lt6
 unfolding word_count
 returns c =
-    let e : c.before.before.args.n - 6 ≡ 0 = omega arith in
+    let e : c.args.n - 6 ≡ 0 = omega arith in
     ap (λ k. c.word_count.result * 2 ^ k) e ∙ mul-one c.word_count.result ∙ c.word_count.ensures
 
 power-requires : tie.Need-power-requires
@@ -27,7 +27,7 @@ power-requires c κs = search rules
 returns-2 : tie.Need-returns
 unfolding word_count
 returns-2 c =
-    let a = c.before.before.args in
+    let a = c.args in
     let e : a.m + (a.n - 6) ≡ a.n + a.m - 6 = omega arith in
     ap (λ k. k * 2 ^ (a.n - 6)) c.power.ensures ∙ sym (pow-add 2 a.m (a.n - 6)) ∙ ap (λ k. 2 ^ k) e
 

@@ -31,8 +31,8 @@ loop-less c = omega arith
 
 loop-again : tie.Need-loop-j-preserved invariant-loop-j decreases-loop-j
 loop-again c =
-    let l = c.before.loop-j in
-    let a = c.before.before.args in (
+    let l = c.loop-j in
+    let a = c.args in (
       omega arith,
       simp length-set l.invariant.1,
       stored_more l.words l.j a.x (omega arith) (λ i y. y ≡ a.x) l.invariant.2 refl,
@@ -40,10 +40,10 @@ loop-again c =
     )
 
 same_length : tie.Need-shape_of-words invariant-loop-j decreases-loop-j
-same_length c = c.before.loop-j.invariant.1
+same_length c = c.loop-j.invariant.1
 
 returns : tie.Need-returns invariant-loop-j decreases-loop-j
-returns c = (λ j h. c.before.loop-j.invariant.2 j (omega arith), λ k h. c.before.loop-j.invariant.3 k (omega arith))
+returns c = (λ j h. c.loop-j.invariant.2 j (omega arith), λ k h. c.loop-j.invariant.3 k (omega arith))
 
 pub put_all_spec : {M : Type 1} → statement M
 put_all_spec =

@@ -8,7 +8,7 @@ merge-word-requires : tie.Need-merge_word-requires
 merge-word-requires c κs = search rules
 
 returns : tie.Need-returns
-returns c = shared_not c.before.args.n c.before.args.x c.merge_word.result c.before.ranges.x.fits c.merge_word.type-inv c.merge_word.ensures
+returns c = shared_not c.args.n c.args.x c.merge_word.result c.ranges.x.fits c.merge_word.type_inv c.merge_word.ensures
 
 pub share_word_spec : {M : Type 1} → statement M
 share_word_spec = tie.close (tie.spec merge-word-requires returns)

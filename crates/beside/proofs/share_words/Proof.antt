@@ -19,7 +19,7 @@ decreases-loop-j words₀ count n j₀ words j = count - j
 
 returns : tie.Need-returns-then-n-ge6 invariant-loop-j decreases-loop-j
 returns c =
-    let a = c.before.before.args in
+    let a = c.args in
     (λ j h. shared_same a.n (get_or a.words.now j 0) c.if-n-ge6.true, λ k h. refl)
 
 loop-holds : tie.Need-loop-j-init invariant-loop-j decreases-loop-j
@@ -48,8 +48,8 @@ loop-less c = omega arith
 
 loop-again : tie.Need-loop-j-preserved invariant-loop-j decreases-loop-j
 loop-again c =
-    let l = c.before.before.before.loop-j in
-    let a = c.before.before.before.before.before.before.args in
+    let l = c.loop-j in
+    let a = c.args in
     let s = c.share_word in (
       omega arith,
       simp length-set l.invariant.1,
@@ -59,10 +59,10 @@ loop-again c =
     )
 
 same_length : tie.Need-shape_of-words invariant-loop-j decreases-loop-j
-same_length c = c.before.loop-j.invariant.1
+same_length c = c.loop-j.invariant.1
 
 returns-2 : tie.Need-returns invariant-loop-j decreases-loop-j
-returns-2 c = (λ j h. c.before.loop-j.invariant.2 j (omega arith), λ k h. c.before.loop-j.invariant.3 k (omega arith))
+returns-2 c = (λ j h. c.loop-j.invariant.2 j (omega arith), λ k h. c.loop-j.invariant.3 k (omega arith))
 
 pub share_words_spec : {M : Type 1} → statement M
 share_words_spec =

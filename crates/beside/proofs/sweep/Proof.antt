@@ -22,45 +22,45 @@ abbrev decreases-loop-o : tie.decreases-loop-o
 decreases-loop-o terms₀ clauses w x wanted left₀ sizes words total none₀ going₀ o₀ terms left none going o = total - o
 
 word-count-requires : tie.Need-word_count-words-requires invariant-loop-o decreases-loop-o
-word-count-requires c κs = omega (arith, c.before.requires.0.variables)
+word-count-requires c κs = omega (arith, c.requires.0.variables)
 
 own-words-requires : tie.Need-own_words-total-requires invariant-loop-o decreases-loop-o
-own-words-requires c κs = c.before.before.requires.0.variables
+own-words-requires c κs = c.requires.0.variables
 
 loop-holds : tie.Need-loop-o-init invariant-loop-o decreases-loop-o
 loop-holds c =
-    let a = c.before.before.before.args in
-    let p = c.before.before.before.requires in (
+    let a = c.args in
+    let p = c.requires in (
       omega arith,
       refl,
       λ j h t u. absurd (T_not (bit a.wanted j) u t),
       λ k h. refl,
-      λ values t. swept_start a.clauses.now a.t3.counts a.t3.free a.t3.own values a.w a.x a.wanted a.terms.now a.left-1.now p.1.2 t,
+      λ values t. swept_start a.clauses.now a.t3.counts a.t3.free a.t3.own values a.w a.x a.wanted a.terms.now a.left.now p.1.2 t,
     )
 
 same_length : tie.Need-shape_of-left-then-going-eq0 invariant-loop-o decreases-loop-o
-same_length c = c.before.before.before.loop-o.invariant.1
+same_length c = c.loop-o.invariant.1
 
 returns : tie.Need-returns-then-going-eq0 invariant-loop-o decreases-loop-o
 returns c =
-    let a = c.before.before.before.before.before.before.before.args in
-    let l = c.before.before.before.loop-o in
-    let total = c.before.before.before.before.own_words-total in (
+    let a = c.args in
+    let l = c.loop-o in
+    let total = c.own_words-total in (
       λ values t. record {
         words = total.result;
         enough = total.ensures;
-        swept = rw c.before.if-none-eq0.true at (swept_stop a.clauses.now a.t3.counts a.t3.free a.t3.own values a.w a.x a.wanted l.o total.result l.none l.going l.terms l.left-1
-            l.invariant.0 c.before.if-none-eq0.true c.if-going-eq0.true l.invariant.2 (l.invariant.4 values t));
+        swept = rw c.if-none-eq0.true at (swept_stop a.clauses.now a.t3.counts a.t3.free a.t3.own values a.w a.x a.wanted l.o total.result l.none l.going l.terms l.left
+            l.invariant.0 c.if-none-eq0.true c.if-going-eq0.true l.invariant.2 (l.invariant.4 values t));
       },
       l.invariant.3,
     )
 
 -- the next word is below 64
-small : (c : tie.Joined1 invariant-loop-o decreases-loop-o) → c.before.before.loop-o.o * c.before.before.before.before.word_count-words.result + c.before.before.before.before.before.before.args.w < 64
+small : (c : tie.Joined1 invariant-loop-o decreases-loop-o) → c.before.before.loop.o * c.before.before.before.before.word_count.result + c.args.w < 64
 small c =
-    let s = c.before.before.before.before.before.before in
-    word_small s.args.t3.free s.args.t3.own c.before.before.before.own_words-total.result c.before.before.before.before.word_count-words.result c.before.before.loop-o.o s.args.w
-    s.requires.0.variables c.before.before.before.before.word_count-words.ensures c.before.before.before.own_words-total.ensures c.before.loop-o-test.true s.requires.1.0
+    let s = c in
+    word_small s.args.t3.free s.args.t3.own c.before.before.before.own_words.result c.before.before.before.before.word_count.result c.before.before.loop.o s.args.w
+    s.requires.0.variables c.before.before.before.before.word_count.ensures c.before.before.before.own_words.ensures c.before.loop-test.true s.requires.1.0
 
 mul-move-terms : tie.Need-overflow_mul-o invariant-loop-o decreases-loop-o
 mul-move-terms c = omega (arith, small c)
@@ -69,57 +69,57 @@ add-move-terms : tie.Need-overflow_add-o invariant-loop-o decreases-loop-o
 add-move-terms c = omega (arith, small c)
 
 move-terms-requires : tie.Need-move_terms-requires invariant-loop-o decreases-loop-o
-move-terms-requires c κs = (c.before.before.before.before.before.before.before.requires.0.variables, c.move_terms-arg-1.given.0.1)
+move-terms-requires c κs = (c.requires.0.variables, c.move_terms-arg-1.given.0.1)
 
 element-copy-out-section-word : tie.Need-bounds-sizes-2 invariant-loop-o decreases-loop-o
 element-copy-out-section-word c = omega arith
 
 section-word-requires : tie.Need-section_word-y-requires invariant-loop-o decreases-loop-o
-section-word-requires c κs = c.before.before.before.before.before.before.before.before.before.before.requires.0.second_positive
+section-word-requires c κs = c.requires.0.second_positive
 
 element-copy-out-take-all : tie.Need-bounds-sizes-3 invariant-loop-o decreases-loop-o
 element-copy-out-take-all c = omega arith
 
 take-all-requires : tie.Need-take_all-going-requires invariant-loop-o decreases-loop-o
 take-all-requires c κs =
-    let p = c.before.before.before.before.before.before.before.before.before.before.before.before.before.before.requires in
-    ((omega (arith, p.0.few), omega (arith, c.before.before.before.before.before.before.before.before.before.before.loop-o.invariant.1, p.1.1)), p.0.second_disequation)
+    let p = c.requires in
+    ((omega (arith, p.0.few), omega (arith, c.loop-o.invariant.1, p.1.1)), p.0.second_disequation)
 
 add-o : tie.Need-overflow_add-o-in-loop-o invariant-loop-o decreases-loop-o
-add-o c = omega (arith, c.before.before.before.before.before.before.before.before.before.before.before.before.loop-o-test.true)
+add-o c = omega (arith, c.loop-o-test.true)
 
 loop-less : tie.Need-loop-o-smaller invariant-loop-o decreases-loop-o
-loop-less c = omega (arith, c.before.before.before.before.before.before.before.before.before.before.before.before.loop-o-test.true)
+loop-less c = omega (arith, c.loop-o-test.true)
 
 loop-again : tie.Need-loop-o-preserved invariant-loop-o decreases-loop-o
 loop-again c =
-    let s = c.before.before.before.before.before.before.before.before.before.before.before.before.before.before.before.before.before in
+    let s = c in
     let a = s.args in
-    let words = c.before.before.before.before.before.before.before.before.before.before.before.before.before.before.before.word_count-words in
-    let l = c.before.before.before.before.before.before.before.before.before.before.before.before.before.loop-o in
-    let moved = c.before.before.before.before.before.before.before.before.before.move_terms in
-    let y = c.before.before.before.before.before.before.section_word-y in
-    let taken = c.before.before.take_all-going in (
-      omega (arith, c.before.before.before.before.before.before.before.before.before.before.before.before.loop-o-test.true),
+    let words = c.word_count-words in
+    let l = c.loop-o in
+    let moved = c.move_terms in
+    let y = c.section_word-y in
+    let taken = c.take_all-going in (
+      omega (arith, c.loop-o-test.true),
       taken.auto.1.1.1.1.1.0 ∙ l.invariant.1,
-      emptied_more _ _ a.wanted l.going taken.result l.left-1 taken.new.1.1.1.1.1.0 taken.ensures l.invariant.2,
+      emptied_more _ _ a.wanted l.going taken.result l.left taken.new.1.1.1.1.1.0 taken.ensures l.invariant.2,
       λ k h. taken.ensures.left_kept k (λ m. absurd (omega (arith, s.requires.0.few))) ∙ l.invariant.3 k h,
       λ values t.
           let S = l.invariant.4 values t in
           swept_more a.clauses.now a.t3.counts a.t3.free a.t3.own values a.w a.x a.wanted l.o l.none l.going y.result _ taken.result
-          l.terms moved.new.1.1.1.0 l.left-1 taken.new.1.1.1.1.1.0 s.requires.0 (l.o * words.result + a.w) (ap (λ k. l.o * k + a.w) words.ensures)
+          l.terms moved.new.1.1.1.0 l.left taken.new.1.1.1.1.1.0 s.requires.0 (l.o * words.result + a.w) (ap (λ k. l.o * k + a.w) words.ensures)
           (moved.ensures values S.at S.table)
-          y.ensures (taken_out l.none y.result (bit y.result) y.type-inv (λ i h. refl))
+          y.ensures (taken_out l.none y.result (bit y.result) y.type_inv (λ i h. refl))
           taken.ensures l.invariant.2 S,
     )
 
 same-length-2 : tie.Need-shape_of-left invariant-loop-o decreases-loop-o
-same-length-2 c = c.before.loop-o.invariant.1
+same-length-2 c = c.loop-o.invariant.1
 
 returns-2 : tie.Need-returns invariant-loop-o decreases-loop-o
 returns-2 c =
-    let l = c.before.loop-o in
-    let total = c.before.before.own_words-total in
+    let l = c.loop-o in
+    let total = c.own_words-total in
     let e : l.o ≡ total.result = omega (arith, c.loop-o-test.false) in (
       λ values t. record { words = total.result; enough = total.ensures; swept = rw e at (l.invariant.4 values t) },
       l.invariant.3,

@@ -33,11 +33,11 @@ same_length c = search rules
 
 returns : tie.Need-returns-then-z-eq0
 returns c =
-    let start = c.before.before.before.before in
+    let start = c in
     let a = start.args in
-    let f = c.before.failing_word in
+    let f = c.failing_word in
     taken_set a.j _ a.wanted a.left.now _ _ (omega (arith, start.requires.0)) start.requires.0.2
-    (taken_out (get_or a.left.now a.j 0) f.result _ f.type-inv f.ensures)
+    (taken_out (get_or a.left.now a.j 0) f.result _ f.type_inv f.ensures)
     (λ u. c.if-z-eq0.true) (λ k h n. other_bits a.wanted a.j k (omega (arith, start.requires.0)) h n)
 
 same-length-2 : tie.Need-shape_of-left
@@ -45,12 +45,12 @@ same-length-2 c = search rules
 
 returns-2 : tie.Need-returns
 returns-2 c =
-    let start = c.before.before.before.before in
+    let start = c in
     let a = start.args in
-    let f = c.before.failing_word in
+    let f = c.failing_word in
     let t = start.requires.0.2 in
     taken_set a.j _ a.wanted a.left.now a.wanted _ (omega (arith, start.requires.0)) t
-    (taken_out (get_or a.left.now a.j 0) f.result _ f.type-inv f.ensures)
+    (taken_out (get_or a.left.now a.j 0) f.result _ f.type_inv f.ensures)
     (λ u. absurd (T_not (bit a.wanted a.j) u t)) (λ k h n. refl)
 
 pub take_one_spec : {M : Type 1} → statement M

@@ -16,7 +16,7 @@ term-byte-requires-3 : tie.Need-term_byte-c-requires
 term-byte-requires-3 c κs = search rules
 
 returns : tie.Need-returns
-returns c = cc (c.before.before.before.term_count-count.ensures, c.before.before.term_byte-a.ensures, c.before.term_byte-b.ensures, c.term_byte-c.ensures)
+returns c = cc (c.term_count-count.ensures, c.term_byte-a.ensures, c.term_byte-b.ensures, c.term_byte-c.ensures)
 
 pub clause_at_spec : {M : Type 1} → statement M
 clause_at_spec =

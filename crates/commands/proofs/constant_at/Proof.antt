@@ -14,8 +14,8 @@ use Rattle.commands.proofs.constant_at.Statement.{statement}
 use Rattle.commands.proofs.constant_at.Tie as tie
 
 -- the shape's number is another than that of a constant
-told : (c : tie.In_default-shape) → ¬ (c.before.before.entry-1.given.0.0 ≡ Shape.Constant)
-told c e = ⊎_elim (λ z. omega arith) (⊎_elim (λ z. omega arith) (λ z. omega arith)) (rw e at c.in-Constant.keys2)
+told : (c : tie.In_default-shape) → ¬ (c.entry-1.given.0.0 ≡ Shape.Constant)
+told c e = ⊎_elim (λ z. omega arith) (⊎_elim (λ z. omega arith) (λ z. omega arith)) (rw e at c.in_default-shape.is)
 
 returns : tie.Need-returns-then-bytes-at
 unfolding read_at
@@ -35,7 +35,7 @@ enum_told c = search rules
 
 returns-2 : tie.Need-returns-in_default
 unfolding read_at whole_at
-returns-2 c = simp (lt-ltb _ _ c.before.before.before.before.if-bytes-at.false, ← c.before.before.entry_of-entry.ensures, c.enum_told-1.given.1)
+returns-2 c = simp (lt-ltb _ _ c.if-bytes-at.false, ← c.entry_of-entry.ensures, c.enum_told-1.is)
 
 enum-told-2 : tie.Need-enum_told-in-Constant
 enum-told-2 c = search rules
@@ -43,9 +43,9 @@ enum-told-2 c = search rules
 returns-3 : tie.Need-returns-in_default-shape
 unfolding read_at
 returns-3 c =
-    let start = c.before.before.before.before.before.before.before.before in
-    let h = c.before.before.entry-1.given.0.0 in
-    simp (lt-ltb _ _ c.before.before.before.before.before.before.if-bytes-at.false, ← c.before.before.before.before.entry_of-entry.ensures, c.before.before.entry-1.given.1)
+    let start = c in
+    let h = c.entry-1.given.0.0 in
+    simp (lt-ltb _ _ c.if-bytes-at.false, ← c.entry_of-entry.ensures, c.entry-1.given.1)
     (other_stands start.args.bytes.now start.args.at h (told c))
 
 operand-count-requires : tie.Need-operand_count-width-requires
@@ -60,11 +60,11 @@ sub-if2 c = search rules
 returns-4 : tie.Need-returns-then-bytes-from
 unfolding read_at whole_at
 returns-4 c =
-    let told = c.before.before.before.before.before in
-    simp (lt-ltb _ _ told.before.before.before.before.if-bytes-at.false, ← told.before.before.entry_of-entry.ensures, told.entry-1.given.1, ← c.before.operand_count-width.ensures, lt-ltb _ _ c.if-bytes-from.true)
+    let told = c in
+    simp (lt-ltb _ _ told.if-bytes-at.false, ← told.entry_of-entry.ensures, told.entry-1.given.1, ← c.operand_count-width.ensures, lt-ltb _ _ c.if-bytes-from.true)
 
 four-bytes-requires : tie.Need-four_bytes-requires
-four-bytes-requires c κs = omega (arith, c.before.operand_count-width.ensures ∙ ap operands c.before.before.enum_told-in-Constant-1.given.1, c.if-bytes-from.false)
+four-bytes-requires c κs = omega (arith, c.operand_count-width.ensures ∙ ap operands c.enum_told-in-Constant-1.is, c.if-bytes-from.false)
 
 add-t7 : tie.Need-overflow_add-result
 add-t7 c = search rules
@@ -72,16 +72,16 @@ add-t7 c = search rules
 returns-5 : tie.Need-returns
 unfolding read_at whole_at command_of
 returns-5 c =
-    let told = c.before.before.before.before.before.before in
-    let start = told.before.before.before.before.before.before in
-    let width : c.before.before.operand_count-width.result ≡ 4 = c.before.before.operand_count-width.ensures ∙ ap operands c.before.before.before.enum_told-in-Constant-1.given.1 in
+    let told = c in
+    let start = told in
+    let width : c.operand_count-width.result ≡ 4 = c.operand_count-width.ensures ∙ ap operands c.enum_told-in-Constant-1.is in
     simp (
-      lt-ltb _ _ told.before.before.before.before.if-bytes-at.false,
-      ← told.before.before.entry_of-entry.ensures,
+      lt-ltb _ _ told.if-bytes-at.false,
+      ← told.entry_of-entry.ensures,
       told.entry-1.given.1,
-      c.before.before.before.enum_told-in-Constant-1.given.1,
+      c.enum_told-in-Constant-1.is,
       width,
-      le-ltb (length start.args.bytes.now - (start.args.at + 1)) 4 (omega (arith, width, c.before.if-bytes-from.false)),
+      le-ltb (length start.args.bytes.now - (start.args.at + 1)) 4 (omega (arith, width, c.if-bytes-from.false)),
     )
     (ap (λ v. Leading.Constant v (start.args.at + 1 + 4)) c.four_bytes.ensures.0)
 

@@ -24,7 +24,7 @@ enum_told c = search rules
 
 returns-2 : tie.Need-returns-in_default
 unfolding read_at whole_at
-returns-2 c = simp (lt-ltb _ _ c.before.before.before.before.if-bytes-at.false, ← c.before.before.entry_of-entry.ensures, c.enum_told-1.given.1) refl
+returns-2 c = simp (lt-ltb _ _ c.if-bytes-at.false, ← c.entry_of-entry.ensures, c.enum_told-1.is) refl
 
 operand-count-requires : tie.Need-operand_count-width-requires
 operand-count-requires c κs = search rules
@@ -38,7 +38,7 @@ sub-if2 c = search rules
 returns-3 : tie.Need-returns-then-bytes-from
 unfolding read_at whole_at
 returns-3 c =
-    simp (lt-ltb _ _ c.before.before.before.before.before.before.before.if-bytes-at.false, ← c.before.before.before.before.before.entry_of-entry.ensures, c.before.before.before.entry-1.given.1, ← c.before.operand_count-width.ensures, lt-ltb _ _ c.if-bytes-from.true) refl
+    simp (lt-ltb _ _ c.if-bytes-at.false, ← c.entry_of-entry.ensures, c.entry-1.given.1, ← c.operand_count-width.ensures, lt-ltb _ _ c.if-bytes-from.true) refl
 
 command-of-requires : tie.Need-command_of-command-requires
 command-of-requires c κs = search rules
@@ -49,7 +49,7 @@ add-t8 c = search rules
 returns-4 : tie.Need-returns
 unfolding read_at whole_at
 returns-4 c =
-    simp (lt-ltb _ _ c.before.before.before.before.before.before.before.before.if-bytes-at.false, ← c.before.before.before.before.before.before.entry_of-entry.ensures, c.before.before.before.before.entry-1.given.1, ← c.before.before.operand_count-width.ensures, le-ltb _ _ c.before.if-bytes-from.false, ← c.command_of-command.ensures)
+    simp (lt-ltb _ _ c.if-bytes-at.false, ← c.entry_of-entry.ensures, c.entry-1.given.1, ← c.operand_count-width.ensures, le-ltb _ _ c.if-bytes-from.false, ← c.command_of-command.ensures)
 
 pub read_at_spec : {M : Type 1} → statement M
 read_at_spec =

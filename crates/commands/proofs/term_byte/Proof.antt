@@ -11,7 +11,7 @@ shared-slice-read-result : tie.Need-bounds-bytes-i
 shared-slice-read-result c = search rules
 
 returns : tie.Need-returns-then-k-count
-returns c = simp (lt-ltb _ _ c.before.if-k-count.true)
+returns c = simp (lt-ltb _ _ c.if-k-count.true)
 
 returns-2 : tie.Need-returns
 returns-2 c = simp (le-ltb _ _ c.if-k-count.false)

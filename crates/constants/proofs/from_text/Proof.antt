@@ -22,19 +22,19 @@ abbrev decreases-loop-at : tie.decreases-loop-at
 decreases-loop-at text items₀ scan₀ at₀ items scan at = length text - at
 
 returns : tie.Need-returns-then-text-gt-LONGEST_TEXT invariant-loop-at decreases-loop-at
-returns c = sym (text_long constant_levels c.before.before.args.text.now (omega (arith, c.if-text-gt-LONGEST_TEXT.true)))
+returns c = sym (text_long constant_levels c.args.text.now (omega (arith, c.if-text-gt-LONGEST_TEXT.true)))
 
 loop-holds : tie.Need-loop-at-init invariant-loop-at decreases-loop-at
 loop-holds c = (refl, omega arith, ([], none_yet, omega arith, refl))
 
 slice-aggregate-take-sign : tie.Need-slice_bounds-take_sign-end invariant-loop-at decreases-loop-at
-slice-aggregate-take-sign c = sym c.before.before.loop-at.invariant.0
+slice-aggregate-take-sign c = sym c.loop-at.invariant.0
 
 shared-slice-read-take-sign : tie.Need-bounds-text-at invariant-loop-at decreases-loop-at
 shared-slice-read-take-sign c = search rules
 
 take-sign-requires : tie.Need-take_sign-requires invariant-loop-at decreases-loop-at
-take-sign-requires c κs = let i = c.before.before.before.loop-at.invariant in (i.2.0, i.2.1, omega (arith, i.0, i.2.2, c.before.before.loop-at-test.true, c.before.before.before.before.if-text-gt-LONGEST_TEXT.false))
+take-sign-requires c κs = let i = c.loop-at.invariant in (i.2.0, i.2.1, omega (arith, i.0, i.2.2, c.loop-at-test.true, c.if-text-gt-LONGEST_TEXT.false))
 
 enum-known-next : tie.Need-enum_known-next invariant-loop-at decreases-loop-at
 enum-known-next c = search rules
@@ -44,27 +44,27 @@ enum_told c = search rules
 
 returns-2 : tie.Need-returns-in_default invariant-loop-at decreases-loop-at
 returns-2 c =
-    let l = c.before.before.before.before.before.before.before.loop-at in
-    let s = c.before.before.before.before.before.before.before.before.before.before.args.text.now in
+    let l = c.loop-at in
+    let s = c.args.text.now in
     let (σ, S, few, so_far) = l.invariant.2 in
-    let stops = subst (Stepped constant_levels _ _ σ) c.enum_told-1.given.1 (c.before.before.before.take_sign.ensures σ S (omega (arith, l.invariant.0, few, c.before.before.before.before.before.before.loop-at-test.true, c.before.before.before.before.before.before.before.before.if-text-gt-LONGEST_TEXT.false))) in
-    sym (text_none constant_levels s (whole_none s (turn_stops s l.at c.before.before.before.before.before.before.loop-at-test.true σ so_far stops)))
+    let stops = subst (Stepped constant_levels _ _ σ) c.enum_told-1.is (c.take_sign.ensures σ S (omega (arith, l.invariant.0, few, c.loop-at-test.true, c.if-text-gt-LONGEST_TEXT.false))) in
+    sym (text_none constant_levels s (whole_none s (turn_stops s l.at c.loop-at-test.true σ so_far stops)))
 
 add_at : tie.Need-overflow_add-at invariant-loop-at decreases-loop-at
-add_at c = omega (arith, c.before.before.before.before.before.before.before.loop-at-test.true, c.before.before.before.before.before.before.before.before.before.before.before.well-formed)
+add_at c = omega (arith, c.loop-at-test.true, c.before.before.before.before.before.before.before.before.before.before.before.well-formed)
 
 loop-less : tie.Need-loop-at-smaller invariant-loop-at decreases-loop-at
-loop-less c = omega (arith, c.before.before.before.before.before.before.before.loop-at-test.true)
+loop-less c = omega (arith, c.loop-at-test.true)
 
 loop-again : tie.Need-loop-at-preserved invariant-loop-at decreases-loop-at
 loop-again c =
-    let l = c.before.before.before.before.before.before.before.before.loop-at in
-    let s = c.before.before.before.before.before.before.before.before.before.before.before.args.text.now in
+    let l = c.loop-at in
+    let s = c.args.text.now in
     let (σ, S, few, so_far) = l.invariant.2 in
-    let inside = c.before.before.before.before.before.before.before.loop-at-test.true in
-    let (τ, e, T) = subst (Stepped constant_levels _ _ σ) c.before.next-1.given.1 (c.before.before.before.before.take_sign.ensures σ S (omega (arith, l.invariant.0, few, inside, c.before.before.before.before.before.before.before.before.before.if-text-gt-LONGEST_TEXT.false))) in
+    let inside = c.loop-at-test.true in
+    let (τ, e, T) = subst (Stepped constant_levels _ _ σ) c.next-1.given.1 (c.take_sign.ensures σ S (omega (arith, l.invariant.0, few, inside, c.if-text-gt-LONGEST_TEXT.false))) in
     let turn = turn_goes s l.at inside σ so_far τ e few in
-    (c.before.before.before.before.take_sign.auto.0 ∙ l.invariant.0, omega arith, (τ, T, turn.0, turn.1))
+    (c.take_sign.auto.0 ∙ l.invariant.0, omega arith, (τ, T, turn.0, turn.1))
 
 array-read-from-stack : tie.Need-bounds-items-0 invariant-loop-at decreases-loop-at
 array-read-from-stack c = search rules
@@ -74,10 +74,10 @@ from-stack-requires c κs = tt
 
 returns-3 : tie.Need-returns invariant-loop-at decreases-loop-at
 returns-3 c =
-    let l = c.before.before.loop-at in
-    let s = c.before.before.before.before.before.args.text.now in
+    let l = c.loop-at in
+    let s = c.args.text.now in
     let (σ, S, few, so_far) = l.invariant.2 in
-    c.from_stack.ensures l.items-1 σ s S refl (all_read s l.at σ c.before.loop-at-test.false so_far) c.before.before.before.if-text-gt-LONGEST_TEXT.false
+    c.from_stack.ensures l.items σ s S refl (all_read s l.at σ c.loop-at-test.false so_far) c.if-text-gt-LONGEST_TEXT.false
 
 pub from_text_spec : {M : Type 1} → statement M
 from_text_spec =

@@ -10,10 +10,10 @@ use Rattle.constants.proofs.from_told.Statement.{statement}
 use Rattle.constants.proofs.from_told.Tie as tie
 
 returns : tie.Need-returns-then-told-gt-LEVELS
-returns c t o = sym (tree_tall constant_levels t ((folded_iff t).0 (of_true (sym o.folded ∙ c.before.before.if-told.true))) (omega (arith, o.height, c.if-told-gt-LEVELS.true)))
+returns c t o = sym (tree_tall constant_levels t ((folded_iff t).0 (of_true (sym o.folded ∙ c.if-told.true))) (omega (arith, o.height, c.if-told-gt-LEVELS.true)))
 
 returns-2 : tie.Need-returns-then-told
-returns-2 c t o = sym (tree_constant constant_levels t ((folded_iff t).0 (of_true (sym o.folded ∙ c.before.before.if-told.true))) (omega (arith, o.height, c.if-told-gt-LEVELS.false)) ∙ ap Constant (sym o.leaves))
+returns-2 c t o = sym (tree_constant constant_levels t ((folded_iff t).0 (of_true (sym o.folded ∙ c.if-told.true))) (omega (arith, o.height, c.if-told-gt-LEVELS.false)) ∙ ap Constant (sym o.leaves))
 
 returns-3 : tie.Need-returns
 returns-3 c t o = sym (tree_not_folded constant_levels t (λ f. rw (← o.folded, c.if-told.false) at ((folded_iff t).1 f)))

@@ -20,7 +20,7 @@ shared-slice-read-if2 c = search rules
 
 returns-2 : tie.Need-returns-then-items-top-eq0
 unfolding is_pair
-returns-2 c = rw (le-ltb _ 3 c.before.before.if-top-lt3.false, eq-eqb _ 0 c.if-items-top-eq0.true)
+returns-2 c = rw (le-ltb _ 3 c.if-top-lt3.false, eq-eqb _ 0 c.if-items-top-eq0.true)
 
 sub-if3 : tie.Need-overflow_sub-top-2
 sub-if3 c = search rules
@@ -33,7 +33,7 @@ shared-slice-read-if3 c = search rules
 
 returns-3 : tie.Need-returns-then-items-top-eq0-2
 unfolding is_pair
-returns-3 c = rw (le-ltb _ 3 c.before.before.before.before.if-top-lt3.false, ne_eqb _ 0 c.before.before.if-items-top-eq0.false, eq-eqb _ 0 c.if-items-top-eq0-2.true)
+returns-3 c = rw (le-ltb _ 3 c.if-top-lt3.false, ne_eqb _ 0 c.if-items-top-eq0.false, eq-eqb _ 0 c.if-items-top-eq0-2.true)
 
 mul-result : tie.Need-offset_bounds-items-top-3
 mul-result c = search rules
@@ -43,7 +43,7 @@ shared-slice-read-result c = search rules
 
 returns-4 : tie.Need-returns
 unfolding is_pair
-returns-4 c = rw (le-ltb _ 3 c.before.before.before.before.before.if-top-lt3.false, ne_eqb _ 0 c.before.before.before.if-items-top-eq0.false, ne_eqb _ 0 c.before.if-items-top-eq0-2.false)
+returns-4 c = rw (le-ltb _ 3 c.if-top-lt3.false, ne_eqb _ 0 c.if-items-top-eq0.false, ne_eqb _ 0 c.if-items-top-eq0-2.false)
 
 pub is_pair_spec : {M : Type 1} → statement M
 is_pair_spec =

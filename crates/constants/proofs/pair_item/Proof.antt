@@ -20,7 +20,7 @@ add_result c = omega (arith, c.pair_leaves.ensures.1)
 
 returns : tie.Need-returns
 unfolding pair_item
-returns c = rw (c.pair_leaves.ensures.0, c.before.leaves_of-2.ensures.0, c.before.before.leaves_of.ensures.0) refl
+returns c = rw (c.pair_leaves.ensures.0, c.leaves_of-2.ensures.0, c.leaves_of.ensures.0) refl
 
 pub pair_item_spec : {M : Type 1} → statement M
 pair_item_spec =

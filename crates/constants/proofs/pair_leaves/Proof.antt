@@ -19,16 +19,16 @@ full-leaves-requires : tie.Need-full_leaves-requires
 full-leaves-requires c κs = search rules
 
 add_result : tie.Need-overflow_add-result
-add_result c = omega (arith, scale_room _ _ c.full_leaves.ensures c.before.if-levels-eq0.false constant_levels c.before.before.requires.0)
+add_result c = omega (arith, scale_room _ _ c.full_leaves.ensures c.if-levels-eq0.false constant_levels c.requires.0)
 
 add_result_2 : tie.Need-overflow_add-result-2
-add_result_2 c = omega (arith, pair_room _ _ c.full_leaves.ensures c.before.if-levels-eq0.false c.before.before.args.left c.before.before.args.right constant_levels c.before.before.requires.0 c.before.before.requires.1.0 c.before.before.requires.1.1)
+add_result_2 c = omega (arith, pair_room _ _ c.full_leaves.ensures c.if-levels-eq0.false c.args.left c.args.right constant_levels c.requires.0 c.requires.1.0 c.requires.1.1)
 
 mul-result : tie.Need-overflow_mul-result
 mul-result c = omega (arith, add_result_2 c)
 
 returns-2 : tie.Need-returns
-returns-2 c = (pair_number_lem _ _ c.full_leaves.ensures c.before.if-levels-eq0.false c.before.before.args.left c.before.before.args.right, pair_room _ _ c.full_leaves.ensures c.before.if-levels-eq0.false c.before.before.args.left c.before.before.args.right constant_levels c.before.before.requires.0 c.before.before.requires.1.0 c.before.before.requires.1.1)
+returns-2 c = (pair_number_lem _ _ c.full_leaves.ensures c.if-levels-eq0.false c.args.left c.args.right, pair_room _ _ c.full_leaves.ensures c.if-levels-eq0.false c.args.left c.args.right constant_levels c.requires.0 c.requires.1.0 c.requires.1.1)
 
 pub pair_leaves_spec : {M : Type 1} → statement M
 pair_leaves_spec =

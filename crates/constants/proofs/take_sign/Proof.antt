@@ -10,22 +10,22 @@ use Rattle.constants.proofs.take_sign.Statement.{statement}
 use Rattle.constants.proofs.take_sign.Tie as tie
 
 open-pair-requires : tie.Need-open_pair-requires
-open-pair-requires c κs = (omega (arith, c.before.before.before.requires.1.top, c.before.before.before.requires.2), omega (arith, c.before.before.before.requires.1.top, c.before.before.before.requires.1.pairs, brackets_few c.before.before.before.requires.0))
+open-pair-requires c κs = (omega (arith, c.requires.1.top, c.requires.2), omega (arith, c.requires.1.top, c.requires.1.pairs, brackets_few c.requires.0))
 
 same_length : tie.Need-shape_of-items-then-sign-eq40
-same_length c = c.before.before.open_pair.auto.0
+same_length c = c.open_pair.auto.0
 
 returns : tie.Need-returns-then-sign-eq40
-returns c σ S room = steps_same constant_levels _ σ _ _ c.before.before.open_pair.ensures.1 c.before.before.open_pair.ensures.0 (steps_open constant_levels c.before.before.before.before.before.before.args.items-1.now _ σ S room _ c.before.before.before.before.if-sign-eq40.true)
+returns c σ S room = steps_same constant_levels _ σ _ _ c.open_pair.ensures.1 c.open_pair.ensures.0 (steps_open constant_levels c.args.items.now _ σ S room _ c.if-sign-eq40.true)
 
 put-leaf-requires : tie.Need-put_leaf-requires
-put-leaf-requires c κs = (omega (arith, c.before.before.before.before.requires.1.top, c.before.before.before.before.requires.2), omega arith)
+put-leaf-requires c κs = (omega (arith, c.requires.1.top, c.requires.2), omega arith)
 
 same-length-2 : tie.Need-shape_of-items-then-sign-eq111
-same-length-2 c = c.before.before.put_leaf.auto.0
+same-length-2 c = c.put_leaf.auto.0
 
 returns-2 : tie.Need-returns-then-sign-eq111
-returns-2 c σ S room = steps_same constant_levels _ σ _ _ c.before.before.put_leaf.ensures.1 c.before.before.put_leaf.ensures.0 (steps_leaf constant_levels c.before.before.before.before.before.before.before.args.items-1.now _ σ S room _ false 0 c.before.before.before.before.if-sign-eq111.true refl)
+returns-2 c σ S room = steps_same constant_levels _ σ _ _ c.put_leaf.ensures.1 c.put_leaf.ensures.0 (steps_leaf constant_levels c.args.items.now _ σ S room _ false 0 c.if-sign-eq111.true refl)
 
 levels-below-requires : tie.Need-levels_below-requires
 levels-below-requires c κs = tt
@@ -34,27 +34,27 @@ full-leaves-requires : tie.Need-full_leaves-requires
 full-leaves-requires c κs = omega (arith, c.levels_below.ensures)
 
 put-leaf-requires-2 : tie.Need-put_leaf-requires-then-sign-eq42
-put-leaf-requires-2 c κs = (omega (arith, c.before.before.before.before.before.before.before.requires.1.top, c.before.before.before.before.before.before.before.requires.2), rw c.full_leaves.ensures (ones_room _ constant_levels (omega (arith, c.before.levels_below.ensures))))
+put-leaf-requires-2 c κs = (omega (arith, c.requires.1.top, c.requires.2), rw c.full_leaves.ensures (ones_room _ constant_levels (omega (arith, c.levels_below.ensures))))
 
 same-length-3 : tie.Need-shape_of-items-then-sign-eq42
-same-length-3 c = c.before.before.put_leaf-then-sign-eq42.auto.0
+same-length-3 c = c.put_leaf-then-sign-eq42.auto.0
 
 returns-3 : tie.Need-returns-then-sign-eq42
 returns-3 c σ S room =
-    steps_same constant_levels _ σ _ _ c.before.before.put_leaf-then-sign-eq42.ensures.1 c.before.before.put_leaf-then-sign-eq42.ensures.0
-    (steps_leaf constant_levels c.before.before.before.before.before.before.before.before.before.before.args.items-1.now _ σ S room _ true _ c.before.before.before.before.before.before.if-sign-eq42.true (c.before.before.before.full_leaves.ensures ∙ ap (λ k. 2 ^ (2 ^ k) - 1) c.before.before.before.before.levels_below.ensures))
+    steps_same constant_levels _ σ _ _ c.put_leaf-then-sign-eq42.ensures.1 c.put_leaf-then-sign-eq42.ensures.0
+    (steps_leaf constant_levels c.args.items.now _ σ S room _ true _ c.if-sign-eq42.true (c.full_leaves.ensures ∙ ap (λ k. 2 ^ (2 ^ k) - 1) c.levels_below.ensures))
 
 close-pair-requires : tie.Need-close_pair-requires
-close-pair-requires c κs = (c.before.before.before.before.before.before.requires.0, c.before.before.before.before.before.before.requires.1, omega (arith, c.before.before.before.before.before.before.requires.2))
+close-pair-requires c κs = (c.requires.0, c.requires.1, omega (arith, c.requires.2))
 
 same-length-4 : tie.Need-shape_of-items-then-sign-eq41
-same-length-4 c = c.before.before.close_pair.auto.0
+same-length-4 c = c.close_pair.auto.0
 
 returns-4 : tie.Need-returns-then-sign-eq41
-returns-4 c σ S room = rw c.before.before.before.before.if-sign-eq41.true (c.before.before.close_pair.ensures σ S (omega arith))
+returns-4 c σ S room = rw c.if-sign-eq41.true (c.close_pair.ensures σ S (omega arith))
 
 returns-5 : tie.Need-returns
-returns-5 c σ S room = onto_other _ σ c.before.before.before.if-sign-eq40.false c.before.before.if-sign-eq111.false c.before.if-sign-eq42.false c.if-sign-eq41.false
+returns-5 c σ S room = onto_other _ σ c.if-sign-eq40.false c.if-sign-eq111.false c.if-sign-eq42.false c.if-sign-eq41.false
 
 pub take_sign_spec : {M : Type 1} → statement M
 take_sign_spec =

@@ -19,16 +19,16 @@ decide-satisfiability-requires c κs = searchable c.before.before.before.before
 
 returns : tie.Need-returns-then-question-eq0
 returns c =
-    let s = c.before.before.before.before.before in
-    λ q St F. (rw (s.requires.1, s.requires.2) at c.decide_satisfiability.ensures) _ q St (kind_satisfiability _ q St c.before.before.before.if-question-eq0.true) (height_is _ q St)
+    let s = c in
+    λ q St F. (rw (s.requires.1, s.requires.2) at c.decide_satisfiability.ensures) _ q St (kind_satisfiability _ q St c.if-question-eq0.true) (height_is _ q St)
 
 decide-entailment-requires : tie.Need-decide_entailment-requires
 decide-entailment-requires c κs = searchable c.before.before.before.before
 
 returns-2 : tie.Need-returns
 returns-2 c =
-    let s = c.before.before.before.before.before in
-    λ q St F. (rw (s.requires.1, s.requires.2) at c.decide_entailment.ensures) _ q St (kind_entailment _ q St c.before.before.before.if-question-eq0.false) (height_is _ q St)
+    let s = c in
+    λ q St F. (rw (s.requires.1, s.requires.2) at c.decide_entailment.ensures) _ q St (kind_entailment _ q St c.if-question-eq0.false) (height_is _ q St)
 
 pub decide_spec : {M : Type 1} → statement M
 decide_spec =

@@ -5,17 +5,17 @@ use Rattle.decide.proofs.decide_satisfiability.Statement.{statement}
 use Rattle.decide.proofs.decide_satisfiability.Tie as tie
 
 solve-requires : tie.Need-solve-requires
-solve-requires c κs = (c.before.before.requires.0, (tt, c.before.before.requires.1, c.before.before.requires.2, refl))
+solve-requires c κs = (c.requires.0, (tt, c.requires.1, c.requires.2, refl))
 
 returns : tie.Need-returns-then-solve
 returns c =
     λ k q St kind e.
-    decided_satisfied _ q St _ _ _ (rw e at c.before.solve.ensures) kind c.if-solve.true
+    decided_satisfied _ q St _ _ _ (rw e at c.solve.ensures) kind c.if-solve.true
 
 returns-2 : tie.Need-returns
 returns-2 c =
     λ k q St kind e.
-    decided_unsatisfied _ q St _ _ _ (rw e at c.before.solve.ensures) kind c.if-solve.false
+    decided_unsatisfied _ q St _ _ _ (rw e at c.solve.ensures) kind c.if-solve.false
 
 pub decide_satisfiability_spec : {M : Type 1} → statement M
 decide_satisfiability_spec =

@@ -14,7 +14,7 @@ is-shown-requires c κs = search rules
 
 returns : tie.Need-returns-then-not-is_shown
 returns c =
-    λ q S. sym (no_height q c.before.before.args.finding (sym c.before.is_shown.ensures ∙ flip _ c.if-not-is_shown.true))
+    λ q S. sym (no_height q c.args.finding (sym c.is_shown.ensures ∙ flip _ c.if-not-is_shown.true))
 
 search-of-requires : tie.Need-search_of-requires
 search-of-requires c κs = search rules
@@ -24,15 +24,15 @@ outline-requires c κs = search rules
 
 add_result : tie.Need-overflow_add-result
 add_result c =
-    let (q, S) = c.before.before.before.before.before.requires in
-    omega (arith, ap (λ o. o.height + o.splits) (c.before.outline-outline.ensures q S), heights_low _ q S c.before.before.search_of.result)
+    let (q, S) = c.requires in
+    omega (arith, ap (λ o. o.height + o.splits) (c.outline-outline.ensures q S), heights_low _ q S c.search_of.result)
 
 returns-2 : tie.Need-returns
 returns-2 c =
     λ q S.
-    ap (λ o. o.height + o.splits) (c.before.outline-outline.ensures q S)
-    ∙ ap (λ s. (outline_of q s).height + (outline_of q s).splits) c.before.before.search_of.ensures
-    ∙ shown_height q c.before.before.before.before.before.args.finding (sym c.before.before.before.before.is_shown.ensures ∙ flip _ c.before.before.before.if-not-is_shown.false)
+    ap (λ o. o.height + o.splits) (c.outline-outline.ensures q S)
+    ∙ ap (λ s. (outline_of q s).height + (outline_of q s).splits) c.search_of.ensures
+    ∙ shown_height q c.args.finding (sym c.is_shown.ensures ∙ flip _ c.if-not-is_shown.false)
 
 pub height_given_spec : {M : Type 1} → statement M
 height_given_spec =

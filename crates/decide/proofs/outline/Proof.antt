@@ -10,11 +10,11 @@ element-copy-out-room-of : tie.Need-bounds-sizes-1
 element-copy-out-room-of c = search rules
 
 room-of-requires : tie.Need-room_of-requires
-room-of-requires c κs = let (q, S) = c.before.requires in count_sized _ q S
+room-of-requires c κs = let (q, S) = c.requires in count_sized _ q S
 
 splits-requires : tie.Need-splits-requires
 splits-requires c κs =
-    let start = c.before.before in
+    let start = c in
     let (q, S) = start.requires in
     omega (arith, c.room_of.ensures, room_most start.args.search (get_or start.args.t1.counts 1 0), count_sized _ q S)
 
@@ -27,7 +27,7 @@ element-copy-out-t14 c = search rules
 returns : tie.Need-returns
 returns c =
     λ q S.
-    outline_sized _ q S c.before.before.before.before.before.args.search _ _ _ c.before.before.before.room_of.ensures c.before.before.splits.ensures c.before.extra_of.ensures
+    outline_sized _ q S c.args.search _ _ _ c.room_of.ensures c.splits.ensures c.extra_of.ensures
 
 pub outline_spec : {M : Type 1} → statement M
 outline_spec =

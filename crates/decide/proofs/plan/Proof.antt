@@ -12,21 +12,21 @@ search-of-requires c κs = search rules
 
 outline-requires : tie.Need-outline-requires
 outline-requires c κs =
-    let (q, D) = c.before.requires.0 in
+    let (q, D) = c.requires.0 in
     (q, D.sizing)
 
 plan-of-requires : tie.Need-plan_of-requires
 plan-of-requires c κs =
-    let start = c.before.before in
+    let start = c in
     let (q, D) = start.requires.0 in
-    rw (c.outline.ensures q D.sizing ∙ ap (outline_of q) c.before.search_of.ensures)
+    rw (c.outline.ensures q D.sizing ∙ ap (outline_of q) c.search_of.ensures)
     (decided_fits _ q D.sizing.standing.stands (lit≤ tt) _ _ _ D.decided start.requires.1)
 
 returns : tie.Need-returns
 returns c =
     λ q D.
-    let e = c.before.outline.ensures q D.sizing ∙ ap (outline_of q) c.before.before.search_of.ensures in
-    decided_planned _ q D.sizing.standing.stands (lit≤ tt) _ _ _ D.decided c.before.before.before.requires.1 _
+    let e = c.outline.ensures q D.sizing ∙ ap (outline_of q) c.search_of.ensures in
+    decided_planned _ q D.sizing.standing.stands (lit≤ tt) _ _ _ D.decided c.requires.1 _
     (rw e at c.plan_of.ensures)
 
 pub plan_spec : {M : Type 1} → statement M

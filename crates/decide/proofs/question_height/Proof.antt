@@ -23,13 +23,13 @@ abbrev decreases-loop-rest : tie.decreases-loop-rest
 decreases-loop-rest constants named leaves₀ rest₀ leaves rest = rest
 
 -- the lowest bit that is left
-here : (c : tie.After-lowest-i invariant-loop-rest decreases-loop-rest) → (c.lowest-i.result < 32) × T (bit c.before.before.loop-rest.rest c.lowest-i.result)
-here c = lowest_below 32 _ _ (omega arith) (omega (arith, c.before.before.loop-rest.invariant.0, c.before.before.before.requires.0)) c.before.loop-rest-test.true c.lowest-i.ensures
+here : (c : tie.After-lowest-i invariant-loop-rest decreases-loop-rest) → (c.lowest-i.result < 32) × T (bit c.loop-rest.rest c.lowest-i.result)
+here c = lowest_below 32 _ _ (omega arith) (omega (arith, c.loop-rest.invariant.0, c.requires.0)) c.loop-rest-test.true c.lowest-i.ensures
 
 -- what is left without it
 out : (c : tie.After-without_lowest-rest invariant-loop-rest decreases-loop-rest) (k : ℕ)
-    → bit c.without_lowest-rest.result k ≡ (bit c.before.before.before.before.before.loop-rest.rest k && not (eqb k c.before.before.before.lowest-i.result))
-out c k = rw c.before.before.before.lowest-i.ensures (c.without_lowest-rest.ensures.1 k)
+    → bit c.without_lowest-rest.result k ≡ (bit c.loop-rest.rest k && not (eqb k c.lowest-i.result))
+out c k = rw c.lowest-i.ensures (c.without_lowest-rest.ensures.1 k)
 
 loop-holds : tie.Need-loop-rest-init invariant-loop-rest decreases-loop-rest
 loop-holds c = (le_refl _, λ k t. t, rw (raised_none constant_levels constant_levels) (found_none _ _ _))
@@ -42,28 +42,28 @@ number-of-requires c κs = (here c).0
 
 cast-unlike : tie.Need-overflow_cast-x invariant-loop-rest decreases-loop-rest
 cast-unlike c =
-    let l = c.before.before.before.loop-rest in
-    omega (arith, c.number_of-x.ensures, c.before.before.before.before.requires.1 c.before.lowest-i.result (l.invariant.1 _ (here c.before).1))
+    let l = c.loop-rest in
+    omega (arith, c.number_of-x.ensures, c.requires.1 c.lowest-i.result (l.invariant.1 _ (here c.before).1))
 
 unlike-requires : tie.Need-unlike-leaves-requires invariant-loop-rest decreases-loop-rest
 unlike-requires c κs = search rules
 
 without-lowest-requires : tie.Need-without_lowest-rest-requires invariant-loop-rest decreases-loop-rest
-without-lowest-requires c κs = nonzero _ c.before.before.before.loop-rest-test.true
+without-lowest-requires c κs = nonzero _ c.loop-rest-test.true
 
 loop-less : tie.Need-loop-rest-smaller invariant-loop-rest decreases-loop-rest
 loop-less c = without_less _ _ _ c.without_lowest-rest.ensures.0 (out c) (here c.before.before.before).1
 
 loop-again : tie.Need-loop-rest-preserved invariant-loop-rest decreases-loop-rest
 loop-again c =
-    let l = c.before.before.before.before.before.loop-rest in
-    let s = c.before.before.before.before.before.before in
-    let i = c.before.before.before.lowest-i.result in
+    let l = c.loop-rest in
+    let s = c in
+    let i = c.lowest-i.result in
     let low = (here c.before.before.before).1 in
     let higher =
-    raised_or constant_levels constant_levels l.leaves c.before.unlike-leaves.result
+    raised_or constant_levels constant_levels l.leaves c.unlike-leaves.result
     ∙ ap (max (raised constant_levels constant_levels l.leaves))
-    (ap (raised constant_levels constant_levels) (c.before.unlike-leaves.ensures ∙ ap unlike c.before.before.number_of-x.ensures) ∙ unlike_height constant_levels _) in (
+    (ap (raised constant_levels constant_levels) (c.unlike-leaves.ensures ∙ ap unlike c.number_of-x.ensures) ∙ unlike_height constant_levels _) in (
       omega (arith, c.without_lowest-rest.ensures.0, l.invariant.0),
       λ k t. l.invariant.1 k (and_left (bit l.rest k) _ (subst T (out c k) t)),
       rw higher (found_more constant_levels s.args.constants.now s.args.named l.rest _ _ i (l.invariant.1 i low) (out c) l.invariant.2),
@@ -77,10 +77,10 @@ cast-result c = search rules
 
 returns : tie.Need-returns invariant-loop-rest decreases-loop-rest
 returns c =
-    let l = c.before.before.loop-rest in
-    let s = c.before.before.before in
+    let l = c.loop-rest in
+    let s = c in
     c.unlike_height.ensures
-    ∙ found_all constant_levels s.args.constants.now s.args.named _ (λ i t. set_below 32 s.args.named i s.requires.0 t) (rw c.before.loop-rest-test.false at l.invariant.2)
+    ∙ found_all constant_levels s.args.constants.now s.args.named _ (λ i t. set_below 32 s.args.named i s.requires.0 t) (rw c.loop-rest-test.false at l.invariant.2)
 
 pub question_height_spec : {M : Type 1} → statement M
 question_height_spec =

@@ -9,7 +9,7 @@ question-height-requires c κs =
     rw c.requires.0 (named_lt _ q S.stands, λ i t. S.stands.small i (bit_defined _ q S.stands i t))
 
 returns : tie.Need-returns
-returns c = rw (c.before.question_height-height.ensures, c.before.before.requires.0)
+returns c = rw (c.question_height-height.ensures, c.requires.0)
 
 pub sizes_of_spec : {M : Type 1} → statement M
 sizes_of_spec = tie.close (tie.spec question-height-requires returns)

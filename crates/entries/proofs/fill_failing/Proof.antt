@@ -21,7 +21,7 @@ abbrev decreases-loop-i : tie.decreases-loop-i
 decreases-loop-i terms clauses count x rows₀ any₀ i₀ rows any i = count - i
 
 loop-holds : tie.Need-loop-i-init invariant-loop-i decreases-loop-i
-loop-holds c = (omega arith, c.before.requires.0.1, λ j l. absurd (omega arith), λ k h. refl, λ j l. absurd (omega arith))
+loop-holds c = (omega arith, c.requires.0.1, λ j l. absurd (omega arith), λ k h. refl, λ j l. absurd (omega arith))
 
 mul-failing-word : tie.Need-overflow_mul-i invariant-loop-i decreases-loop-i
 mul-failing-word c = omega arith
@@ -30,7 +30,7 @@ add-failing-word : tie.Need-overflow_add-i invariant-loop-i decreases-loop-i
 add-failing-word c = omega arith
 
 failing-word-requires : tie.Need-failing_word-y-requires invariant-loop-i decreases-loop-i
-failing-word-requires c κs = clauses_at c.before.before.before.requires.1 c.before.loop-i.i c.loop-i-test.true
+failing-word-requires c κs = clauses_at c.requires.1 c.loop-i.i c.loop-i-test.true
 
 add-rows : tie.Need-overflow_add-rows invariant-loop-i decreases-loop-i
 add-rows c = omega arith
@@ -49,8 +49,8 @@ loop-less c = omega arith
 
 loop-again : tie.Need-loop-i-preserved invariant-loop-i decreases-loop-i
 loop-again c =
-    let l = c.before.before.loop-i in
-    let a = c.before.before.before.before.args in
+    let l = c.loop-i in
+    let a = c.args in
     let room : 32 + l.i < length l.rows = omega arith in (
       omega arith,
       simp length-set l.invariant.1,
@@ -64,7 +64,7 @@ same_length c = omega arith
 
 returns : tie.Need-returns invariant-loop-i decreases-loop-i
 returns c =
-    let l = c.before.loop-i in
+    let l = c.loop-i in
     (λ i m. l.invariant.2 i (omega arith), (λ k h. l.invariant.3 k (λ q. omega (arith, h q)), λ i m. l.invariant.4 i (omega arith)))
 
 pub fill_failing_spec : {M : Type 1} → statement M

@@ -20,7 +20,7 @@ same_length : tie.Need-shape_of-firsts
 same_length c = search rules
 
 returns : tie.Need-returns
-returns c = kept_as _ _ _ _ _ _ _ _ (λ k l. c.before.before.before.before.failing_word-y.ensures k l) c.before.before.keep_word.ensures
+returns c = kept_as _ _ _ _ _ _ _ _ (λ k l. c.failing_word-y.ensures k l) c.keep_word.ensures
 
 pub keep_one_spec : {M : Type 1} → statement M
 keep_one_spec =

@@ -15,8 +15,8 @@ digit-requires c κs = search rules
 
 returns : tie.Need-returns-then-digit
 returns c =
-    let a = c.before.before.before.args in
-    kept_before a.e a.turn _ a.met a.firsts.now (sym c.before.digit.ensures ∙ c.if-digit.true)
+    let a = c.args in
+    kept_before a.e a.turn _ a.met a.firsts.now (sym c.digit.ensures ∙ c.if-digit.true)
 
 returns-2 : tie.Need-returns-then-y-eq0
 returns-2 c = kept_none _ _ _ _ _ (λ i l. ap (λ y. bit y i) c.if-y-eq0.true ∙ bit_zero i)
@@ -50,9 +50,9 @@ same_length c = search rules
 
 returns-3 : tie.Need-returns
 returns-3 c =
-    let a = c.before.before.before.before.args in
+    let a = c.args in
     rw (power_shift a.e (omega arith))
-    (kept_found a.e a.turn a.y a.met a.firsts.now (omega arith) (search rules) c.if-y-eq0.false (sym c.before.before.digit.ensures ∙ c.before.if-digit.false))
+    (kept_found a.e a.turn a.y a.met a.firsts.now (omega arith) (search rules) c.if-y-eq0.false (sym c.digit.ensures ∙ c.if-digit.false))
 
 pub keep_word_spec : {M : Type 1} → statement M
 keep_word_spec =

@@ -14,10 +14,10 @@ shl-result : tie.Need-overflow_shl-result
 shl-result c = search rules
 
 returns : tie.Need-returns-then-have_common
-returns c = rw (power_shift c.before.before.args.i (omega arith)) (bit_added _ _ _ (sym c.before.have_common.ensures ∙ c.if-have_common.true))
+returns c = rw (power_shift c.args.i (omega arith)) (bit_added _ _ _ (sym c.have_common.ensures ∙ c.if-have_common.true))
 
 returns-2 : tie.Need-returns
-returns-2 c = bit_not_added _ _ _ (sym c.before.have_common.ensures ∙ c.if-have_common.false)
+returns-2 c = bit_not_added _ _ _ (sym c.have_common.ensures ∙ c.if-have_common.false)
 
 pub mark_bit_spec : {M : Type 1} → statement M
 mark_bit_spec = tie.close (tie.spec have-common-requires shl-result returns returns-2)

@@ -26,16 +26,16 @@ mark-row-requires : tie.Need-mark_row-requires
 mark-row-requires c κs = search rules
 
 returns : tie.Need-returns-then-have_common
-returns c i l = rw c.before.before.before.before.word_of-mark.ensures at (c.mark_row.ensures i l)
+returns c i l = rw c.word_of-mark.ensures at (c.mark_row.ensures i l)
 
 returns-2 : tie.Need-returns
 returns-2 c i l =
-    let s = c.before.before.before.before.before in
+    let s = c in
     let a = s.args in
     let rows = a.rows.now in
     let apart : common a.any (get_or rows a.j 0) ≡ false =
-    sym (c.before.have_common.ensures ∙ ap (common a.any) c.before.before.word_of.ensures) ∙ c.if-have_common.false in
-    ap (λ x. bit x i) c.before.before.before.word_of-mark.ensures
+    sym (c.have_common.ensures ∙ ap (common a.any) c.word_of.ensures) ∙ c.if-have_common.false in
+    ap (λ x. bit x i) c.word_of-mark.ensures
     ∙ sym (ap (λ b. bit (get_or rows (64 + a.j) 0) i || b) (common_none a.count a.any a.j rows s.requires.3 apart i l) ∙ or-false _)
 
 pub mark_of_spec : {M : Type 1} → statement M

@@ -14,10 +14,10 @@ same_length : tie.Need-shape_of-rows-then-word_of-eq0
 same_length c = search rules
 
 returns : tie.Need-returns-then-word_of-eq0
-returns c = marked_none _ _ _ _ _ c.before.before.before.before.requires.3 (sym c.before.word_of.ensures ∙ c.if-word_of-eq0.true)
+returns c = marked_none _ _ _ _ _ c.requires.3 (sym c.word_of.ensures ∙ c.if-word_of-eq0.true)
 
 mark-of-requires : tie.Need-mark_of-mark-requires
-mark-of-requires c κs = let s = c.before.before.before.before.before in (s.requires.0, s.requires.1, s.requires.2, s.requires.4)
+mark-of-requires c κs = let s = c in (s.requires.0, s.requires.1, s.requires.2, s.requires.4)
 
 add-rows : tie.Need-overflow_add-rows
 add-rows c = search rules
@@ -39,13 +39,13 @@ same-length-2 c = search rules
 
 returns-2 : tie.Need-returns
 returns-2 c =
-    let s = c.before.before.before.before.before.before.before.before in
+    let s = c in
     let a = s.args in
-    let w = c.before.before.before.before.before.word_of in
-    let m = c.before.before.mark_of-mark in
+    let w = c.word_of in
+    let m = c.mark_of-mark in
     rw (power_shift a.j (omega (arith, s.requires.0)))
     (marked_more a.j a.count a.marks.wanted a.marks.here a.rows.now m.result c.still_wanted.result s.requires.3 (omega (arith, s.requires.0, s.requires.2))
-    (rw w.ensures at w.type-inv) (λ e. c.before.before.before.before.if-word_of-eq0.false (w.ensures ∙ e))
+    (rw w.ensures at w.type_inv) (λ e. c.if-word_of-eq0.false (w.ensures ∙ e))
     m.ensures c.still_wanted.ensures)
 
 pub mark_one_spec : {M : Type 1} → statement M

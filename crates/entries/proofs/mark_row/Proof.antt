@@ -23,19 +23,19 @@ abbrev decreases-loop-rest : tie.decreases-loop-rest
 decreases-loop-rest rows j count mark left r₀ rest₀ r rest = rest
 
 -- the lowest bit that is left
-here : (c : tie.After-lowest-i invariant-loop-rest decreases-loop-rest) → (c.lowest-i.result < 32) × T (bit c.before.before.loop-rest.rest c.lowest-i.result)
-here c = lowest_below 32 _ _ (omega arith) c.before.before.loop-rest.invariant.0 c.before.loop-rest-test.true c.lowest-i.ensures
+here : (c : tie.After-lowest-i invariant-loop-rest decreases-loop-rest) → (c.lowest-i.result < 32) × T (bit c.loop-rest.rest c.lowest-i.result)
+here c = lowest_below 32 _ _ (omega arith) c.loop-rest.invariant.0 c.loop-rest-test.true c.lowest-i.ensures
 
 -- what is left without it
 out : (c : tie.After-without_lowest-rest invariant-loop-rest decreases-loop-rest) (k : ℕ)
-    → bit c.without_lowest-rest.result k ≡ (bit c.before.before.before.before.before.loop-rest.rest k && not (eqb k c.before.before.before.lowest-i.result))
-out c k = rw c.before.before.before.lowest-i.ensures (c.without_lowest-rest.ensures.1 k)
+    → bit c.without_lowest-rest.result k ≡ (bit c.loop-rest.rest k && not (eqb k c.lowest-i.result))
+out c k = rw c.lowest-i.ensures (c.without_lowest-rest.ensures.1 k)
 
 word-of-requires : tie.Need-word_of-left-requires invariant-loop-rest decreases-loop-rest
 word-of-requires c κs = omega arith
 
 first-bits-requires : tie.Need-first_bits-rest-requires invariant-loop-rest decreases-loop-rest
-first-bits-requires c κs = omega (arith, c.before.before.requires.1)
+first-bits-requires c κs = omega (arith, c.requires.1)
 
 -- those that are not set yet are left
 rest_of : (m p : Bool) → (m || (not m && p)) ≡ (m || p)
@@ -44,7 +44,7 @@ rest_of false p = refl
 
 loop-holds : tie.Need-loop-rest-init invariant-loop-rest decreases-loop-rest
 loop-holds c =
-    let s = c.before.before.before in
+    let s = c in
     let a = s.args in
     let F = c.first_bits-rest.ensures in (
       F.0,
@@ -62,26 +62,26 @@ add-word-of : tie.Need-overflow_add-i invariant-loop-rest decreases-loop-rest
 add-word-of c = omega (arith, (here c).0)
 
 word-of-requires-2 : tie.Need-word_of-requires invariant-loop-rest decreases-loop-rest
-word-of-requires-2 c κs = omega (arith, (here c).0, c.before.before.before.before.before.before.requires.2)
+word-of-requires-2 c κs = omega (arith, (here c).0, c.requires.2)
 
 mark-bit-requires : tie.Need-mark_bit-r-requires invariant-loop-rest decreases-loop-rest
 mark-bit-requires c κs = omega (arith, (here c.before).0)
 
 without-lowest-requires : tie.Need-without_lowest-rest-requires invariant-loop-rest decreases-loop-rest
-without-lowest-requires c κs = nonzero _ c.before.before.before.loop-rest-test.true
+without-lowest-requires c κs = nonzero _ c.loop-rest-test.true
 
 loop-less : tie.Need-loop-rest-smaller invariant-loop-rest decreases-loop-rest
 loop-less c = without_less _ _ _ c.without_lowest-rest.ensures.0 (out c) (here c.before.before.before).1
 
 loop-again : tie.Need-loop-rest-preserved invariant-loop-rest decreases-loop-rest
 loop-again c =
-    let l = c.before.before.before.before.before.loop-rest in
-    let a = c.before.before.before.before.before.before.before.before.before.args in
-    let i = c.before.before.before.lowest-i.result in
+    let l = c.loop-rest in
+    let a = c.args in
+    let i = c.lowest-i.result in
     let low = here c.before.before.before in
     let p : ℕ → Bool = λ k. common (get_or a.rows.now (32 + k) 0) (get_or a.rows.now a.j 0) in
-    let step : (k : ℕ) → bit c.before.mark_bit-r.result k ≡ (bit l.r k || (eqb k i && p i)) =
-    λ k. rw (c.before.before.word_of.ensures, c.before.before.before.before.before.before.before.word_of-left.ensures) at (c.before.mark_bit-r.ensures k) in (
+    let step : (k : ℕ) → bit c.mark_bit-r.result k ≡ (bit l.r k || (eqb k i && p i)) =
+    λ k. rw (c.word_of.ensures, c.word_of-left.ensures) at (c.mark_bit-r.ensures k) in (
       omega (arith, c.without_lowest-rest.ensures.0, l.invariant.0),
       λ k t. l.invariant.1 k (and_left (bit l.rest k) _ (subst T (out c k) t)),
       λ k m. ap₂ (λ y z. y || (z && p k)) (step k) (out c k) ∙ moved_over (bit l.r) (bit l.rest) p i low.1 k ∙ l.invariant.2 k m,
@@ -89,8 +89,8 @@ loop-again c =
 
 returns : tie.Need-returns invariant-loop-rest decreases-loop-rest
 returns c i m =
-    let l = c.before.loop-rest in
-    let a = c.before.before.before.before.before.args in
+    let l = c.loop-rest in
+    let a = c.args in
     sym (or-false (bit l.r i)) ∙ ap (λ b. bit l.r i || (b && common (get_or a.rows.now (32 + i) 0) (get_or a.rows.now a.j 0))) (sym (ap (λ x. bit x i) c.loop-rest-test.false ∙ bit_zero i)) ∙ l.invariant.2 i m
 
 pub mark_row_spec : {M : Type 1} → statement M

@@ -15,7 +15,7 @@ first-bits-requires c κs = search rules
 
 returns : tie.Need-returns-then-first_bits-ne0
 returns c =
-    let a = c.before.before.args in
+    let a = c.args in
     record { settled = λ t z. absurd (T_not (bit a.wanted a.j) (of_false z) t); wanted_kept = λ k l n. refl }
 
 shl-result : tie.Need-overflow_shl-result
@@ -23,8 +23,8 @@ shl-result c = search rules
 
 returns-2 : tie.Need-returns
 returns-2 c =
-    let s = c.before.before in
-    let F = c.before.first_bits in
+    let s = c in
+    let F = c.first_bits in
     record {
       settled = λ t z. all_set s.args.mark s.args.count F.result s.ranges.mark.fits s.requires.1 F.ensures.1 c.if-first_bits-ne0.false;
       wanted_kept = λ k l n. other_bits s.args.wanted s.args.j k (omega (arith, s.requires.0)) l n;

@@ -30,52 +30,52 @@ slice-aggregate-start-terms : tie.Need-slice_bounds-start_terms-end invariant-lo
 slice-aggregate-start-terms c = refl
 
 start-terms-requires : tie.Need-start_terms-requires invariant-loop-b decreases-loop-b
-start-terms-requires c κs = (c.before.requires.0.variables, refl, λ t l. get_or-replicate 64 t 0 0 l)
+start-terms-requires c κs = (c.requires.0.variables, refl, λ t l. get_or-replicate 64 t 0 0 l)
 
 slice-aggregate-put-keys : tie.Need-slice_bounds-put_keys-end invariant-loop-b decreases-loop-b
 slice-aggregate-put-keys c = refl
 
 put-keys-requires : tie.Need-put_keys-requires invariant-loop-b decreases-loop-b
-put-keys-requires c κs = (c.before.before.before.before.requires.1, refl)
+put-keys-requires c κs = (c.requires.1, refl)
 
 element-copy-out-wanted : tie.Need-bounds-sizes-3 invariant-loop-b decreases-loop-b
 element-copy-out-wanted c = search rules
 
 shl-wanted : tie.Need-overflow_shl-wanted invariant-loop-b decreases-loop-b
-shl-wanted c = omega (arith, c.before.before.before.before.before.before.before.requires.0.few)
+shl-wanted c = omega (arith, c.requires.0.few)
 
 sub-wanted : tie.Need-overflow_sub-wanted invariant-loop-b decreases-loop-b
 sub-wanted c =
-    let s = c.before.before.before.before.before.before.before in
+    let s = c in
     rw (power_shift (get_or s.args.t3.counts 3 0) (omega (arith, s.requires.0.few))) (pow_pos (get_or s.args.t3.counts 3 0))
 
 loop-holds : tie.Need-loop-b-init invariant-loop-b decreases-loop-b
 loop-holds c =
-    let s = c.before.before.before.before.before.before.before in
+    let s = c in
     let a = s.args in
     let d = get_or a.t3.counts 3 0 in
     let e = power_shift d (omega (arith, s.requires.0.few)) in (
       omega arith,
       rw e (omega (arith, pow-lt {i = d} {j = 64} (omega (arith, s.requires.0.few)))),
-      (0, 0, λ i l. bit_zero i, c.before.before.before.before.before.start_terms.ensures),
+      (0, 0, λ i l. bit_zero i, c.start_terms.ensures),
       rw e (leaves_start (stored_by a.t3 a.clauses.now a.constants.now) a.table.now (2 ^ d - 1)),
     )
 
 look-leaf-requires : tie.Need-look_leaf-rest-requires invariant-loop-b decreases-loop-b
 look-leaf-requires c κs =
-    let s = c.before.before.before.before.before.before.before.before.before.before.before in
-    let l = c.before.before.before.loop-b in
-    let keys = c.before.before.before.before.before.before.put_keys.ensures in
+    let s = c in
+    let l = c.loop-b in
+    let keys = c.put_keys.ensures in
     (s.requires.0, (omega arith, s.requires.1, rw (keys l.b (omega arith)) (values_within _ _ _ _ _), l.invariant.2))
 
 returns : tie.Need-returns-then-not-rest invariant-loop-b decreases-loop-b
 returns c =
-    let s = c.before.before.before.before.before.before.before.before.before.before.before.before.before.before in
+    let s = c in
     let a = s.args in
-    let l = c.before.before.before.before.before.before.loop-b in
-    let keys = c.before.before.before.before.before.before.before.before.before.put_keys.ensures in
+    let l = c.loop-b in
+    let keys = c.put_keys.ensures in
     let S = stored_by a.t3 a.clauses.now a.constants.now in
-    let looked = c.before.before.look_leaf-rest in
+    let looked = c.look_leaf-rest in
     sym (leaves_unmet S a.table.now (l.b + 1) (2 ^ get_or a.t3.counts 3 0 - 1) looked.result (subst (λ b. T b) (sym c.if-not-rest.true) tt)
     (looked.ensures.1 a.constants.now (2 ^ get_or a.t3.counts 3 0 - 1) keys l.invariant.3))
 
@@ -87,12 +87,12 @@ loop-less c = omega arith
 
 loop-again : tie.Need-loop-b-preserved invariant-loop-b decreases-loop-b
 loop-again c =
-    let s = c.before.before.before.before.before.before.before.before.before.before.before.before.before.before in
+    let s = c in
     let a = s.args in
-    let l = c.before.before.before.before.before.before.loop-b in
-    let keys = c.before.before.before.before.before.before.before.before.before.put_keys.ensures in
+    let l = c.loop-b in
+    let keys = c.put_keys.ensures in
     let S = stored_by a.t3 a.clauses.now a.constants.now in
-    let looked = c.before.before.look_leaf-rest in (
+    let looked = c.look_leaf-rest in (
       omega arith,
       omega arith,
       looked.ensures.0,
@@ -102,10 +102,10 @@ loop-again c =
 
 returns-2 : tie.Need-returns invariant-loop-b decreases-loop-b
 returns-2 c =
-    let s = c.before.before.before.before.before.before.before.before.before in
+    let s = c in
     let a = s.args in
-    let l = c.before.loop-b in
-    leaves_all (stored_by a.t3 a.clauses.now a.constants.now) a.table.now l.b l.wanted-1 c.loop-b-test.false (omega (arith, s.requires.0.few))
+    let l = c.loop-b in
+    leaves_all (stored_by a.t3 a.clauses.now a.constants.now) a.table.now l.b l.wanted c.loop-b-test.false (omega (arith, s.requires.0.few))
     l.invariant.1 l.invariant.3
 
 pub extends_spec : {M : Type 1} → statement M

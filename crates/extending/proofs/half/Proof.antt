@@ -12,7 +12,7 @@ returns c k h = half_low 32 k h ∙ ap (eqb (k / 32)) (sym c.if-b-eq0.true)
 
 returns-2 : tie.Need-returns-else-b-eq0
 returns-2 c k h =
-    let e : c.before.args.b % 2 ≡ 1 = omega (arith, c.if-b-eq0.false) in
+    let e : c.args.b % 2 ≡ 1 = omega (arith, c.if-b-eq0.false) in
     half_high 32 k h ∙ ap (eqb (k / 32)) (sym e)
 
 pub half_spec : {M : Type 1} → statement M

@@ -21,12 +21,12 @@ first-like-requires c κs = search rules
 
 returns : tie.Need-returns-then-first_like-b
 returns c =
-    let s = c.before.before.before in
+    let s = c in
     let a = s.args in (
       s.requires.1.3,
       λ constants start K L.
           leaf_known (stored_by a.sizes a.clauses.now constants) a.table.now a.keys.now a.b start a.wanted s.requires.1.0 K L
-          c.before.first_like.result c.if-first_like-b.true (c.before.first_like.ensures.1 c.if-first_like-b.true),
+          c.first_like.result c.if-first_like-b.true (c.first_like.ensures.1 c.if-first_like-b.true),
     )
 
 slice-aggregate-mark-alike : tie.Need-slice_bounds-mark_alike-end
@@ -52,18 +52,18 @@ look-words-requires c κs = search rules
 
 returns-2 : tie.Need-returns
 returns-2 c =
-    let s = c.before.before.before.before.before.before.before.before.before.before.before.before.before in
+    let s = c in
     let a = s.args in
     let (old, v, within, t) = s.requires.1.3 in
-    let values = c.before.before.before.before.before.values_of.result in
-    let same : values ≡ get_or a.keys.now a.b 0 = c.before.before.before.before.before.values_of.ensures in
+    let values = c.values_of.result in
+    let same : values ≡ get_or a.keys.now a.b 0 = c.values_of.ensures in
     let inside : Within a.sizes.named values = rw same s.requires.1.2 in
-    let placed = c.before.before.before.set_constants.ensures a.sizes.free a.sizes.own old v s.requires.0.variables within inside t in
+    let placed = c.set_constants.ensures a.sizes.free a.sizes.own old v s.requires.0.variables within inside t in
     let looked = c.look_words.ensures in (
       (let (u, w) = (looked [] values v placed).0 in (values, u, inside, w)),
       λ constants start K L.
           leaf_looked (stored_by a.sizes a.clauses.now constants) a.table.now a.keys.now a.b start a.wanted s.requires.1.0 K L 64 _ _
-          (omega (arith, s.requires.0.few)) c.before.before.before.before.before.before.before.before.mark_alike.ensures
+          (omega (arith, s.requires.0.few)) c.mark_alike.ensures
           (rw same at (looked constants values v placed).1),
     )
 

@@ -15,7 +15,7 @@ use Rattle.extending.proofs.look_word.Tie as tie
 returns : tie.Need-returns-then-choices-eq0
 returns c constants values v t = (
   (v, t),
-  looked_none _ _ _ (InWord c.before.args.w c.before.args.choices) c.before.args.wanted (λ d (e, u).
+  looked_none _ _ _ (InWord c.args.w c.args.choices) c.args.wanted (λ d (e, u).
       subst T (ap (λ x. bit x (d % 64)) c.if-choices-eq0.true ∙ bit_zero (d % 64)) u),
 )
 
@@ -30,19 +30,19 @@ slice-aggregate-missing c = search rules
 
 missing-requires : tie.Need-missing-none-requires
 missing-requires c κs =
-    let s = c.before.before.before.before.before.before in
-    (s.requires.0, (s.requires.1, omega arith, merged_free s.args.t3.free s.args.choices _ c.before.before.before.before.merge_word-x.ensures))
+    let s = c in
+    (s.requires.0, (s.requires.1, omega arith, merged_free s.args.t3.free s.args.choices _ c.merge_word-x.ensures))
 
 returns-2 : tie.Need-returns-then-none-ne0
 returns-2 c constants values v t =
-    let s = c.before.before.before.before.before.before.before.before.before in
+    let s = c in
     let a = s.args in
-    let merged = c.before.before.before.before.before.before.before.merge_word-x in
-    let missing = c.before.before.missing-none in
-    let (placed, M) = missing.ensures.0 values (c.before.before.before.before.before.move_terms.ensures values v t) in (
+    let merged = c.merge_word-x in
+    let missing = c.missing-none in
+    let (placed, M) = missing.ensures.0 values (c.move_terms.ensures values v t) in (
       (a.w, placed),
       word_unmet (stored_by a.t3 a.clauses.now constants) values a.w a.choices merged.result a.wanted missing.result _ s.requires.1
-          merged.ensures M missing.type-inv c.if-none-ne0.true,
+          merged.ensures M missing.type_inv c.if-none-ne0.true,
     )
 
 element-copy-out-still-wanted : tie.Need-bounds-sizes-3
@@ -53,14 +53,14 @@ still-wanted-requires c κs = search rules
 
 returns-3 : tie.Need-returns
 returns-3 c constants values v t =
-    let s = c.before.before.before.before.before.before.before.before.before.before.before.before in
+    let s = c in
     let a = s.args in
-    let merged = c.before.before.before.before.before.before.before.before.before.before.merge_word-x in
-    let missing = c.before.before.before.before.before.missing-none in
-    let (placed, M) = missing.ensures.0 values (c.before.before.before.before.before.before.before.before.move_terms.ensures values v t) in (
+    let merged = c.merge_word-x in
+    let missing = c.missing-none in
+    let (placed, M) = missing.ensures.0 values (c.move_terms.ensures values v t) in (
       (a.w, placed),
       word_met (stored_by a.t3 a.clauses.now constants) values a.w a.choices merged.result a.wanted missing.result _ s.requires.1
-          merged.ensures M c.still_wanted-wanted.result (omega (arith, s.requires.0.few)) c.before.before.before.if-none-ne0.false c.still_wanted-wanted.ensures,
+          merged.ensures M c.still_wanted-wanted.result (omega (arith, s.requires.0.few)) c.if-none-ne0.false c.still_wanted-wanted.ensures,
     )
 
 pub look_word_spec : {M : Type 1} → statement M

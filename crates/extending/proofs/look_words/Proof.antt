@@ -28,31 +28,31 @@ word-count-requires c κs = omega (arith, c.requires.variables)
 
 loop-holds : tie.Need-loop-w-init invariant-loop-w decreases-loop-w
 loop-holds c =
-    let a = c.before.args in
+    let a = c.args in
     (omega arith, tt, λ constants values v t. ((v, t), words_start _ _ _ a.present.now a.wanted))
 
 mul-look-word : tie.Need-offset_bounds-present-w invariant-loop-w decreases-loop-w
 mul-look-word c =
-    let s = c.before.before.before.before in
-    omega (arith, c.before.before.before.word_count-words.ensures, words_le s.args.sizes.free (omega (arith, s.requires.variables)))
+    let s = c in
+    omega (arith, c.word_count-words.ensures, words_le s.args.sizes.free (omega (arith, s.requires.variables)))
 
 element-copy-out-look-word : tie.Need-bounds-present-w invariant-loop-w decreases-loop-w
 element-copy-out-look-word c =
-    let s = c.before.before.before.before in
-    omega (arith, c.before.before.before.word_count-words.ensures, words_le s.args.sizes.free (omega (arith, s.requires.variables)))
+    let s = c in
+    omega (arith, c.word_count-words.ensures, words_le s.args.sizes.free (omega (arith, s.requires.variables)))
 
 look-word-requires : tie.Need-look_word-rest-requires invariant-loop-w decreases-loop-w
-look-word-requires c κs = (c.before.before.before.before.before.requires, omega (arith, c.before.before.before.before.word_count-words.ensures))
+look-word-requires c κs = (c.requires, omega (arith, c.word_count-words.ensures))
 
 returns : tie.Need-returns-then-not-rest invariant-loop-w decreases-loop-w
 returns c constants values v t =
-    let s = c.before.before.before.before.before.before.before.before in
-    let l = c.before.before.before.before.before.before.loop-w in
+    let s = c in
+    let l = c.loop-w in
     let ((u, m), L) = l.invariant.2 constants values v t in
-    let (placed, M) = c.before.before.look_word-rest.ensures constants values u m in (
+    let (placed, M) = c.look_word-rest.ensures constants values u m in (
       placed,
       looked_wider _ _ _ (InWords (l.w + 1) s.args.present.now) _ _ _ (subst (λ b. T b) (sym c.if-not-rest.true) tt)
-          (λ d (h, q). (omega (arith, c.before.before.before.before.before.before.before.word_count-words.ensures), q))
+          (λ d (h, q). (omega (arith, c.word_count-words.ensures), q))
           (words_more _ _ _ s.args.present.now s.args.wanted l.w l.rest _ (omega (arith, s.requires.few)) l.invariant.1 L M),
     )
 
@@ -64,20 +64,20 @@ loop-less c = omega arith
 
 loop-again : tie.Need-loop-w-preserved invariant-loop-w decreases-loop-w
 loop-again c =
-    let s = c.before.before.before.before.before.before.before.before in
-    let l = c.before.before.before.before.before.before.loop-w in (
+    let s = c in
+    let l = c.loop-w in (
       omega arith,
-      holds c.before.before.look_word-rest.result.met (λ u. T_not (not c.before.before.look_word-rest.result.met) (of_false c.if-not-rest.false) u),
+      holds c.look_word-rest.result.met (λ u. T_not (not c.look_word-rest.result.met) (of_false c.if-not-rest.false) u),
       λ constants values v t.
           (let ((u, m), L) = l.invariant.2 constants values v t in
-          let (placed, M) = c.before.before.look_word-rest.ensures constants values u m in
+          let (placed, M) = c.look_word-rest.ensures constants values u m in
           (placed, words_more _ _ _ s.args.present.now s.args.wanted l.w l.rest _ (omega (arith, s.requires.few)) l.invariant.1 L M)),
     )
 
 returns-2 : tie.Need-returns invariant-loop-w decreases-loop-w
 returns-2 c =
-    let e : c.before.loop-w.w ≡ word_count c.before.before.before.args.sizes.free = omega (arith, c.before.before.word_count-words.ensures) in
-    rw e at c.before.loop-w.invariant.2
+    let e : c.loop-w.w ≡ word_count c.args.sizes.free = omega (arith, c.word_count-words.ensures) in
+    rw e at c.loop-w.invariant.2
 
 pub look_words_spec : {M : Type 1} → statement M
 look_words_spec =

@@ -23,7 +23,7 @@ same_length : tie.Need-shape_of-present
 same_length c = search rules
 
 returns : tie.Need-returns
-returns c = added_one c.before.args.present.now c.before.args.choice c.before.requires
+returns c = added_one c.args.present.now c.args.choice c.requires
 
 pub mark_spec : {M : Type 1} → statement M
 mark_spec =

@@ -19,7 +19,7 @@ abbrev decreases-loop-a : tie.decreases-loop-a
 decreases-loop-a table free keys b present₀ a₀ present a = 32 - a
 
 loop-holds : tie.Need-loop-a-init invariant-loop-a decreases-loop-a
-loop-holds c = let a = c.before.args in (omega arith, omega arith, refl, alike_start constant_levels a.table.now a.keys.now a.free a.b a.present-1.now)
+loop-holds c = let a = c.args in (omega arith, omega arith, refl, alike_start constant_levels a.table.now a.keys.now a.free a.b a.present.now)
 
 mul-if1 : tie.Need-offset_bounds-keys-a invariant-loop-a decreases-loop-a
 mul-if1 c = omega arith
@@ -47,33 +47,33 @@ loop-less c = omega arith
 
 loop-again : tie.Need-loop-a-preserved invariant-loop-a decreases-loop-a
 loop-again c =
-    let a = c.before.before.before.before.before.before.args in
-    let l = c.before.before.before.before.loop-a in
+    let a = c.args in
+    let l = c.loop-a in
     ⊎_elim
     (λ w. (
       omega arith,
       omega arith,
       rw w.6 (w.3.kept.1.1.1.1.0 ∙ l.invariant.2),
       rw w.6
-          (alike_more constant_levels a.table.now a.keys.now a.free a.b l.a w.1.result a.present-1.now l.present-1 _ l.invariant.0 (omega arith)
+          (alike_more constant_levels a.table.now a.keys.now a.free a.b l.a w.1.result a.present.now l.present _ l.invariant.0 (omega arith)
           w.0.taken w.1.ensures l.invariant.3 w.3.ensures),
     ))
     (λ w. (
       omega arith,
       omega arith,
       rw w.1 l.invariant.2,
-      rw w.1 (alike_other constant_levels a.table.now a.keys.now a.free a.b l.a a.present-1.now l.present-1 w.0.left l.invariant.3),
+      rw w.1 (alike_other constant_levels a.table.now a.keys.now a.free a.b l.a a.present.now l.present w.0.left l.invariant.3),
     ))
     c.if-keys-a.branch
 
 same_length : tie.Need-shape_of-present invariant-loop-a decreases-loop-a
-same_length c = c.before.loop-a.invariant.2
+same_length c = c.loop-a.invariant.2
 
 returns : tie.Need-returns invariant-loop-a decreases-loop-a
 returns c =
-    let a = c.before.before.before.args in
-    let l = c.before.loop-a in
-    alike_done constant_levels a.table.now a.keys.now a.free a.b l.a a.present-1.now l.present-1 c.loop-a-test.false l.invariant.3
+    let a = c.args in
+    let l = c.loop-a in
+    alike_done constant_levels a.table.now a.keys.now a.free a.b l.a a.present.now l.present c.loop-a-test.false l.invariant.3
 
 pub mark_alike_spec : {M : Type 1} → statement M
 mark_alike_spec =

@@ -22,59 +22,59 @@ decreases-loop-rest table free w leaves present₀ rest₀ present rest = rest
 
 loop-holds : tie.Need-loop-rest-init invariant-loop-rest decreases-loop-rest
 loop-holds c =
-    let s = c.before in
+    let s = c in
     let a = s.args in
-    (s.ranges.leaves.fits, refl, λ k b. b, word_start constant_levels a.table.now a.free a.w a.leaves a.present-1.now)
+    (s.ranges.leaves.fits, refl, λ k b. b, word_start constant_levels a.table.now a.free a.w a.leaves a.present.now)
 
 lowest-requires : tie.Need-lowest-requires invariant-loop-rest decreases-loop-rest
 lowest-requires c κs = tt
 
 same-choice-requires : tie.Need-same_choice-same-requires invariant-loop-rest decreases-loop-rest
 same-choice-requires c κs =
-    let s = c.before.before.before.before in
-    let l = c.before.before.loop-rest in
-    (s.requires.0, s.requires.1, (lowest_set l.rest c.lowest.result l.invariant.0 c.before.loop-rest-test.true c.lowest.ensures).0)
+    let s = c in
+    let l = c.loop-rest in
+    (s.requires.0, s.requires.1, (lowest_set l.rest c.lowest.result l.invariant.0 c.loop-rest-test.true c.lowest.ensures).0)
 
 mark-requires : tie.Need-mark-requires invariant-loop-rest decreases-loop-rest
 mark-requires c κs =
-    let s = c.before.before.before.before.before.before in
+    let s = c in
     let a = s.args in
-    let l = c.before.before.before.before.loop-rest in
-    let small = choice_lt constant_levels a.table.now a.free (64 * a.w + c.before.before.lowest.result) in
-    omega (arith, c.before.same_choice-same.ensures.choice, pow_mono {i = a.free} {j = 12} s.requires.0, l.invariant.1, s.requires.2)
+    let l = c.loop-rest in
+    let small = choice_lt constant_levels a.table.now a.free (64 * a.w + c.lowest.result) in
+    omega (arith, c.same_choice-same.ensures.choice, pow_mono {i = a.free} {j = 12} s.requires.0, l.invariant.1, s.requires.2)
 
 loop-less : tie.Need-loop-rest-smaller invariant-loop-rest decreases-loop-rest
 loop-less c =
-    let l = c.before.before.before.before.before.before.before.before.loop-rest in
-    let low = c.before.before.before.before.before.before.lowest in
-    let same = c.before.before.before.before.before.same_choice-same in
-    let here = lowest_set l.rest low.result l.invariant.0 c.before.before.before.before.before.before.before.loop-rest-test.true low.ensures in
+    let l = c.loop-rest in
+    let low = c.lowest in
+    let same = c.same_choice-same in
+    let here = lowest_set l.rest low.result l.invariant.0 c.loop-rest-test.true low.ensures in
     less_rest l.rest same.result.leaves low.result (omega arith) here (same.ensures.itself here)
 
 loop-again : tie.Need-loop-rest-preserved invariant-loop-rest decreases-loop-rest
 loop-again c =
-    let s = c.before.before.before.before.before.before.before.before.before.before in
+    let s = c in
     let a = s.args in
-    let l = c.before.before.before.before.before.before.before.before.loop-rest in
-    let low = c.before.before.before.before.before.before.lowest in
-    let same = c.before.before.before.before.before.same_choice-same in
-    let mark = c.before.before.before.mark in
-    let here = lowest_set l.rest low.result l.invariant.0 c.before.before.before.before.before.before.before.loop-rest-test.true low.ensures in (
+    let l = c.loop-rest in
+    let low = c.lowest in
+    let same = c.same_choice-same in
+    let mark = c.mark in
+    let here = lowest_set l.rest low.result l.invariant.0 c.loop-rest-test.true low.ensures in (
       omega (arith, and_le_l l.rest ((2 ^ 64 - 1) - same.result.leaves), l.invariant.0),
       mark.auto.0 ∙ l.invariant.1,
       λ k b. rest_more a.leaves l.rest same.result.leaves k l.invariant.2 b,
-      word_more constant_levels a.table.now a.free a.w a.leaves l.rest low.result same.result.choice same.result.leaves a.present-1.now l.present-1 _
+      word_more constant_levels a.table.now a.free a.w a.leaves l.rest low.result same.result.choice same.result.leaves a.present.now l.present _
           (omega arith) here l.invariant.2 same.ensures l.invariant.3 mark.ensures,
     )
 
 same_length : tie.Need-shape_of-present invariant-loop-rest decreases-loop-rest
-same_length c = c.before.loop-rest.invariant.1
+same_length c = c.loop-rest.invariant.1
 
 returns : tie.Need-returns invariant-loop-rest decreases-loop-rest
 returns c =
-    let a = c.before.before.before.args in
-    let l = c.before.loop-rest in
-    word_done constant_levels a.table.now a.free a.w a.leaves l.rest a.present-1.now l.present-1 c.loop-rest-test.false l.invariant.3
+    let a = c.args in
+    let l = c.loop-rest in
+    word_done constant_levels a.table.now a.free a.w a.leaves l.rest a.present.now l.present c.loop-rest-test.false l.invariant.3
 
 pub mark_word_spec : {M : Type 1} → statement M
 mark_word_spec =

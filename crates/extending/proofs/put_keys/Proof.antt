@@ -36,8 +36,8 @@ loop-less c = omega arith
 
 loop-again : tie.Need-loop-b-preserved invariant-loop-b decreases-loop-b
 loop-again c =
-    let a = c.before.before.before.before.args in
-    let l = c.before.before.loop-b in (
+    let a = c.args in
+    let l = c.loop-b in (
       omega arith,
       simp length-set l.invariant.1,
       keys_more (values_at constant_levels a.constants.now a.named constant_levels) l.keys l.b c.values_at.result (omega arith)
@@ -45,10 +45,10 @@ loop-again c =
     )
 
 same_length : tie.Need-shape_of-keys invariant-loop-b decreases-loop-b
-same_length c = c.before.loop-b.invariant.1
+same_length c = c.loop-b.invariant.1
 
 returns : tie.Need-returns invariant-loop-b decreases-loop-b
-returns c a h = c.before.loop-b.invariant.2 a (omega arith)
+returns c a h = c.loop-b.invariant.2 a (omega arith)
 
 pub put_keys_spec : {M : Type 1} → statement M
 put_keys_spec =

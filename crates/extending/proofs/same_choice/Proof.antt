@@ -26,8 +26,8 @@ digit-requires c κs = omega arith
 
 with-digit-requires : tie.Need-with_digit-choice-requires invariant-loop-v decreases-loop-v
 with-digit-requires c κs =
-    let s = c.before.before.before.before in
-    let l = c.before.before.before.loop-v in
+    let s = c in
+    let l = c.loop-v in
     omega (arith, l.invariant.1.choice, choice_lt constant_levels s.args.table.now l.v (64 * s.args.w + s.args.i), pow_mono {i = l.v} {j = 12} (omega arith))
 
 like-requires : tie.Need-like-same-requires invariant-loop-v decreases-loop-v
@@ -41,16 +41,16 @@ loop-less c = omega arith
 
 loop-again : tie.Need-loop-v-preserved invariant-loop-v decreases-loop-v
 loop-again c =
-    let a = c.before.before.before.before.before.before.args in
-    let l = c.before.before.before.before.before.loop-v in (
+    let a = c.args in
+    let l = c.loop-v in (
       omega arith,
-      same_more constant_levels a.table.now a.w a.i a.leaves c.before.before.before.before.before.before.requires.2 l.v l.choice l.same
-          c.before.before.before.word_of-x.result c.like-same.result c.before.with_digit-choice.result c.before.before.digit-digit.result
-          c.before.before.before.word_of-x.ensures c.before.before.digit-digit.ensures c.before.with_digit-choice.ensures c.like-same.ensures l.invariant.1,
+      same_more constant_levels a.table.now a.w a.i a.leaves c.requires.2 l.v l.choice l.same
+          c.word_of-x.result c.like-same.result c.with_digit-choice.result c.digit-digit.result
+          c.word_of-x.ensures c.digit-digit.ensures c.with_digit-choice.ensures c.like-same.ensures l.invariant.1,
     )
 
 returns : tie.Need-returns invariant-loop-v decreases-loop-v
-returns c = let e : c.before.loop-v.v ≡ c.before.before.args.free = omega arith in rw e at c.before.loop-v.invariant.1
+returns c = let e : c.loop-v.v ≡ c.args.free = omega arith in rw e at c.loop-v.invariant.1
 
 pub same_choice_spec : {M : Type 1} → statement M
 same_choice_spec =

@@ -32,12 +32,12 @@ loop-less c = omega arith
 
 loop-again : tie.Need-loop-j-preserved invariant-loop-j decreases-loop-j
 loop-again c =
-    let a = c.before.before.before.before.args in
-    let l = c.before.before.before.loop-j in
+    let a = c.args in
+    let l = c.loop-j in
     (omega arith, still_more a.x a.wanted a.left.now l.j l.r c.unless_same-r.result c.unless_same-r.ensures l.invariant.1)
 
 returns : tie.Need-returns invariant-loop-j decreases-loop-j
-returns c = let e : c.before.loop-j.j ≡ c.before.before.args.count = omega arith in rw e at c.before.loop-j.invariant.1
+returns c = let e : c.loop-j.j ≡ c.args.count = omega arith in rw e at c.loop-j.invariant.1
 
 pub still_wanted_spec : {M : Type 1} → statement M
 still_wanted_spec =

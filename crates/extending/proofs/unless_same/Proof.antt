@@ -5,14 +5,14 @@ use Rattle.extending.proofs.unless_same.Statement.{statement}
 use Rattle.extending.proofs.unless_same.Tie as tie
 
 returns : tie.Need-returns-then-x-y
-returns c k h = let a = c.before.args in unless_kept a.x a.y a.r a.j k c.if-x-y.true
+returns c k h = let a = c.args in unless_kept a.x a.y a.r a.j k c.if-x-y.true
 
 shl-result : tie.Need-overflow_shl-result
 shl-result c = search rules
 
 returns-2 : tie.Need-returns
 returns-2 c k h =
-    let s = c.before in
+    let s = c in
     let a = s.args in
     unless_out a.x a.y a.r a.j k s.ranges.x.fits s.ranges.y.fits c.if-x-y.false s.requires h
 

@@ -12,7 +12,7 @@ element-copy-out-result-2 : tie.Need-bounds-counts-1
 element-copy-out-result-2 c = search rules
 
 add_result : tie.Need-overflow_add-result
-add_result c = omega (arith, c.before.before.requires FirstPositive, c.before.before.requires FirstDisequation)
+add_result c = omega (arith, c.requires FirstPositive, c.requires FirstDisequation)
 
 element-copy-out-result-3 : tie.Need-bounds-counts-2
 element-copy-out-result-3 c = search rules
@@ -21,11 +21,11 @@ element-copy-out-result-4 : tie.Need-bounds-counts-3
 element-copy-out-result-4 c = search rules
 
 add_result_2 : tie.Need-overflow_add-result-2
-add_result_2 c = omega (arith, c.before.before.before.before.requires SecondPositive, c.before.before.before.before.requires SecondDisequation)
+add_result_2 c = omega (arith, c.requires SecondPositive, c.requires SecondDisequation)
 
 add-result-3 : tie.Need-overflow_add-result-3
 add-result-3 c =
-    let small = c.before.before.before.before.requires in
+    let small = c.requires in
     omega (arith, small FirstPositive, small FirstDisequation, small SecondPositive, small SecondDisequation)
 
 returns : tie.Need-returns

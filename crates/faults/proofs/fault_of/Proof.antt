@@ -44,22 +44,22 @@ clause-fault-requires c κs = search rules
 
 returns : tie.Need-returns-in-End
 unfolding fault_of
-returns c = rw c.enum_told-1.given.1 refl
+returns c = rw c.enum_told-1.is refl
 
 returns-2 : tie.Need-returns-in-Head
 unfolding fault_of
-returns-2 c = rw c.enum_told-in-Head-1.given.1 refl
+returns-2 c = rw c.enum_told-in-Head-1.is refl
 
 returns-3 : tie.Need-returns-in-Constant
 unfolding fault_of
-returns-3 c = rw (c.before.before.enum_told-in-Constant-1.given.1, ← c.before.clause_total-total.ensures) c.constant_fault.ensures
+returns-3 c = rw (c.enum_told-in-Constant-1.is, ← c.clause_total-total.ensures) c.constant_fault.ensures
 
 returns-4 : tie.Need-returns-in-Clause
 returns-4 c =
-    let command = c.before.before.before.before.before.before.before in
-    let a = command.before.before.args in
+    let command = c in
+    let a = command.args in
     c.clause_fault.ensures
-    ∙ clause_judged a.kind a.free a.own a.constants a.counts.now command.command-1.given.0.0 _ _ _ _ c.before.before.is_foreign.ensures c.before.most_of.ensures c.before.before.before.before.before.section_count-count.ensures c.before.before.before.before.variables_for-variables.ensures c.before.before.before.all_named-named.ensures
+    ∙ clause_judged a.kind a.free a.own a.constants a.counts.now command.command-1.given.0.0 _ _ _ _ c.is_foreign.ensures c.most_of.ensures c.section_count-count.ensures c.variables_for-variables.ensures c.all_named-named.ensures
     ∙ ap (fault_of a.kind a.free a.own a.constants a.counts.now) (sym command.command-1.given.1)
 
 pub fault_of_spec : {M : Type 1} → statement M

@@ -8,7 +8,7 @@ is-second-requires : tie.Need-is_second-requires
 is-second-requires c κs = search rules
 
 returns : tie.Need-returns-then-kind-eq0
-returns c = simp (eq-eqb _ 0 c.before.if-kind-eq0.true, ← c.is_second.ensures)
+returns c = simp (eq-eqb _ 0 c.if-kind-eq0.true, ← c.is_second.ensures)
 
 returns-2 : tie.Need-returns
 returns-2 c = simp (ne_eqb _ 0 c.if-kind-eq0.false)

@@ -14,18 +14,18 @@ enum_told : tie.Need-enum_told-1
 enum_told c = search rules
 
 returns : tie.Need-returns-in_default
-returns c = simp (← c.before.before.read_at-r.ensures, c.enum_told-1.given.1)
+returns c = simp (← c.read_at-r.ensures, c.enum_told-1.is)
 
 fault-of-requires : tie.Need-fault_of-fault-requires
 fault-of-requires c κs = search rules
 
 returns-2 : tie.Need-returns-then-fault-eq0
 returns-2 c =
-    simp (← c.before.before.before.before.before.read_at-r.ensures, c.before.before.before.r-1.given.1, ← c.before.fault_of-fault.ensures, eq-eqb _ _ c.if-fault-eq0.true)
+    simp (← c.read_at-r.ensures, c.r-1.given.1, ← c.fault_of-fault.ensures, eq-eqb _ _ c.if-fault-eq0.true)
 
 returns-3 : tie.Need-returns
 returns-3 c =
-    simp (← c.before.before.before.before.before.read_at-r.ensures, c.before.before.before.r-1.given.1, ← c.before.fault_of-fault.ensures, ne_eqb _ _ c.if-fault-eq0.false)
+    simp (← c.read_at-r.ensures, c.r-1.given.1, ← c.fault_of-fault.ensures, ne_eqb _ _ c.if-fault-eq0.false)
 
 pub read_command_spec : {M : Type 1} → statement M
 read_command_spec =

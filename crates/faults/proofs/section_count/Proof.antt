@@ -9,13 +9,13 @@ section-number-requires : tie.Need-section_number-i-requires
 section-number-requires c κs = search rules
 
 mul-result : tie.Need-offset_bounds-counts-i
-mul-result c = omega (arith, section_below c.before.args.section)
+mul-result c = omega (arith, section_below c.args.section)
 
 element-copy-out-result : tie.Need-bounds-counts-i
-element-copy-out-result c = omega (arith, section_below c.before.args.section)
+element-copy-out-result c = omega (arith, section_below c.args.section)
 
 returns : tie.Need-returns
-returns c = simp (← c.before.section_number-i.ensures)
+returns c = simp (← c.section_number-i.ensures)
 
 pub section_count_spec : {M : Type 1} → statement M
 section_count_spec =

@@ -8,7 +8,7 @@ names-it-requires : tie.Need-names_it-requires
 names-it-requires c κs = search rules
 
 returns : tie.Need-returns-then-k-count
-returns c = simp (lt-ltb _ _ c.before.if-k-count.true, c.names_it.ensures)
+returns c = simp (lt-ltb _ _ c.if-k-count.true, c.names_it.ensures)
 
 returns-2 : tie.Need-returns
 returns-2 c = simp (le-ltb _ _ c.if-k-count.false)

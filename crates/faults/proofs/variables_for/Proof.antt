@@ -10,7 +10,7 @@ add_result : tie.Need-overflow_add-result
 add_result c = search rules
 
 returns : tie.Need-returns-then-is_second
-returns c = simp (← c.before.is_second.ensures, c.if-is_second.true)
+returns c = simp (← c.is_second.ensures, c.if-is_second.true)
 
 returns-2 : tie.Need-returns
 returns-2 c = search rules

@@ -21,7 +21,7 @@ power-requires : tie.Need-power-span-requires invariant-loop-left decreases-loop
 power-requires c κs = omega arith
 
 loop-holds : tie.Need-loop-left-init invariant-loop-left decreases-loop-left
-loop-holds c = rw c.power-span.ensures (guess_none _ _ c.before.requires.1)
+loop-holds c = rw c.power-span.ensures (guess_none _ _ c.requires.1)
 
 sub-values : tie.Need-overflow_sub-values invariant-loop-left decreases-loop-left
 sub-values c = omega arith
@@ -30,15 +30,15 @@ array-write-values : tie.Need-bounds-values-free invariant-loop-left decreases-l
 array-write-values c = omega arith
 
 add-passes-below : tie.Need-overflow_add-low invariant-loop-left decreases-loop-left
-add-passes-below c = let s = c.before.before.before in omega (arith, few s.requires.0, few {k = c.before.loop-left.left} (omega arith))
+add-passes-below c = let s = c in omega (arith, few s.requires.0, few {k = c.loop-left.left} (omega arith))
 
 passes-below-requires : tie.Need-passes_below-requires invariant-loop-left decreases-loop-left
-passes-below-requires c κs = omega (arith, few c.before.before.before.requires.0)
+passes-below-requires c κs = omega (arith, few c.requires.0)
 
 add_low : tie.Need-overflow_add-low-then-not-passes_below invariant-loop-left decreases-loop-left
 add_low c =
-    let s = c.before.before.before.before.before in
-    omega (arith, few s.requires.0, few {k = c.before.before.before.loop-left.left} (omega arith))
+    let s = c in
+    omega (arith, few s.requires.0, few {k = c.loop-left.left} (omega arith))
 
 sub-left : tie.Need-overflow_sub-left invariant-loop-left decreases-loop-left
 sub-left c = omega arith
@@ -48,24 +48,24 @@ loop-less c = omega arith
 
 loop-again : tie.Need-loop-left-preserved invariant-loop-left decreases-loop-left
 loop-again c =
-    let s = c.before.before.before.before.before in
-    let l = c.before.before.before.loop-left in
+    let s = c in
+    let l = c.loop-left in
     let least = least_number s.args.passing in
     let free = s.args.free in
     let end = l.low + l.span / 2 in
-    let told : c.before.passes_below.result ≡ ltb least end = c.before.passes_below.ensures in
+    let told : c.passes_below.result ≡ ltb least end = c.passes_below.ensures in
     ⊎_elim
     (λ w.
-    let fails : c.before.passes_below.result ≡ false = not-true _ w.0.taken in
+    let fails : c.passes_below.result ≡ false = not-true _ w.0.taken in
     rw (w.1, w.2) (guess_full least free l.left l.values l.low l.span l.invariant (omega arith) s.requires.0 (ltb-false least end (sym told ∙ fails))))
     (λ w.
-    let passes : c.before.passes_below.result ≡ true = not-false _ w.0.left in
+    let passes : c.passes_below.result ≡ true = not-false _ w.0.left in
     rw (w.1, w.2) (guess_empty least free l.left l.values l.low l.span l.invariant (omega arith) s.requires.0 (ltb-true least end (sym told ∙ passes))))
     c.if-not-passes_below.branch
 
 returns : tie.Need-returns invariant-loop-left decreases-loop-left
 returns c =
-    let l = c.before.loop-left in
+    let l = c.loop-left in
     (l.invariant.digits, guess_all _ _ _ _ _ _ l.invariant (omega arith))
 
 pub least_values_spec : {M : Type 1} → statement M

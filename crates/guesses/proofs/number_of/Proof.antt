@@ -19,8 +19,8 @@ loop-holds c = (omega arith, refl)
 
 mul-number : tie.Need-overflow_mul-number invariant-loop-v decreases-loop-v
 mul-number c =
-    let a = c.before.before in
-    let v = c.before.loop-v.v in
+    let a = c in
+    let v = c.loop-v.v in
     omega (arith, number_lt v a.args.t1 a.requires.1, few {k = v} (omega arith))
 
 array-read-index : tie.Need-bounds-values-v invariant-loop-v decreases-loop-v
@@ -31,8 +31,8 @@ index-requires c κs = omega arith
 
 add-number : tie.Need-overflow_add-number invariant-loop-v decreases-loop-v
 add-number c =
-    let a = c.before.before.before in
-    let v = c.before.before.loop-v.v in
+    let a = c in
+    let v = c.loop-v.v in
     omega (arith, number_lt v a.args.t1 a.requires.1, few {k = v} (omega arith))
 
 add-v : tie.Need-overflow_add-v invariant-loop-v decreases-loop-v
@@ -43,14 +43,14 @@ loop-less c = omega arith
 
 loop-again : tie.Need-loop-v-preserved invariant-loop-v decreases-loop-v
 loop-again c =
-    let l = c.before.before.loop-v in
-    let values = c.before.before.before.args.t1 in
+    let l = c.loop-v in
+    let values = c.args.t1 in
     (omega arith, ap₂ (λ n d. 2 * n + d) l.invariant.1 c.index.ensures.0 ∙ number_more l.v values)
 
 returns : tie.Need-returns invariant-loop-v decreases-loop-v
 returns c =
-    let e : c.before.loop-v.v ≡ c.before.before.args.free = omega arith in
-    rw e at c.before.loop-v.invariant.1
+    let e : c.loop-v.v ≡ c.args.free = omega arith in
+    rw e at c.loop-v.invariant.1
 
 pub number_of_spec : {M : Type 1} → statement M
 number_of_spec =

@@ -11,7 +11,7 @@ mul-start c = search rules
 
 returns : tie.Need-returns-then-end-start
 returns c =
-    let a = c.before.before.args in
+    let a = c.args in
     passes_before a.passing.choices (64 * a.passing.word) a.end c.if-end-start.true
 
 sub-if2 : tie.Need-overflow_sub-end
@@ -19,7 +19,7 @@ sub-if2 c = search rules
 
 returns-2 : tie.Need-returns-then-end-start-ge64
 returns-2 c =
-    let a = c.before.before.before.args in
+    let a = c.args in
     passes_behind a.passing.choices (64 * a.passing.word) a.end c.if-end-start-ge64.true
 
 sub-result : tie.Need-overflow_sub-result
@@ -30,12 +30,12 @@ shl-result c = search rules
 
 sub-result-2 : tie.Need-overflow_sub-result-2
 sub-result-2 c =
-    let a = c.before.before.before.args in
+    let a = c.args in
     mask_some (a.end - 64 * a.passing.word) c.if-end-start-ge64.false
 
 returns-3 : tie.Need-returns
 returns-3 c =
-    let a = c.before.before.before.args in
+    let a = c.args in
     passes_within a.passing.choices (64 * a.passing.word) a.end (omega arith) c.if-end-start-ge64.false
 
 pub passes_below_spec : {M : Type 1} → statement M

@@ -30,20 +30,20 @@ enum-known-shape : tie.Need-enum_known-shape
 enum-known-shape c = search rules
 
 returns : tie.Need-returns-in_default
-returns c = other _ c.in-Clause.keys2 _ _ _ _
+returns c = other _ c.in_default.is _ _ _ _
 
 join-at-requires : tie.Need-join_at-requires
-join-at-requires c κs = (rw c.before.shape-1.given.1 at c.before.before.before.before.requires).0.0
+join-at-requires c κs = (rw c.shape-1.given.1 at c.requires).0.0
 
 broken-requires : tie.Need-broken-requires
 unfolding command_of
 broken-requires c κs =
-    let P = rw c.before.before.shape-1.given.1 at c.before.before.before.before.before.requires in
+    let P = rw c.shape-1.given.1 at c.requires in
     rw c.join_at.ensures (P.0.1, P.1)
 
 returns-2 : tie.Need-returns
 unfolding command_of
-returns-2 c = rw (c.broken.ensures, c.before.join_at.ensures, c.before.before.before.shape-1.given.1) refl
+returns-2 c = rw (c.broken.ensures, c.join_at.ensures, c.shape-1.given.1) refl
 
 pub broken_at_spec : {M : Type 1} → statement M
 broken_at_spec = tie.close (tie.spec enum-known-shape returns join-at-requires broken-requires returns-2)

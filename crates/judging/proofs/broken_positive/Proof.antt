@@ -12,12 +12,12 @@ first-failing-requires : tie.Need-first_failing-leaf-requires
 first-failing-requires c κs = search rules
 
 way-at-requires : tie.Need-way_at-requires
-way-at-requires c κs = let P = c.before.requires in (P.0, rw c.first_failing-leaf.ensures (leaf_lt _ 1024 (first_le 1024 _) P.1))
+way-at-requires c κs = let P = c.requires in (P.0, rw c.first_failing-leaf.ensures (leaf_lt _ 1024 (first_le 1024 _) P.1))
 
 returns : tie.Need-returns
 returns c =
-    let s = c.before.before.args in
-    let failing = c.before.first_failing-leaf in
+    let s = c.args in
+    let failing = c.first_failing-leaf in
     ap (λ w. Broken s.k w failing.result) c.way_at.ensures ∙ ap (λ l. Broken s.k (join_way 16 s.leaves.now s.join l) l) failing.ensures
 
 pub broken_positive_spec : {M : Type 1} → statement M

@@ -21,8 +21,8 @@ join-for-requires c κs = search rules
 
 returns : tie.Need-returns
 returns c =
-    let terms = c.before.before.before in
-    rw (c.join_for.ensures, c.before.term_byte-c.ensures, c.before.before.term_byte-b.ensures, terms.term_byte-a.ensures, terms.before.term_count-count.ensures) refl
+    let terms = c in
+    rw (c.join_for.ensures, c.term_byte-c.ensures, c.term_byte-b.ensures, terms.term_byte-a.ensures, terms.term_count-count.ensures) refl
 
 pub join_at_spec : {M : Type 1} → statement M
 join_at_spec =

@@ -23,39 +23,39 @@ read-requires c κs = search rules
 
 returns : tie.Need-returns-then-reading-ne0
 returns c =
-    let reading = c.before.before in
-    let start = reading.before.before.before.before.args in
+    let reading = c in
+    let start = reading.args in
     judges_refused _ _ _ _ (judged_refused _ start.rows.now _ _ (answer_refused start.question.now _ reading.read-reading.ensures.0 c.if-reading-ne0.true))
 
 returns-2 : tie.Need-returns-then-rows-ne-ANSWER_BYTES
 returns-2 c =
-    let reading = c.before.before.before in
-    let start = reading.before.before.before.before.args in
-    let T = answer_taken start.question.now _ reading.read-reading.ensures.0 _ reading.read-reading.ensures.1.1.0 c.before.if-reading-ne0.false in
-    judges_refused _ _ 18 0 (judged_18 _ start.rows.now T.question T.read-reading (rw (levels_are _ _ T.stands) (ne_eqb _ 1536 c.if-rows-ne-ANSWER_BYTES.true)))
+    let reading = c in
+    let start = reading.args in
+    let T = answer_taken start.question.now _ reading.read-reading.ensures.0 _ reading.read-reading.ensures.1.1.0 c.if-reading-ne0.false in
+    judges_refused _ _ 18 0 (judged_18 _ start.rows.now T.question T.read (rw (levels_are _ _ T.stands) (ne_eqb _ 1536 c.if-rows-ne-ANSWER_BYTES.true)))
 
 -- what was read, once the tests are passed
 taken : (c : tie.After-struct_known-2-1) → (
-    let reading = c.before.before.before.before in
-    Taken reading.before.before.before.before.args.question.now reading.read-reading.result reading.read-reading.new.1.0)
+    let reading = c in
+    Taken reading.args.question.now reading.read-reading.result reading.read-reading.new.1.0)
 taken c =
-    let reading = c.before.before.before.before in
-    answer_taken reading.before.before.before.before.args.question.now _ reading.read-reading.ensures.0 _ reading.read-reading.ensures.1.1.0 c.before.before.if-reading-ne0.false
+    let reading = c in
+    answer_taken reading.args.question.now _ reading.read-reading.ensures.0 _ reading.read-reading.ensures.1.1.0 c.if-reading-ne0.false
 
 -- the rows are as long as they must be
 long : (c : tie.After-struct_known-2-1) → (
-    let start = c.before.before.before.before.before.before.before.before.args in
+    let start = c.args in
     length start.rows.now ≡ answer_bytes (taken c).question.constants.levels)
-long c = rw (levels_are _ _ (taken c).stands) c.before.if-rows-ne-ANSWER_BYTES.false
+long c = rw (levels_are _ _ (taken c).stands) c.if-rows-ne-ANSWER_BYTES.false
 
 -- whether those of no free variable are zero
 zero_others : (c : tie.After-struct_known-2-1) (r : Bool) → (
-    let start = c.before.before.before.before.before.before.before.before.args in
-    T r ↔ ZeroBytes start.rows.now (8 * (c.before.before.before.before.read-reading.result.question.free * 16)) (length start.rows.now)
+    let start = c.args in
+    T r ↔ ZeroBytes start.rows.now (8 * (c.read-reading.result.question.free * 16)) (length start.rows.now)
     → r ≡ is_zero (drop ((taken c).question.free * row_bytes (taken c).question.constants.levels) start.rows.now))
 zero_others c r E =
-    let rows = c.before.before.before.before.before.before.before.before.args.rows.now in
-    let free = c.before.before.before.before.read-reading.result.question.free in
+    let rows = c.args.rows.now in
+    let free = c.read-reading.result.question.free in
     rw (levels_are _ _ (taken c).stands, ← (taken c).stands.free) (others_are rows (free * 16) (free * 128) r (omega arith) E)
 
 mul-zero-from : tie.Need-overflow_mul-reading
@@ -67,26 +67,26 @@ zero-from-requires c κs = search rules
 returns-3 : tie.Need-returns-then-not-zero_from
 returns-3 c =
     let known = c.before.before in
-    let start = known.before.before.before.before.before.before.before.before.args in
+    let start = known.args in
     let T = taken known in
-    judges_refused _ _ 19 0 (judged_19 _ start.rows.now T.question T.read-reading (long known)
-    (sym (zero_others known c.before.zero_from.result c.before.zero_from.ensures) ∙ flip _ c.if-not-zero_from.true))
+    judges_refused _ _ 19 0 (judged_19 _ start.rows.now T.question T.read (long known)
+    (sym (zero_others known c.zero_from.result c.zero_from.ensures) ∙ flip _ c.if-not-zero_from.true))
 
 judge-rows-requires : tie.Need-judge_rows-requires
 judge-rows-requires c κs =
-    let known = c.before.before.before in
+    let known = c.before.before.before.before in
     let T = taken known in
-    (known.before.if-rows-ne-ANSWER_BYTES.false, ((T.question, T.read-reading, T.stands), known.before.before.before.before.read-reading.ensures.1.1.1 T.question T.read-reading))
+    (known.if-rows-ne-ANSWER_BYTES.false, ((T.question, T.read, T.stands), known.read-reading.ensures.1.1.1 T.question T.read))
 
 returns-4 : tie.Need-returns
 returns-4 c =
-    let known = c.before.before.before.before in
-    let start = known.before.before.before.before.before.before.before.before.args in
+    let known = c.before.before.before.before.before in
+    let start = known.args in
     let T = taken known in
     judges_rows _ start.rows.now T.question
-    (judged_on _ _ T.question T.read-reading (long known)
-    (sym (zero_others known c.before.before.before.zero_from.result c.before.before.before.zero_from.ensures) ∙ flip _ c.before.before.if-not-zero_from.false))
-    _ (c.judge_rows.ensures T.question T.read-reading T.stands)
+    (judged_on _ _ T.question T.read (long known)
+    (sym (zero_others known c.zero_from.result c.zero_from.ensures) ∙ flip _ c.if-not-zero_from.false))
+    _ (c.judge_rows.ensures T.question T.read T.stands)
 
 pub judge_spec : {M : Type 1} → statement M
 judge_spec =

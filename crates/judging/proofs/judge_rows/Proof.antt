@@ -14,7 +14,7 @@ use Rattle.judging.proofs.judge_rows.Tie as tie
 
 unfold-requires : tie.Need-unfold-requires
 unfold-requires c κs =
-    let start = c.before.before.before.before.before in
+    let start = c in
     (start.requires.0, named_lt _ _ start.requires.1.0.2, zero_at 1024)
 
 -- no more constants stand first than there may be
@@ -22,14 +22,14 @@ few : (s : tie.Start) → s.args.t2.defined ≤ 32
 few s = rw s.requires.1.1 (leading_few s.args.bytes.now 32 0)
 
 mul-judge-first : tie.Need-overflow_mul-question
-mul-judge-first c = omega (arith, few c.before.before.before.before.before.before)
+mul-judge-first c = omega (arith, few c.before.before.before.before.before)
 
 add-judge-first : tie.Need-overflow_add-question
-add-judge-first c = omega (arith, few c.before.before.before.before.before.before)
+add-judge-first c = omega (arith, few c.before.before.before.before.before)
 
 judge-first-requires : tie.Need-judge_first-first-requires
 judge-first-requires c κs =
-    let pre = c.before.before.before.before.before.before.before.requires.1 in
+    let pre = c.requires.1 in
     ((pre.0.0, pre.0.1), ap place_of pre.1)
 
 enum_told : tie.Need-enum_told-1
@@ -37,45 +37,45 @@ enum_told c = search rules
 
 returns : tie.Need-returns-in_default
 returns c q e St =
-    let walked = c.before in
-    let start = walked.before.before.before.before.before.before.before.before in
-    rows_broken start.args.t2 _ _ q St _ (walked.judge_first-first.ensures q _ _ _ e (laid start.args.t2 _ _ q St _ walked.before.before.«unfold».ensures)) (λ a. no_other (rw a at c.in-Accepted.keys2))
+    let walked = c in
+    let start = walked in
+    rows_broken start.args.t2 _ _ q St _ (walked.judge_first-first.ensures q _ _ _ e (laid start.args.t2 _ _ q St _ walked.before.before.«unfold».ensures)) (λ a. no_other (rw a at c.in_default.is))
 
 returns-2 : tie.Need-returns-then-question-eq0
 returns-2 c q e St =
-    let walked = c.before.before.before in
-    let start = walked.before.before.before.before.before.before.before.before in
-    rows_satisfied start.args.t2 _ _ q St _ (walked.judge_first-first.ensures q _ _ _ e (laid start.args.t2 _ _ q St _ walked.before.before.«unfold».ensures)) c.before.enum_told-1.given.1 c.if-question-eq0.true
+    let walked = c in
+    let start = walked in
+    rows_satisfied start.args.t2 _ _ q St _ (walked.judge_first-first.ensures q _ _ _ e (laid start.args.t2 _ _ q St _ walked.before.before.«unfold».ensures)) c.enum_told-1.is c.if-question-eq0.true
 
 sizes-of-requires : tie.Need-sizes_of-sizes-requires
 sizes-of-requires c κs =
-    let start = c.before.before.before.before.before.before.before.before.before.before.before.before.before in
+    let start = c in
     (refl, (start.requires.1.0.0, record { clauses = _; stands = start.requires.1.0.2 }))
 
 extends-requires : tie.Need-extends-requires
 extends-requires c κs =
-    let start = c.before.before.before.before.before.before.before.before.before.before.before.before.before.before.before.before.before in
-    sizes_readable start.args.t2 _ start.args.rows.now start.requires.1.0.0 start.requires.1.0.2 _ c.before.before.before.sizes_of-sizes.ensures
+    let start = c in
+    sizes_readable start.args.t2 _ start.args.rows.now start.requires.1.0.0 start.requires.1.0.2 _ c.sizes_of-sizes.ensures
 
 returns-3 : tie.Need-returns-then-extends
 returns-3 c q e St =
-    let sized = c.before.before.before.before.before in
-    let unbroken = sized.before.before.before in
-    let walked = unbroken.before.before.before in
-    let start = walked.before.before.before.before.before.before.before.before in
+    let sized = c in
+    let unbroken = sized in
+    let walked = unbroken in
+    let start = walked in
     let U = walked.before.before.«unfold».ensures in
-    rows_extending start.args.t2 _ _ q St _ (walked.judge_first-first.ensures q _ _ _ e (laid start.args.t2 _ _ q St _ U)) unbroken.before.enum_told-1.given.1 unbroken.if-question-eq0.false _
-    (extends_found start.args.t2 _ _ q St _ sized.sizes_of-sizes.ensures _ U _ c.before.extends.ensures) c.if-extends.true
+    rows_extending start.args.t2 _ _ q St _ (walked.judge_first-first.ensures q _ _ _ e (laid start.args.t2 _ _ q St _ U)) unbroken.enum_told-1.is unbroken.if-question-eq0.false _
+    (extends_found start.args.t2 _ _ q St _ sized.sizes_of-sizes.ensures _ U _ c.extends.ensures) c.if-extends.true
 
 returns-4 : tie.Need-returns
 returns-4 c q e St =
-    let sized = c.before.before.before.before.before in
-    let unbroken = sized.before.before.before in
-    let walked = unbroken.before.before.before in
-    let start = walked.before.before.before.before.before.before.before.before in
+    let sized = c in
+    let unbroken = sized in
+    let walked = unbroken in
+    let start = walked in
     let U = walked.before.before.«unfold».ensures in
-    rows_accepted start.args.t2 _ _ q St _ (walked.judge_first-first.ensures q _ _ _ e (laid start.args.t2 _ _ q St _ U)) unbroken.before.enum_told-1.given.1 unbroken.if-question-eq0.false _
-    (extends_found start.args.t2 _ _ q St _ sized.sizes_of-sizes.ensures _ U _ c.before.extends.ensures) c.if-extends.false
+    rows_accepted start.args.t2 _ _ q St _ (walked.judge_first-first.ensures q _ _ _ e (laid start.args.t2 _ _ q St _ U)) unbroken.enum_told-1.is unbroken.if-question-eq0.false _
+    (extends_found start.args.t2 _ _ q St _ sized.sizes_of-sizes.ensures _ U _ c.extends.ensures) c.if-extends.false
 
 pub judge_rows_spec : {M : Type 1} → statement M
 judge_rows_spec =

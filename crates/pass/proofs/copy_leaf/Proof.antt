@@ -36,10 +36,10 @@ same_length c = search rules
 
 returns : tie.Need-returns
 returns c =
-    let a = c.before.before.before.before.before.before.before.before.args in
-    let g = c.before.before.before.put_entry in
-    copied a.number a.like a.seen a.plains-1.now _
-    (subst (Put a.number a.plains-1.now a.like a.plains-1.now) (sym g.ensures) (put_entry a.number a.plains-1.now a.like a.plains-1.now (omega arith)))
+    let a = c.args in
+    let g = c.put_entry in
+    copied a.number a.like a.seen a.plains.now _
+    (subst (Put a.number a.plains.now a.like a.plains.now) (sym g.ensures) (put_entry a.number a.plains.now a.like a.plains.now (omega arith)))
 
 pub copy_leaf_spec : {M : Type 1} → statement M
 copy_leaf_spec =

@@ -34,32 +34,32 @@ enum-told-3 c = search rules
 
 returns-3 : tie.Need-returns-in-First
 returns-3 c e =
-    let s = c.before.before.before.before.before.before in
-    let F = c.before.before.before.first_bits in
+    let s = c in
+    let F = c.first_bits in
     record {
-      plain = sym c.before.before.before.before.before.digit.ensures ∙ not-false _ c.before.before.before.before.if-not-digit.false;
-      full = all_set s.args.met s.args.count F.result s.ranges.met.fits s.requires F.ensures.1 c.before.before.if-first_bits-ne0.false;
-      unmet = λ q. absurd (first_not_unmet (sym c.enum_told-1.given.1 ∙ q));
+      plain = sym c.digit.ensures ∙ not-false _ c.if-not-digit.false;
+      full = all_set s.args.met s.args.count F.result s.ranges.met.fits s.requires F.ensures.1 c.if-first_bits-ne0.false;
+      unmet = λ q. absurd (first_not_unmet (sym c.enum_told-1.is ∙ q));
     }
 
 returns-4 : tie.Need-returns-in-Unmet
 returns-4 c e =
-    let s = c.before.before.before.before.before.before.before in
-    let F = c.before.before.before.before.first_bits in
+    let s = c in
+    let F = c.first_bits in
     record {
-      plain = sym c.before.before.before.before.before.before.digit.ensures ∙ not-false _ c.before.before.before.before.before.if-not-digit.false;
-      full = all_set s.args.met s.args.count F.result s.ranges.met.fits s.requires F.ensures.1 c.before.before.before.if-first_bits-ne0.false;
+      plain = sym c.digit.ensures ∙ not-false _ c.if-not-digit.false;
+      full = all_set s.args.met s.args.count F.result s.ranges.met.fits s.requires F.ensures.1 c.if-first_bits-ne0.false;
       unmet = λ q. sym c.digit-in-Unmet.ensures ∙ e;
     }
 
 returns-5 : tie.Need-returns-in-Missed
 returns-5 c e =
-    let s = c.before.before.before.before.before.before in
-    let F = c.before.before.before.first_bits in
+    let s = c in
+    let F = c.first_bits in
     record {
-      plain = sym c.before.before.before.before.before.digit.ensures ∙ not-false _ c.before.before.before.before.if-not-digit.false;
-      full = all_set s.args.met s.args.count F.result s.ranges.met.fits s.requires F.ensures.1 c.before.before.if-first_bits-ne0.false;
-      unmet = λ q. absurd (missed_not_unmet _ (sym c.enum_told-in-Missed-1.given.1 ∙ q));
+      plain = sym c.digit.ensures ∙ not-false _ c.if-not-digit.false;
+      full = all_set s.args.met s.args.count F.result s.ranges.met.fits s.requires F.ensures.1 c.if-first_bits-ne0.false;
+      unmet = λ q. absurd (missed_not_unmet _ (sym c.enum_told-in-Missed-1.is ∙ q));
     }
 
 pub is_done_spec : {M : Type 1} → statement M

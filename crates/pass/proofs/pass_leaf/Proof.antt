@@ -11,7 +11,7 @@ use Rattle.pass.proofs.pass_leaf.Statement.{statement}
 use Rattle.pass.proofs.pass_leaf.Tie as tie
 
 pass-words-requires : tie.Need-pass_words-r-requires
-pass-words-requires c κs = let s = c.before.before.before.before in (s.requires.0, (s.requires.1.0, s.requires.1.1, s.requires.1.2))
+pass-words-requires c κs = let s = c in (s.requires.0, (s.requires.1.0, s.requires.1.1, s.requires.1.2))
 
 element-copy-out-put-entry : tie.Need-bounds-firsts-64
 element-copy-out-put-entry c = search rules
@@ -20,20 +20,20 @@ element-copy-out-put-entry-2 : tie.Need-bounds-firsts-65
 element-copy-out-put-entry-2 c = search rules
 
 put-entry-requires : tie.Need-put_entry-requires
-put-entry-requires c κs = (c.before.before.before.before.before.before.before.before.requires.1.1, omega arith)
+put-entry-requires c κs = (c.requires.1.1, omega arith)
 
 -- the table of leaves has room
-room : (k : tie.After-put_entry-arg-3-1) → (let a = k.before.before.before.before.before.before.before.before.args in 2 * a.leaf.number + 1 < length a.plains.now)
-room k = omega (arith, k.before.before.before.before.before.before.before.before.requires.1.1)
+room : (k : tie.After-put_entry-arg-3-1) → (let a = k.args in 2 * a.leaf.number + 1 < length a.plains.now)
+room k = omega (arith, k.requires.1.1)
 
 returns : tie.Need-returns
 returns c =
-    let s = c.before.before.before.before.before.before.before.before.before.before in
+    let s = c in
     let a = s.args in
-    let p = c.before.before.before.before.before.pass_words-r in
+    let p = c.pass_words-r in
     let firsts = p.new.1.1.1.1.1.1.0 in
     let rows = p.new.1.1.1.1.1.1.1.0 in
-    let g = c.before.put_entry in (
+    let g = c.put_entry in (
       p.ensures.0,
       λ h constants v t A.
           leaf_done (stored_by a.sizes a.clauses.now constants) h a.leaf.search a.leaf.number a.seen _ _ _ A p.result firsts rows

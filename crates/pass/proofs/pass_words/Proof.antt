@@ -26,51 +26,51 @@ word-count-requires : tie.Need-word_count-words-requires invariant-loop-w decrea
 word-count-requires c κs = omega (arith, c.requires.0.variables)
 
 loop-holds : tie.Need-loop-w-init invariant-loop-w decreases-loop-w
-loop-holds c = (omega arith, c.before.requires.1.2, λ values v t. (v, t), λ h constants v t A. A, refl)
+loop-holds c = (omega arith, c.requires.1.2, λ values v t. (v, t), λ h constants v t A. A, refl)
 
 element-copy-out-is-done : tie.Need-bounds-sizes-1 invariant-loop-w decreases-loop-w
 element-copy-out-is-done c = search rules
 
 is-done-requires : tie.Need-is_done-requires invariant-loop-w decreases-loop-w
-is-done-requires c κs = omega (arith, c.before.before.before.before.requires.0.few)
+is-done-requires c κs = omega (arith, c.requires.0.few)
 
 returns : tie.Need-returns-then-is_done invariant-loop-w decreases-loop-w
 returns c =
-    let s = c.before.before.before.before.before.before in
+    let s = c in
     let a = s.args in
-    let l = c.before.before.before.before.loop-w in (
+    let l = c.loop-w in (
       l.invariant.2,
       (
         λ h constants v t A.
             amid_done (stored_by a.t3 a.clauses.now constants) h a.search a.number l.w (word_count a.t3.free) l.r l.firsts l.rows
-            (omega (arith, c.before.before.before.loop-w-test.true, c.before.before.before.before.before.word_count-words.ensures))
-            (c.before.is_done.ensures c.if-is_done.true) (l.invariant.3 h constants v t A),
+            (omega (arith, c.loop-w-test.true, c.word_count-words.ensures))
+            (c.is_done.ensures c.if-is_done.true) (l.invariant.3 h constants v t A),
         l.invariant.4,
       ),
     )
 
 move-terms-requires : tie.Need-move_terms-requires invariant-loop-w decreases-loop-w
-move-terms-requires c κs = (c.before.before.before.before.before.before.before.requires.0.variables, omega arith)
+move-terms-requires c κs = (c.requires.0.variables, omega arith)
 
 pass-word-requires : tie.Need-pass_word-r-requires invariant-loop-w decreases-loop-w
 pass-word-requires c κs =
-    let s = c.before.before.before.before.before.before.before.before.before.before.before in
-    let l = c.before.before.before.before.before.before.before.before.before.loop-w in
+    let s = c in
+    let l = c.loop-w in
     let (values, v, t) = l.invariant.1 in
-    (s.requires.0, (s.requires.1.0, s.requires.1.1, omega (arith, c.before.before.before.before.before.before.before.before.loop-w-test.true, c.before.before.before.before.before.before.before.before.before.before.word_count-words.ensures), (values, c.before.before.before.move_terms.ensures values v t)))
+    (s.requires.0, (s.requires.1.0, s.requires.1.1, omega (arith, c.loop-w-test.true, c.word_count-words.ensures), (values, c.move_terms.ensures values v t)))
 
 add-w : tie.Need-overflow_add-w invariant-loop-w decreases-loop-w
-add-w c = omega (arith, c.before.before.before.before.before.before.before.before.before.loop-w-test.true)
+add-w c = omega (arith, c.loop-w-test.true)
 
 loop-less : tie.Need-loop-w-smaller invariant-loop-w decreases-loop-w
-loop-less c = omega (arith, c.before.before.before.before.before.before.before.before.before.loop-w-test.true)
+loop-less c = omega (arith, c.loop-w-test.true)
 
 loop-again : tie.Need-loop-w-preserved invariant-loop-w decreases-loop-w
 loop-again c =
-    let l = c.before.before.before.before.before.before.before.before.before.before.loop-w in
-    let moved = c.before.before.before.before.move_terms.ensures in
+    let l = c.loop-w in
+    let moved = c.move_terms.ensures in
     let passed = c.pass_word-r.ensures in (
-      omega (arith, c.before.before.before.before.before.before.before.before.before.loop-w-test.true),
+      omega (arith, c.loop-w-test.true),
       (let (values, v, t) = l.invariant.1 in (values, l.w, passed.0 values (moved values v t))),
       λ values v t. (let (u, s) = l.invariant.2 values v t in (l.w, passed.0 values (moved values u s))),
       λ h constants v t A. (let (u, s) = l.invariant.2 _ v t in passed.1.0 h constants (moved _ u s) (l.invariant.3 h constants v t A)),
@@ -79,9 +79,9 @@ loop-again c =
 
 returns-2 : tie.Need-returns invariant-loop-w decreases-loop-w
 returns-2 c =
-    let a = c.before.before.before.args in
-    let l = c.before.loop-w in
-    let e : l.w ≡ word_count a.t3.free = omega (arith, c.loop-w-test.false, c.before.before.word_count-words.ensures) in
+    let a = c.args in
+    let l = c.loop-w in
+    let e : l.w ≡ word_count a.t3.free = omega (arith, c.loop-w-test.false, c.word_count-words.ensures) in
     (l.invariant.2, (λ h constants v t A. rw e at (l.invariant.3 h constants v t A), l.invariant.4))
 
 pub pass_words_spec : {M : Type 1} → statement M

@@ -11,11 +11,11 @@ copy-leaf-requires c κs = search rules
 
 returns : tie.Need-returns-then-like-number
 returns c =
-    let s = c.before.before.before in
+    let s = c in
     let a = s.args in (
       s.requires.1.4,
       λ h constants e like A.
-          leaf_copied (stored_by a.sizes a.clauses.now constants) h a.leaf.search a.leaf.number a.leaf.like c.before.before.if-like-number.true (like c.before.before.if-like-number.true ∙ e)
+          leaf_copied (stored_by a.sizes a.clauses.now constants) h a.leaf.search a.leaf.number a.leaf.like c.if-like-number.true (like c.if-like-number.true ∙ e)
           a.seen _ _ _ _ _ s.requires.0.few.0 c.copy_leaf.ensures A,
     )
 
@@ -24,16 +24,16 @@ set-constants-requires c κs = search rules
 
 pass-leaf-requires : tie.Need-pass_leaf-requires
 pass-leaf-requires c κs =
-    let s = c.before.before.before.before.before.before.before in
+    let s = c in
     let (old, v, within, t) = s.requires.1.4 in
-    (s.requires.0, (s.requires.1.0, s.requires.1.1, (s.args.leaf.values, v, c.before.before.before.before.set_constants.ensures _ _ old v s.requires.0.variables within s.requires.1.3 t)))
+    (s.requires.0, (s.requires.1.0, s.requires.1.1, (s.args.leaf.values, v, c.set_constants.ensures _ _ old v s.requires.0.variables within s.requires.1.3 t)))
 
 returns-2 : tie.Need-returns
 returns-2 c =
-    let s = c.before.before.before.before.before.before.before.before in
+    let s = c in
     let a = s.args in
     let (old, v, within, t) = s.requires.1.4 in
-    let placed = c.before.before.before.before.before.set_constants.ensures a.sizes.free a.sizes.own old v s.requires.0.variables within s.requires.1.3 t in
+    let placed = c.set_constants.ensures a.sizes.free a.sizes.own old v s.requires.0.variables within s.requires.1.3 t in
     let passed = c.pass_leaf.ensures in (
       (let (u, w) = passed.0 a.leaf.values v placed in (a.leaf.values, u, s.requires.1.3, w)),
       λ h constants e like A. passed.1 h constants v (rw e at placed) A,

@@ -8,12 +8,12 @@ use Rattle.plans.proofs.are_same.Tie as tie
 
 returns : tie.Need-returns-then-a-b
 returns c =
-    let a = c.before.before.before.before.before.args in
-    sym (ap (λ t. t && eqb a.a.choices a.b.choices) (eq-eqb _ _ c.before.before.if-a-b.true))
+    let a = c.args in
+    sym (ap (λ t. t && eqb a.a.choices a.b.choices) (eq-eqb _ _ c.if-a-b.true))
 
 returns-2 : tie.Need-returns-else-a-b
 returns-2 c =
-    let a = c.before.before.before.args in
+    let a = c.args in
     let e = ne_eqb a.a.word a.b.word c.if-a-b.false in
     e ∙ sym (ap (λ t. t && eqb a.a.choices a.b.choices) e)
 

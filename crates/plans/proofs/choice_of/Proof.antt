@@ -20,23 +20,23 @@ power-requires : tie.Need-power-requires
 power-requires c κs = search rules
 
 sub-t6 : tie.Need-overflow_sub-passing
-sub-t6 c = omega (arith, c.power.ensures, pow_pos c.before.word_digits.result)
+sub-t6 c = omega (arith, c.power.ensures, pow_pos c.word_digits.result)
 
 -- the number in the leaf
-here : (c : tie.After-power) → 64 * bit_and c.before.before.args.kept.word (c.power.result - 1) + lowest_in c.before.before.args.kept.choices
-    ≡ least_number c.before.before.args.kept % leaf_width c.before.before.args.free
+here : (c : tie.After-power) → 64 * bit_and c.args.kept.word (c.power.result - 1) + lowest_in c.args.kept.choices
+    ≡ least_number c.args.kept % leaf_width c.args.free
 here c =
-    let a = c.before.before.args in
-    let digits = c.before.word_digits in
+    let a = c.args in
+    let digits = c.word_digits in
     ap (λ w. 64 * w + lowest_in a.kept.choices)
     (ap (λ x. bit_and a.kept.word (x - 1)) c.power.ensures ∙ and_mask a.kept.word digits.result ∙ ap (◌%◌ a.kept.word) digits.ensures.0)
     ∙ number_choice a.kept.word _ a.free (lowest_in_lt a.kept.choices)
 
 least-choice-requires : tie.Need-least_choice-requires
-least-choice-requires c κs = let s = c.before.before.before in (s.requires.0, rw (here c.before) s.requires.1)
+least-choice-requires c κs = let s = c in (s.requires.0, rw (here c.before) s.requires.1)
 
 cast-result : tie.Need-overflow_cast-result
-cast-result c = let s = c.before.before.before.before in omega (arith, c.least_choice.ensures, here c.before.before, s.requires.1, pow_mono {j = 12} s.requires.0)
+cast-result c = let s = c in omega (arith, c.least_choice.ensures, here c.before.before, s.requires.1, pow_mono {j = 12} s.requires.0)
 
 returns : tie.Need-returns
 returns c = c.least_choice.ensures ∙ here c.before.before

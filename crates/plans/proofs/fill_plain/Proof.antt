@@ -15,16 +15,16 @@ abbrev decreases-loop-b : tie.decreases-loop-b
 decreases-loop-b leaves count free plain₀ b₀ plain b = count - b
 
 loop-holds : tie.Need-loop-b-init invariant-loop-b decreases-loop-b
-loop-holds c = (omega arith, c.before.requires.2, λ i l. absurd (omega arith))
+loop-holds c = (omega arith, c.requires.2, λ i l. absurd (omega arith))
 
 plain-at-requires : tie.Need-plain_at-requires invariant-loop-b decreases-loop-b
 plain-at-requires c κs =
-    let s = c.before.before.before.before in
-    let l = c.before.before.loop-b in
+    let s = c in
+    let l = c.loop-b in
     let leaves = s.args.leaves.now in (
       (omega arith, s.requires.1, l.invariant.1),
       (
-        s.requires.3 l.b c.before.loop-b-test.true,
+        s.requires.3 l.b c.loop-b-test.true,
         λ p. l.invariant.2 (l.b - 1) (omega arith),
       ),
     )
@@ -43,8 +43,8 @@ loop-less c = omega arith
 
 loop-again : tie.Need-loop-b-preserved invariant-loop-b decreases-loop-b
 loop-again c =
-    let l = c.before.before.before.loop-b in
-    let leaves = c.before.before.before.before.before.args.leaves.now in (
+    let l = c.loop-b in
+    let leaves = c.args.leaves.now in (
       omega arith,
       simp length-set l.invariant.1,
       store_law (λ i x. i < l.b + 1 → x ≡ number_at leaves i) l.plain l.b c.plain_at.result (omega arith)
@@ -55,7 +55,7 @@ same_length : tie.Need-shape_of-plain invariant-loop-b decreases-loop-b
 same_length c = omega arith
 
 returns : tie.Need-returns invariant-loop-b decreases-loop-b
-returns c b l = c.before.loop-b.invariant.2 b (omega arith)
+returns c b l = c.loop-b.invariant.2 b (omega arith)
 
 pub fill_plain_spec : {M : Type 1} → statement M
 fill_plain_spec =

@@ -15,8 +15,8 @@ shr-result c = search rules
 
 returns : tie.Need-returns
 returns c =
-    let a = c.before.before.args in
-    ap (◌/◌ a.kept.word) c.before.word_digits.ensures.0 ∙ number_leaf a.kept.word _ a.free (lowest_in_lt a.kept.choices)
+    let a = c.args in
+    ap (◌/◌ a.kept.word) c.word_digits.ensures.0 ∙ number_leaf a.kept.word _ a.free (lowest_in_lt a.kept.choices)
 
 pub leaf_of_spec : {M : Type 1} → statement M
 leaf_of_spec = tie.close (tie.spec word-digits-requires shr-result returns)

@@ -33,11 +33,11 @@ shared-slice-read-result c = search rules
 
 returns : tie.Need-returns-then-are_same
 returns c =
-    let same = c.before.before in
-    let first = same.before.before.before in
-    first.before.before.requires.1.1 same.before.before.if-b-gt0.true
-    ∙ sym same.before.leaf_word.ensures
-    ∙ same_least _ _ (of_true (sym same.are_same.ensures ∙ c.before.if-are_same.true))
+    let same = c in
+    let first = same in
+    first.requires.1.1 same.if-b-gt0.true
+    ∙ sym same.leaf_word.ensures
+    ∙ same_least _ _ (of_true (sym same.are_same.ensures ∙ c.if-are_same.true))
     ∙ first.leaf_word-kept.ensures
 
 -- the number of the leaf's word is the choice
@@ -47,12 +47,12 @@ alone s = mod-eq_of_lt (le_trans s.requires.1.0 (width_enough s.args.free))
 choice-of-requires : tie.Need-choice_of-requires
 choice-of-requires c κs =
     let s = c.before.before.before in
-    (s.requires.0.1, rw (c.before.leaf_word-kept.ensures, alone s) s.requires.1.0)
+    (s.requires.0.1, rw (c.leaf_word-kept.ensures, alone s) s.requires.1.0)
 
 returns-2 : tie.Need-returns
 returns-2 c =
-    let first = c.before.before in
-    let s = first.before.before in
+    let first = c in
+    let s = first.before.before.before.before in
     c.choice_of.ensures ∙ ap (λ z. z % leaf_width s.args.free) first.leaf_word-kept.ensures ∙ alone s
 
 pub plain_at_spec : {M : Type 1} → statement M

@@ -14,8 +14,8 @@ slice-aggregate-fill-plain c = search rules
 
 fill-plain-requires : tie.Need-fill_plain-requires
 fill-plain-requires c κs =
-    let s = c.before.before in
-    let leaves = c.before.power.ensures in
+    let s = c in
+    let leaves = c.power.ensures in
     (omega (arith, leaves, leaves_le s.args.outline s.args.firsts.now s.requires.0), s.requires.0.variables, refl, λ b l. s.requires.1 b (rw leaves at l))
 
 slice-aggregate-fill-entries : tie.Need-slice_bounds-fill_entries-end
@@ -35,10 +35,10 @@ add-t16 c = search rules
 
 returns : tie.Need-returns
 returns c R e P =
-    let filled = c.before.before.before.before in
-    let plain = filled.before.before.before.before in
-    let s = plain.before.before.before in
-    made s.args.outline s.args.firsts.now s.args.leaves.now R P e _ _ _ (λ b l. plain.fill_plain.ensures b (rw plain.before.before.power.ensures l))
+    let filled = c in
+    let plain = filled in
+    let s = plain in
+    made s.args.outline s.args.firsts.now s.args.leaves.now R P e _ _ _ (λ b l. plain.fill_plain.ensures b (rw plain.power.ensures l))
     filled.fill_entries.ensures
 
 pub plan_of_spec : {M : Type 1} → statement M

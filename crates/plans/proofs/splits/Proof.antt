@@ -17,19 +17,19 @@ loop-holds : tie.Need-loop-k-init invariant-loop-k decreases-loop-k
 loop-holds c = omega arith
 
 power-requires : tie.Need-power-requires invariant-loop-k decreases-loop-k
-power-requires c κs = omega (arith, c.loop-k.invariant, c_most c.before.args.n 5 c.before.requires)
+power-requires c κs = omega (arith, c.loop-k.invariant, c_most c.args.n 5 c.requires)
 
 add-k : tie.Need-overflow_add-k invariant-loop-k decreases-loop-k
-add-k c = omega (arith, c.before.before.loop-k.invariant, c_most c.before.before.before.args.n 5 c.before.before.before.requires)
+add-k c = omega (arith, c.loop-k.invariant, c_most c.args.n 5 c.requires)
 
 loop-less : tie.Need-loop-k-smaller invariant-loop-k decreases-loop-k
-loop-less c = omega (arith, c_more c.before.before.before.args.n c.before.before.loop-k.k (rw (← c.before.power.ensures) c.loop-k-test.true))
+loop-less c = omega (arith, c_more c.args.n c.loop-k.k (rw (← c.power.ensures) c.loop-k-test.true))
 
 loop-again : tie.Need-loop-k-preserved invariant-loop-k decreases-loop-k
-loop-again c = omega (arith, c_more c.before.before.before.args.n c.before.before.loop-k.k (rw (← c.before.power.ensures) c.loop-k-test.true))
+loop-again c = omega (arith, c_more c.args.n c.loop-k.k (rw (← c.power.ensures) c.loop-k-test.true))
 
 returns : tie.Need-returns invariant-loop-k decreases-loop-k
-returns c = le_antisymm c.before.before.loop-k.invariant (c_most _ _ (rw (← c.before.power.ensures) c.loop-k-test.false))
+returns c = le_antisymm c.loop-k.invariant (c_most _ _ (rw (← c.power.ensures) c.loop-k-test.false))
 
 pub splits_spec : {M : Type 1} → statement M
 splits_spec =

@@ -5,10 +5,10 @@ use Rattle.plans.proofs.word_digits.Statement.{statement}
 use Rattle.plans.proofs.word_digits.Tie as tie
 
 returns : tie.Need-returns-then-n-lt6
-returns c = (words_few c.before.args.n c.if-n-lt6.true, omega arith)
+returns c = (words_few c.args.n c.if-n-lt6.true, omega arith)
 
 returns-2 : tie.Need-returns
-returns-2 c = (words_many c.before.args.n, omega arith)
+returns-2 c = (words_many c.args.n, omega arith)
 
 pub word_digits_spec : {M : Type 1} → statement M
 word_digits_spec = tie.close (tie.spec returns returns-2)

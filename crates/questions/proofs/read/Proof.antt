@@ -21,16 +21,16 @@ refused-requires c κs = search rules
 
 returns : tie.Need-returns-in_default
 returns c =
-    refused_head _ _ c.before.before.before.before.read_head-h.ensures _ _ _ _ c.before.before.enum_told-1.given.1 c.before.wrong_of.ensures c.refused.ensures
+    refused_head _ _ c.read_head-h.ensures _ _ _ _ c.enum_told-1.is c.wrong_of.ensures c.refused.ensures
 
 read-commands-requires : tie.Need-read_commands-requires
 read-commands-requires c κs =
-    let H = head_taken _ _ c.before.before.before.before.read_head-h.ensures _ _ _ c.before.before.h-1.given.1 in
+    let H = head_taken _ _ c.read_head-h.ensures _ _ _ c.h-1.given.1 in
     (H.0, (H.1, c.read_commands-arg-1.given.0.1))
 
 returns-2 : tie.Need-returns
 returns-2 c =
-    read_on_lem _ _ c.before.before.before.before.before.read_head-h.ensures _ _ _ c.before.before.before.h-1.given.1 _ _ _ c.read_commands.ensures
+    read_on_lem _ _ c.read_head-h.ensures _ _ _ c.h-1.given.1 _ _ _ c.read_commands.ensures
 
 pub read_spec : {M : Type 1} → statement M
 read_spec =

@@ -14,7 +14,7 @@ abbrev decreases-loop-defined : tie.decreases-loop-defined
 decreases-loop-defined bytes constants₀ defined₀ at₀ constants defined at = 32 - defined
 
 loop-holds : tie.Need-loop-defined-init invariant-loop-defined decreases-loop-defined
-loop-holds c = let s = c.before.before in led_none _ _ s.requires.0 s.requires.1
+loop-holds c = let s = c in led_none _ _ s.requires.0 s.requires.1
 
 constant-at-requires : tie.Need-constant_at-r-requires invariant-loop-defined decreases-loop-defined
 constant-at-requires c κs = search rules
@@ -27,38 +27,38 @@ enum_told c = search rules
 
 same_length : tie.Need-shape_of-constants-in_default invariant-loop-defined decreases-loop-defined
 same_length c =
-    omega (arith, c.before.before.before.before.loop-defined.invariant.size, c.before.before.before.before.before.before.before.requires.1)
+    omega (arith, c.loop-defined.invariant.size, c.requires.1)
 
 returns : tie.Need-returns-in_default invariant-loop-defined decreases-loop-defined
 returns c =
-    let L = c.before.before.before.before.loop-defined.invariant in (
-      led_end L c.before.before.before.loop-defined-test.true (sym c.enum_told-1.given.1 ∙ c.before.before.constant_at-r.ensures),
+    let L = c.loop-defined.invariant in (
+      led_end L c.loop-defined-test.true (sym c.enum_told-1.is ∙ c.constant_at-r.ensures),
       (L.few, omega (arith, L.place, L.within)),
     )
 
 mul-constants : tie.Need-offset_bounds-constants-defined invariant-loop-defined decreases-loop-defined
-mul-constants c = omega (arith, c.before.before.before.before.before.loop-defined.invariant.few)
+mul-constants c = omega (arith, c.loop-defined.invariant.few)
 
 slice-write-constants : tie.Need-bounds-constants-defined invariant-loop-defined decreases-loop-defined
-slice-write-constants c = omega (arith, c.before.before.before.before.loop-defined-test.true, c.before.before.before.before.before.loop-defined.invariant.size)
+slice-write-constants c = omega (arith, c.loop-defined-test.true, c.loop-defined.invariant.size)
 
 add-defined : tie.Need-overflow_add-defined invariant-loop-defined decreases-loop-defined
-add-defined c = omega (arith, c.before.before.before.before.loop-defined-test.true)
+add-defined c = omega (arith, c.loop-defined-test.true)
 
 loop-less : tie.Need-loop-defined-smaller invariant-loop-defined decreases-loop-defined
-loop-less c = omega (arith, c.before.before.before.before.loop-defined-test.true)
+loop-less c = omega (arith, c.loop-defined-test.true)
 
 loop-again : tie.Need-loop-defined-preserved invariant-loop-defined decreases-loop-defined
 loop-again c =
-    led_more c.before.before.before.before.before.loop-defined.invariant c.before.before.before.before.loop-defined-test.true _ _
-    (sym c.before.r-1.given.1 ∙ c.before.before.before.constant_at-r.ensures)
+    led_more c.loop-defined.invariant c.loop-defined-test.true _ _
+    (sym c.r-1.given.1 ∙ c.constant_at-r.ensures)
 
 same-length-2 : tie.Need-shape_of-constants invariant-loop-defined decreases-loop-defined
-same-length-2 c = omega (arith, c.before.loop-defined.invariant.size, c.before.before.before.before.requires.1)
+same-length-2 c = omega (arith, c.loop-defined.invariant.size, c.requires.1)
 
 returns-2 : tie.Need-returns invariant-loop-defined decreases-loop-defined
 returns-2 c =
-    let L = c.before.loop-defined.invariant in
+    let L = c.loop-defined.invariant in
     (led_last L c.loop-defined-test.false, (L.few, omega (arith, L.place, L.within)))
 
 pub read_constants_spec : {M : Type 1} → statement M

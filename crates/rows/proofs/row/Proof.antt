@@ -12,7 +12,7 @@ row-range-requires : tie.Need-row_range-range-requires
 row-range-requires c κs = search rules
 
 part-result-end : tie.Need-slice_bounds-result-end
-part-result-end c = rw c.before.row_range-range.ensures (range_inside _ _ _).0
+part-result-end c = rw c.row_range-range.ensures (range_inside _ _ _).0
 
 add-end : tie.Need-overflow_add-end
 add-end c = omega (arith, part-result-end c)
@@ -26,7 +26,7 @@ part-result-start c = search rules
 returns : tie.Need-returns
 unfolding row_part
 returns c =
-    let range = c.before.before.row_range-range in
+    let range = c.row_range-range in
     let size : range.result.offset + range.result.bytes - range.result.offset ≡ range.result.bytes = omega arith in
     rw (size, range.ensures) (refl, (refl, omega arith))
 

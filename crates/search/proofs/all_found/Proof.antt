@@ -11,10 +11,10 @@ all-set-requires : tie.Need-all_set-requires
 all-set-requires c κs = search rules
 
 returns : tie.Need-returns-then-digit
-returns c = rw (sym c.before.before.digit.ensures ∙ c.before.if-digit.true) c.all_set.ensures
+returns c = rw (sym c.digit.ensures ∙ c.if-digit.true) c.all_set.ensures
 
 returns-2 : tie.Need-returns-else-digit
-returns-2 c = c.if-digit.false ∙ sym (rw (sym c.before.digit.ensures ∙ c.if-digit.false))
+returns-2 c = c.if-digit.false ∙ sym (rw (sym c.digit.ensures ∙ c.if-digit.false))
 
 pub all_found_spec : {M : Type 1} → statement M
 all_found_spec = tie.close (tie.spec digit-requires all-set-requires returns returns-2)

@@ -11,8 +11,8 @@ lowest-requires c κs = search rules
 
 returns : tie.Need-returns
 returns c =
-    let a = c.before.args in
-    ap (leb a.count) c.lowest.ensures ∙ bits_all 64 a.x a.count c.before.ranges.x.fits c.before.requires
+    let a = c.args in
+    ap (leb a.count) c.lowest.ensures ∙ bits_all 64 a.x a.count c.ranges.x.fits c.requires
 
 pub all_set_spec : {M : Type 1} → statement M
 all_set_spec = tie.close (tie.spec lowest-requires returns)

@@ -23,8 +23,8 @@ is-missed-requires c κs = omega arith
 
 returns : tie.Need-returns-then-is_missed invariant-loop-lowest decreases-loop-lowest
 returns c =
-    let l = c.before.before.before.loop-lowest in
-    sym (first_is _ _ l.lowest c.before.before.loop-lowest-test.true l.invariant (sym c.before.is_missed.ensures ∙ c.if-is_missed.true))
+    let l = c.loop-lowest in
+    sym (first_is _ _ l.lowest c.loop-lowest-test.true l.invariant (sym c.is_missed.ensures ∙ c.if-is_missed.true))
 
 add-lowest : tie.Need-overflow_add-lowest invariant-loop-lowest decreases-loop-lowest
 add-lowest c = omega arith
@@ -34,10 +34,10 @@ loop-less c = omega arith
 
 loop-again : tie.Need-loop-lowest-preserved invariant-loop-lowest decreases-loop-lowest
 loop-again c =
-    below_more _ _ c.before.before.before.loop-lowest.invariant (sym c.before.is_missed.ensures ∙ c.if-is_missed.false)
+    below_more _ _ c.loop-lowest.invariant (sym c.is_missed.ensures ∙ c.if-is_missed.false)
 
 returns-2 : tie.Need-returns invariant-loop-lowest decreases-loop-lowest
-returns-2 c = sym (first_none _ _ (λ k h. c.before.loop-lowest.invariant k (omega arith)))
+returns-2 c = sym (first_none _ _ (λ k h. c.loop-lowest.invariant k (omega arith)))
 
 pub lowest_missed_spec : {M : Type 1} → statement M
 lowest_missed_spec =

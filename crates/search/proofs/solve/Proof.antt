@@ -7,7 +7,7 @@ use Rattle.search.proofs.solve.Tie as tie
 
 pass-leaves-requires : tie.Need-pass_leaves-seen-requires
 pass-leaves-requires c κs =
-    let p = c.before.before.before.requires in
+    let p = c.requires in
     (p.0, (p.1.0, p.1.1, p.1.2, λ k. replicate_at 96 k 0))
 
 element-copy-out-all-found : tie.Need-bounds-sizes-1
@@ -18,8 +18,8 @@ all-found-requires c κs = search rules
 
 returns : tie.Need-returns
 returns c =
-    let s = c.before.before.before.before.before.before in
-    rw c.all_found.ensures (solved _ _ _ _ _ _ _ c.before.before.pass_leaves-seen.ensures s.requires.1.3)
+    let s = c in
+    rw c.all_found.ensures (solved _ _ _ _ _ _ _ c.pass_leaves-seen.ensures s.requires.1.3)
 
 pub solve_spec : {M : Type 1} → statement M
 solve_spec =

@@ -12,7 +12,7 @@ element-copy-out-second-count c = search rules
 
 pass-leaves-requires : tie.Need-pass_leaves-seen-requires
 pass-leaves-requires c κs =
-    let p = c.before.before.before.before.requires in
+    let p = c.requires in
     (p.0, (tt, p.1.0, p.1.1, λ k. replicate_at 96 k 0))
 
 element-copy-out-all-found : tie.Need-bounds-sizes-1
@@ -23,16 +23,16 @@ all-found-requires c κs = search rules
 
 returns : tie.Need-returns-then-not-all_found
 returns c =
-    surveyed_none _ _ _ _ _ _ c.before.before.before.pass_leaves-seen.ensures (sym c.before.all_found.ensures ∙ not-true _ c.if-not-all_found.true)
+    surveyed_none _ _ _ _ _ _ c.pass_leaves-seen.ensures (sym c.all_found.ensures ∙ not-true _ c.if-not-all_found.true)
 
 digit-requires : tie.Need-digit-requires
 digit-requires c κs = search rules
 
 returns-2 : tie.Need-returns-then-digit
 returns-2 c =
-    let found = c.before.before in
-    surveyed_unmet _ _ _ _ _ _ found.before.before.before.pass_leaves-seen.ensures
-    (sym found.before.all_found.ensures ∙ not-false _ found.if-not-all_found.false) (sym c.before.digit.ensures ∙ c.if-digit.true)
+    let found = c in
+    surveyed_unmet _ _ _ _ _ _ found.pass_leaves-seen.ensures
+    (sym found.all_found.ensures ∙ not-false _ found.if-not-all_found.false) (sym c.digit.ensures ∙ c.if-digit.true)
 
 element-copy-out-lowest-missed : tie.Need-bounds-sizes-1-2
 element-copy-out-lowest-missed c = search rules
@@ -42,10 +42,10 @@ lowest-missed-requires c κs = search rules
 
 returns-3 : tie.Need-returns
 returns-3 c =
-    let more = c.before.before.before in
-    let found = more.before.before in
-    surveyed_missed _ _ _ _ _ _ found.before.before.before.pass_leaves-seen.ensures _
-    (sym found.before.all_found.ensures ∙ not-false _ found.if-not-all_found.false) (sym more.before.digit.ensures ∙ more.if-digit.false) c.lowest_missed.ensures
+    let more = c in
+    let found = more in
+    surveyed_missed _ _ _ _ _ _ found.pass_leaves-seen.ensures _
+    (sym found.all_found.ensures ∙ not-false _ found.if-not-all_found.false) (sym more.digit.ensures ∙ more.if-digit.false) c.lowest_missed.ensures
 
 pub survey_leaves_spec : {M : Type 1} → statement M
 survey_leaves_spec =

@@ -15,7 +15,7 @@ slice-relend-prefix-fill : tie.Need-slice_bounds-fill-end
 slice-relend-prefix-fill c = search rules
 
 slice-aggregate-fill : tie.Need-slice_bounds-fill-end-2
-slice-aggregate-fill c = sym (length-take-le (answer_bytes constant_levels) c.before.before.args.answer-1.now c.before.before.requires)
+slice-aggregate-fill c = sym (length-take-le (answer_bytes constant_levels) c.args.answer.now c.requires)
 
 fill-requires : tie.Need-fill-requires
 fill-requires c κs = search rules
@@ -26,9 +26,9 @@ same_length c = search rules
 returns : tie.Need-returns
 unfolding emptied zeros
 returns c =
-    let start = c.before.before.before.before.before in
-    let size = length-take-le (answer_bytes constant_levels) start.args.answer-1.now start.requires in
-    ap (λ l. l ++ drop (answer_bytes constant_levels) start.args.answer-1.now) (c.before.before.fill.ensures ∙ ap (λ (n : ℕ). replicate n 0) size)
+    let start = c in
+    let size = length-take-le (answer_bytes constant_levels) start.args.answer.now start.requires in
+    ap (λ l. l ++ drop (answer_bytes constant_levels) start.args.answer.now) (c.fill.ensures ∙ ap (λ (n : ℕ). replicate n 0) size)
 
 pub empty_rows_spec : {M : Type 1} → statement M
 empty_rows_spec =

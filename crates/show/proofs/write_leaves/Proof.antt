@@ -34,27 +34,27 @@ power-requires c κs = omega arith
 
 loop-holds : tie.Need-loop-k-init invariant-loop-k decreases-loop-k
 loop-holds c =
-    let start = c.before.before in
+    let start = c in
     (omega arith, refl, rw start.requires.1 (blocks_none _ (digits start.args.plain.now start.args.p) (row_bytes constant_levels)))
 
 mul-digit-of : tie.Need-offset_bounds-plain-k invariant-loop-k decreases-loop-k
-mul-digit-of c = omega (arith, pow_mono c.before.before.before.before.before.requires.0)
+mul-digit-of c = omega (arith, pow_mono c.requires.0)
 
 element-copy-out-digit-of : tie.Need-bounds-plain-k invariant-loop-k decreases-loop-k
-element-copy-out-digit-of c = omega (arith, pow_mono c.before.before.before.before.before.requires.0)
+element-copy-out-digit-of c = omega (arith, pow_mono c.requires.0)
 
 digit-of-requires : tie.Need-digit_of-requires invariant-loop-k decreases-loop-k
-digit-of-requires c κs = c.before.before.before.before.before.before.requires.2
+digit-of-requires c κs = c.requires.2
 
 change-block-requires : tie.Need-change_block-requires invariant-loop-k decreases-loop-k
 change-block-requires c κs =
-    let start = c.before.before.before.before.before.before.before in
-    let l = c.before.before.before.before.loop-k in
+    let start = c in
+    let l = c.loop-k in
     let within : start.args.low ≤ row_levels constant_levels = omega arith in
     let below : l.k < 2 ^ start.args.low = omega arith in
     let size = l.invariant.1 ∙ ap length start.requires.1 ∙ zeros_length (row_bytes constant_levels) in (
       subst (Inside (row_levels constant_levels - start.args.low) l.k) (sym size) (leaf_inside (lit≤ tt) (lit≤ tt) within below),
-      blocks_next _ (digits start.args.plain.now start.args.p) _ l.row-1 l.invariant.2,
+      blocks_next _ (digits start.args.plain.now start.args.p) _ l.row l.invariant.2,
     )
 
 add-k : tie.Need-overflow_add-k invariant-loop-k decreases-loop-k
@@ -65,21 +65,21 @@ loop-less c = omega arith
 
 loop-again : tie.Need-loop-k-preserved invariant-loop-k decreases-loop-k
 loop-again c =
-    let start = c.before.before.before.before.before.before.before.before.before.before in
-    let l = c.before.before.before.before.before.before.before.loop-k in (
+    let start = c in
+    let l = c.loop-k in (
       omega arith,
-      c.before.before.change_block.auto.0 ∙ l.invariant.1,
-      blocks_more _ (digits start.args.plain.now start.args.p) _ _ l.row-1 _ l.invariant.2 c.before.before.change_block.ensures c.before.before.before.digit_of.ensures,
+      c.change_block.auto.0 ∙ l.invariant.1,
+      blocks_more _ (digits start.args.plain.now start.args.p) _ _ l.row _ l.invariant.2 c.change_block.ensures c.digit_of.ensures,
     )
 
 same_length : tie.Need-shape_of-row invariant-loop-k decreases-loop-k
-same_length c = c.before.loop-k.invariant.1
+same_length c = c.loop-k.invariant.1
 
 returns : tie.Need-returns invariant-loop-k decreases-loop-k
 returns c =
-    let start = c.before.before.before.before in
+    let start = c in
     let within : start.args.low ≤ row_levels constant_levels = omega arith in
-    λ i l. blocks_all _ (digits start.args.plain.now start.args.p) _ c.before.loop-k.row-1 c.before.loop-k.invariant.2 i (omega (arith, block_lt within l))
+    λ i l. blocks_all _ (digits start.args.plain.now start.args.p) _ c.loop-k.row c.loop-k.invariant.2 i (omega (arith, block_lt within l))
 
 pub write_leaves_spec : {M : Type 1} → statement M
 write_leaves_spec =

@@ -15,12 +15,12 @@ write-leaves-requires c κs = search rules
 
 write-sub-leaves-requires : tie.Need-write_sub_leaves-requires
 write-sub-leaves-requires c κs =
-    let start = c.before.before.before.before.before.before in (
+    let start = c in (
       start.requires.0,
       (
-        c.before.before.before.write_leaves.auto.0 ∙ ap length start.requires.1.0 ∙ zeros_length (row_bytes constant_levels),
+        c.write_leaves.auto.0 ∙ ap length start.requires.1.0 ∙ zeros_length (row_bytes constant_levels),
         start.requires.1.2,
-        shows_plain (row_levels constant_levels) _ start.requires.0 _ _ (rw start.requires.1.1 at c.before.before.before.write_leaves.ensures),
+        shows_plain (row_levels constant_levels) _ start.requires.0 _ _ (rw start.requires.1.1 at c.write_leaves.ensures),
       ),
     )
 
@@ -29,10 +29,10 @@ same_length c = search rules
 
 returns : tie.Need-returns
 returns c =
-    let start = c.before.before.before.before.before.before.before.before.before in
+    let start = c in
     shows_all (row_levels constant_levels) _ start.requires.0 _ (lit≤ tt) _
-    (c.before.before.write_sub_leaves.auto.0 ∙ c.before.before.before.before.before.before.write_leaves.auto.0 ∙ ap length start.requires.1.0 ∙ zeros_length (row_bytes constant_levels))
-    (λ j. (c.slice_known-3-1.given j).fits) c.before.before.write_sub_leaves.ensures
+    (c.write_sub_leaves.auto.0 ∙ c.write_leaves.auto.0 ∙ ap length start.requires.1.0 ∙ zeros_length (row_bytes constant_levels))
+    (λ j. (c.slice_known-3-1.given j).fits) c.write_sub_leaves.ensures
 
 pub write_row_spec : {M : Type 1} → statement M
 write_row_spec =

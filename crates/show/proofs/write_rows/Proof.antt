@@ -20,12 +20,12 @@ abbrev decreases-loop-v : tie.decreases-loop-v
 decreases-loop-v answer₀ n plan plain v₀ answer v = n - v
 
 empty-rows-requires : tie.Need-empty_rows-requires invariant-loop-v decreases-loop-v
-empty-rows-requires c κs = c.before.before.requires.1.0
+empty-rows-requires c κs = c.requires.1.0
 
 loop-holds : tie.Need-loop-v-init invariant-loop-v decreases-loop-v
 loop-holds c =
-    let a = c.before.before.before.before.before.before.args in
-    (omega arith, refl, rw c.before.before.before.empty_rows.ensures (filled_none (row_levels constant_levels) (plan_trees a.n a.plan) a.answer-1.now))
+    let a = c.args in
+    (omega arith, refl, rw c.empty_rows.ensures (filled_none (row_levels constant_levels) (plan_trees a.n a.plan) a.answer.now))
 
 mul-write-row : tie.Need-overflow_mul-v invariant-loop-v decreases-loop-v
 mul-write-row c = omega arith
@@ -53,12 +53,12 @@ sub-write-row-3 c = omega arith
 
 write-row-requires : tie.Need-write_row-requires invariant-loop-v decreases-loop-v
 write-row-requires c κs =
-    let start = c.before.before.before.before.before.before.before.before.before.before in
-    let l = c.before.before.before.loop-v in
+    let start = c in
+    let l = c.loop-v in
     let next : l.v < row_count = omega arith in (
       start.requires.0,
       (
-        filled_next (row_levels constant_levels) (plan_trees start.args.n start.args.plan) _ l.v _ l.answer-1 next (part_size (l.v * row_bytes constant_levels)) l.invariant.2,
+        filled_next (row_levels constant_levels) (plan_trees start.args.n start.args.plan) _ l.v _ l.answer next (part_size (l.v * row_bytes constant_levels)) l.invariant.2,
         refl,
         omega arith,
       ),
@@ -72,11 +72,11 @@ loop-less c = omega arith
 
 loop-again : tie.Need-loop-v-preserved invariant-loop-v decreases-loop-v
 loop-again c =
-    let start = c.before.before.before.before.before.before.before.before.before.before.before.before.before in
-    let l = c.before.before.before.before.before.before.loop-v in
+    let start = c in
+    let l = c.loop-v in
     let next : l.v < row_count = omega arith in
     let trees = plan_trees start.args.n start.args.plan in
-    let e = filled_more (row_levels constant_levels) trees _ l.v _ l.answer-1 next (part_size (l.v * row_bytes constant_levels)) l.invariant.2 _ c.before.before.write_row.ensures in
+    let e = filled_more (row_levels constant_levels) trees _ l.v _ l.answer next (part_size (l.v * row_bytes constant_levels)) l.invariant.2 _ c.write_row.ensures in
     (omega arith, ap length e ∙ filled_length (row_levels constant_levels) _ trees _ (omega arith), e)
 
 same_length : tie.Need-shape_of-answer invariant-loop-v decreases-loop-v
@@ -84,10 +84,10 @@ same_length c = omega arith
 
 returns : tie.Need-returns invariant-loop-v decreases-loop-v
 returns c =
-    let start = c.before.before.before.before.before.before.before.before in
-    let all : c.before.loop-v.v ≡ start.args.n = omega arith in
-    rw (all, c.before.before.before.before.before.empty_rows.ensures) at c.before.loop-v.invariant.2
-    ∙ filled_emptied (row_levels constant_levels) (plan_trees start.args.n start.args.plan) start.args.answer-1.now start.args.n
+    let start = c in
+    let all : c.loop-v.v ≡ start.args.n = omega arith in
+    rw (all, c.empty_rows.ensures) at c.loop-v.invariant.2
+    ∙ filled_emptied (row_levels constant_levels) (plan_trees start.args.n start.args.plan) start.args.answer.now start.args.n
 
 pub write_rows_spec : {M : Type 1} → statement M
 write_rows_spec =

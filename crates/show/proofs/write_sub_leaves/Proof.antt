@@ -21,65 +21,65 @@ sub-height : tie.Need-overflow_sub-height invariant-loop-n decreases-loop-n
 sub-height c = omega arith
 
 loop-holds : tie.Need-loop-n-init invariant-loop-n decreases-loop-n
-loop-holds c = (omega arith, refl, c.before.requires.1.2)
+loop-holds c = (omega arith, refl, c.requires.1.2)
 
 mul-s : tie.Need-offset_bounds-plan-n invariant-loop-n decreases-loop-n
-mul-s c = omega (arith, c.before.before.before.requires.0.few)
+mul-s c = omega (arith, c.requires.0.few)
 
 element-copy-out-s : tie.Need-bounds-plan-n invariant-loop-n decreases-loop-n
-element-copy-out-s c = omega (arith, c.before.before.before.requires.0.few)
+element-copy-out-s c = omega (arith, c.requires.0.few)
 
 cast-s : tie.Need-overflow_cast-s invariant-loop-n decreases-loop-n
-cast-s c = omega (arith, sub_leaf_small (row_levels constant_levels) _ c.before.before.before.before.requires.0 _ c.before.loop-n-test.true)
+cast-s c = omega (arith, sub_leaf_small (row_levels constant_levels) _ c.requires.0 _ c.loop-n-test.true)
 
 first-leaf-requires : tie.Need-first_leaf-old-requires invariant-loop-n decreases-loop-n
 first-leaf-requires c κs =
-    let start = c.before.before.before.before.before in
-    let l = c.before.before.before.loop-n in
-    sub_leaf_inside (row_levels constant_levels) _ start.requires.0 (lit≤ tt) (lit≤ tt) l.n _ c.before.before.loop-n-test.true (l.invariant.1 ∙ start.requires.1.0)
+    let start = c in
+    let l = c.loop-n in
+    sub_leaf_inside (row_levels constant_levels) _ start.requires.0 (lit≤ tt) (lit≤ tt) l.n _ c.loop-n-test.true (l.invariant.1 ∙ start.requires.1.0)
 
 mul-digit-of : tie.Need-offset_bounds-plan-n-in-loop-n invariant-loop-n decreases-loop-n
-mul-digit-of c = omega (arith, c.before.before.before.before.before.before.before.requires.0.few)
+mul-digit-of c = omega (arith, c.requires.0.few)
 
 element-copy-out-digit-of : tie.Need-bounds-plan-n-in-loop-n invariant-loop-n decreases-loop-n
-element-copy-out-digit-of c = omega (arith, c.before.before.before.before.before.before.before.requires.0.few)
+element-copy-out-digit-of c = omega (arith, c.requires.0.few)
 
 digit-of-requires : tie.Need-digit_of-requires invariant-loop-n decreases-loop-n
-digit-of-requires c κs = c.before.before.before.before.before.before.before.before.requires.1.1
+digit-of-requires c κs = c.requires.1.1
 
 change-block-requires : tie.Need-change_block-requires invariant-loop-n decreases-loop-n
 change-block-requires c κs =
-    let start = c.before.before.before.before.before.before.before.before.before in
-    let l = c.before.before.before.before.before.before.before.loop-n in
-    let taken = c.before.before.before.before.before.before.loop-n-test.true in (
+    let start = c in
+    let l = c.loop-n in
+    let taken = c.loop-n-test.true in (
       sub_leaf_inside (row_levels constant_levels) _ start.requires.0 (lit≤ tt) (lit≤ tt) l.n _ taken (l.invariant.1 ∙ start.requires.1.0),
-      shows_even (row_levels constant_levels) _ start.requires.0 start.args.p _ _ _ l.row-1 l.invariant.2 (start.requires.0.sub_leaves l.n taken) c.before.before.before.first_leaf-old.ensures,
+      shows_even (row_levels constant_levels) _ start.requires.0 start.args.p _ _ _ l.row l.invariant.2 (start.requires.0.sub_leaves l.n taken) c.first_leaf-old.ensures,
     )
 
 add-n : tie.Need-overflow_add-n invariant-loop-n decreases-loop-n
 add-n c =
-    omega (arith, c.before.before.before.before.before.before.before.before.before.before.before.before.requires.0.few, c.before.before.before.before.before.before.before.before.before.loop-n-test.true)
+    omega (arith, c.requires.0.few, c.loop-n-test.true)
 
 loop-less : tie.Need-loop-n-smaller invariant-loop-n decreases-loop-n
 loop-less c = omega arith
 
 loop-again : tie.Need-loop-n-preserved invariant-loop-n decreases-loop-n
 loop-again c =
-    let start = c.before.before.before.before.before.before.before.before.before.before.before.before in
-    let l = c.before.before.before.before.before.before.before.before.before.before.loop-n in (
+    let start = c in
+    let l = c.loop-n in (
       omega arith,
-      c.before.before.change_block.auto.0 ∙ l.invariant.1,
-      shows_more (row_levels constant_levels) _ start.requires.0 _ _ _ l.row-1 _ l.invariant.2 c.before.before.change_block.ensures c.before.before.before.digit_of.ensures,
+      c.change_block.auto.0 ∙ l.invariant.1,
+      shows_more (row_levels constant_levels) _ start.requires.0 _ _ _ l.row _ l.invariant.2 c.change_block.ensures c.digit_of.ensures,
     )
 
 same_length : tie.Need-shape_of-row invariant-loop-n decreases-loop-n
-same_length c = c.before.loop-n.invariant.1
+same_length c = c.loop-n.invariant.1
 
 returns : tie.Need-returns invariant-loop-n decreases-loop-n
 returns c =
-    let a = c.before.before.before.args in
-    let e : c.before.loop-n.n ≡ a.t2.count = omega arith in
-    subst (λ (n : ℕ). Shows (row_levels constant_levels) a.t2 n a.p c.before.loop-n.row-1) e c.before.loop-n.invariant.2
+    let a = c.args in
+    let e : c.loop-n.n ≡ a.t2.count = omega arith in
+    subst (λ (n : ℕ). Shows (row_levels constant_levels) a.t2 n a.p c.loop-n.row) e c.loop-n.invariant.2
 
 pub write_sub_leaves_spec : {M : Type 1} → statement M
 write_sub_leaves_spec =

@@ -17,12 +17,12 @@ element-copy-out-section-word : tie.Need-bounds-sizes-0
 element-copy-out-section-word c = search rules
 
 section-word-requires : tie.Need-section_word-requires
-section-word-requires c κs = c.before.requires.0.first_positive
+section-word-requires c κs = c.requires.0.first_positive
 
 returns : tie.Need-returns
 returns c =
-    let a = c.before.before.args in
-    let P = c.before.before.requires in
+    let a = c.args in
+    let P = c.requires in
     let S = stored_by a.t3 a.clauses.now [] in
     let bits : (values : ℕ) → Terms a.t3.free a.t3.own values a.w a.terms.now → (i : ℕ) → i < 64
     → bit c.section_word.result i ≡ first_meets S values (64 * a.w + i) =

@@ -18,14 +18,14 @@ use Rattle.steps.proofs.missed_word.Tie as tie
 
 returns : tie.Need-returns-then-x-eq0
 returns c values t bits =
-    let a = c.before.args in
+    let a = c.args in
     (t, λ i l. bit_zero i ∙ sym (ap (λ b. b && not (second_differs (stored_by a.sizes a.clauses.now []) values a.j (64 * a.w + i))) (sym (bits i l) ∙ ap (λ x. bit x i) c.if-x-eq0.true ∙ bit_zero i)))
 
 shl-missing : tie.Need-overflow_shl-j
 shl-missing c = search rules
 
 missing-requires : tie.Need-missing-requires
-missing-requires c κs = (c.before.before.before.requires.0, (c.before.before.before.requires.1.0, omega arith, c.before.before.before.requires.1.2))
+missing-requires c κs = (c.requires.0, (c.requires.1.0, omega arith, c.requires.1.2))
 
 mul-result : tie.Need-offset_bounds-rows-j
 mul-result c = search rules
@@ -35,9 +35,9 @@ element-copy-out-result c = search rules
 
 returns-2 : tie.Need-returns
 returns-2 c values t bits =
-    let a = c.before.before.before.before.before.args in
-    let P = c.before.before.before.before.before.requires in
-    let M = c.before.missing.ensures.0 values t in (
+    let a = c.args in
+    let P = c.requires in
+    let M = c.missing.ensures.0 values t in (
       M.0,
       λ i l.
           M.1.each a.j P.1.1 (of_true (ap (λ x. bit x a.j) (power_shift a.j (omega (arith, P.0.few))) ∙ power_bit a.j a.j ∙ eq-eqb a.j a.j refl)) i l

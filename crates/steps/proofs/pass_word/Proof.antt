@@ -25,13 +25,13 @@ few_turns : (s : tie.Start) → s.args.spot.leaf * word_count s.args.t3.free + s
 few_turns s = turn_lt s.args.t3.free s.args.spot.leaf s.args.spot.word (omega (arith, s.requires.0.variables)) s.requires.1.1 s.requires.1.2
 
 allowed-word-requires : tie.Need-allowed_word-x-requires
-allowed-word-requires c κs = let s = c.before.before in (s.requires.0, (s.requires.1.2, s.requires.1.0, s.requires.1.3))
+allowed-word-requires c κs = let s = c in (s.requires.0, (s.requires.1.2, s.requires.1.0, s.requires.1.3))
 
 returns : tie.Need-returns-then-x-eq0
 returns c =
-    let s = c.before.before.before.before in
+    let s = c in
     let a = s.args in
-    let W = c.before.allowed_word-x.ensures in (
+    let W = c.allowed_word-x.ensures in (
       λ values t. (W.0 values t).0,
       (
         λ h constants t A.
@@ -44,24 +44,24 @@ returns c =
     )
 
 word-count-requires : tie.Need-word_count-requires
-word-count-requires c κs = omega (arith, c.before.before.before.before.requires.0.variables)
+word-count-requires c κs = omega (arith, c.requires.0.variables)
 
 mul-turn : tie.Need-overflow_mul-turn
-mul-turn c = rw c.before.word_count.ensures (omega (arith, few_turns c.before.before.before.before.before.before))
+mul-turn c = rw c.word_count.ensures (omega (arith, few_turns c.before.before.before.before.before.before))
 
 add_turn : tie.Need-overflow_add-turn
 add_turn c =
     let s = c.before.before.before.before.before.before.before in
-    rw c.before.before.word_count.ensures (omega (arith, few_turns s, s.requires.1.1))
+    rw c.word_count.ensures (omega (arith, few_turns s, s.requires.1.1))
 
 keep-word-requires : tie.Need-keep_word-least-requires
-keep-word-requires c κs = let s = c.before.before.before.before.before.before.before.before in (omega (arith, s.requires.1.1), omega arith)
+keep-word-requires c κs = let s = c in (omega (arith, s.requires.1.1), omega arith)
 
 element-copy-out-keep-all : tie.Need-bounds-sizes-1
 element-copy-out-keep-all c = search rules
 
 keep-all-requires : tie.Need-keep_all-met-requires
-keep-all-requires c κs = let s = c.before.before.before.before.before.before.before.before.before.before.before.before in ((s.requires.0.few.0, omega arith), s.requires.0.first_disequation)
+keep-all-requires c κs = let s = c in ((s.requires.0.few.0, omega arith), s.requires.0.first_disequation)
 
 enum_told : tie.Need-enum_told-1
 enum_told c = search rules
@@ -70,52 +70,52 @@ enum-told-2 : tie.Need-enum_told-in-Unmet
 enum-told-2 c = search rules
 
 second-word-requires : tie.Need-second_word-requires
-second-word-requires c κs = let s = c.before.before.before.before.before.before.before.before.before.before.before.before.before.before.before.before.before.before in (s.requires.0, (s.requires.1.2, (c.before.before.before.before.before.before.before.before.before.before.before.before.before.before.before.allowed_word-x.ensures.1 c.before.before.before.enum_told-in-Unmet-1.given.1).0))
+second-word-requires c κs = let s = c in (s.requires.0, (s.requires.1.2, (c.allowed_word-x.ensures.1 c.enum_told-in-Unmet-1.is).0))
 
 enum-told-3 : tie.Need-enum_told-in-Missed
 enum-told-3 c = search rules
 
 -- the words that were kept, by their numbers among those of all leaves
 kept : (k : tie.After-keep_all-met) → (
-    let a = k.before.before.before.before.before.before.before.before.before.before.before.before.before.args in
-    let x = k.before.before.before.before.before.before.before.before.before.before.allowed_word-x in
+    let a = k.args in
+    let x = k.allowed_word-x in
     KeptAll (get_or a.t3.counts 1 0) (a.spot.leaf * word_count a.t3.free + a.spot.word)
     (λ i j. bit x.result j && not (clause_test a.clauses.now (λ t. bit (get_or x.new.0 t 0) j) (256 + 4 * i)))
-    k.before.before.before.before.keep_word-least.result k.before.before.before.before.keep_word-least.new.1.1.1.1.0 k.keep_all-met.result k.keep_all-met.new.1.1.1.1.1.1.0)
-kept k = rw k.before.before.before.before.before.before.before.before.word_count.ensures at k.keep_all-met.ensures
+    k.keep_word-least.result k.keep_word-least.new.1.1.1.1.0 k.keep_all-met.result k.keep_all-met.new.1.1.1.1.1.1.0)
+kept k = rw k.word_count.ensures at k.keep_all-met.ensures
 
 -- where the second system plays no part
 alone : (k : tie.After-keep_all-met) → (
-    let a = k.before.before.before.before.before.before.before.before.before.before.before.before.before.args in
+    let a = k.args in
     (a.spot.search ≡ Unmet → ⊥) → (rows : List ℕ) (h : ℕ) (constants : List ℕ)
     → Terms a.t3.free a.t3.own (leaf_values (stored_by a.t3 a.clauses.now constants) h a.spot.leaf) a.spot.word a.terms.now
     → Amid (stored_by a.t3 a.clauses.now constants) h a.spot.search a.spot.leaf a.spot.word a.seen a.firsts.now a.rows.now
     → Amid (stored_by a.t3 a.clauses.now constants) h a.spot.search a.spot.leaf (a.spot.word + 1)
     (record { met = k.keep_all-met.result; possible = a.seen.possible; here = a.seen.here; wanted = a.seen.wanted }) k.keep_all-met.new.1.1.1.1.1.1.0 rows)
 alone k other rows h constants t A =
-    let s = k.before.before.before.before.before.before.before.before.before.before.before.before.before in
+    let s = k in
     let a = s.args in
-    let x = k.before.before.before.before.before.before.before.before.before.before.allowed_word-x in
+    let x = k.allowed_word-x in
     let U = x.ensures.0 _ t in
     amid_kept a.t3 a.clauses.now constants h a.spot.leaf a.spot.word a.spot.search a.seen _ _ s.requires.1.2 A
     s.requires.0 x.new.0 U.0 x.result
-    (λ j m. U.1 j m ∙ allowed_same a.t3 a.clauses.now constants a.spot.search _ _) _ _ k.before.before.before.before.keep_word-least.ensures _ _ (kept k)
+    (λ j m. U.1 j m ∙ allowed_same a.t3 a.clauses.now constants a.spot.search _ _) _ _ k.keep_word-least.ensures _ _ (kept k)
     other rows
 
 returns-2 : tie.Need-returns-in-First
 returns-2 c =
     let k = c.before.before in (
-      λ values t. (k.before.before.before.before.before.before.before.before.before.before.allowed_word-x.ensures.0 values t).0,
-      (λ h constants t A. alone k (λ e. first_not_unmet (sym c.enum_told-1.given.1 ∙ e)) _ h constants t A, refl),
+      λ values t. (k.allowed_word-x.ensures.0 values t).0,
+      (λ h constants t A. alone k (λ e. first_not_unmet (sym c.enum_told-1.is ∙ e)) _ h constants t A, refl),
     )
 
 returns-3 : tie.Need-returns-in-Unmet
 returns-3 c =
     let k = c.before.before.before.before.before.before in
-    let s = k.before.before.before.before.before.before.before.before.before.before.before.before.before in
+    let s = k in
     let a = s.args in
-    let x = k.before.before.before.before.before.before.before.before.before.before.allowed_word-x in
-    let e = c.before.before.before.before.enum_told-in-Unmet-1.given.1 in
+    let x = k.allowed_word-x in
+    let e = c.enum_told-in-Unmet-1.is in
     let Q = c.second_word.ensures in (
       λ values t. (Q.0 values (x.ensures.0 values t).0).0,
       (
@@ -127,8 +127,8 @@ returns-3 c =
             λ j m. U.1 j m ∙ ap (λ s. allowed_in S₀ s v (64 * a.spot.word + j)) e in
             amid_second a.t3 a.clauses.now constants h a.spot.leaf a.spot.word a.spot.search a.seen _ _ s.requires.1.2 A
             s.requires.0 x.new.0 U.0 x.result
-            (λ j m. U.1 j m ∙ allowed_same a.t3 a.clauses.now constants a.spot.search _ _) _ _ k.before.before.before.before.keep_word-least.ensures _ _ (kept k)
-            e _ _ _ (rw (k.before.before.before.before.before.before.before.before.word_count.ensures, (x.ensures.1 e).1) at ((Q.0 _ U.0).1 first (subst (λ r. Settled S₀ a.seen r) (sym (x.ensures.1 e).1) (A.settled e)))) Q.1.0 Q.1.1 Q.1.2,
+            (λ j m. U.1 j m ∙ allowed_same a.t3 a.clauses.now constants a.spot.search _ _) _ _ k.keep_word-least.ensures _ _ (kept k)
+            e _ _ _ (rw (k.word_count.ensures, (x.ensures.1 e).1) at ((Q.0 _ U.0).1 first (subst (λ r. Settled S₀ a.seen r) (sym (x.ensures.1 e).1) (A.settled e)))) Q.1.0 Q.1.1 Q.1.2,
         Q.1.0,
       ),
     )
@@ -136,8 +136,8 @@ returns-3 c =
 returns-4 : tie.Need-returns-in-Missed
 returns-4 c =
     let k = c.before.before in (
-      λ values t. (k.before.before.before.before.before.before.before.before.before.before.allowed_word-x.ensures.0 values t).0,
-      (λ h constants t A. alone k (λ e. missed_not_unmet _ (sym c.enum_told-in-Missed-1.given.1 ∙ e)) _ h constants t A, refl),
+      λ values t. (k.allowed_word-x.ensures.0 values t).0,
+      (λ h constants t A. alone k (λ e. missed_not_unmet _ (sym c.enum_told-in-Missed-1.is ∙ e)) _ h constants t A, refl),
     )
 
 pub pass_word_spec : {M : Type 1} → statement M

@@ -11,24 +11,24 @@ digit-requires c κs = search rules
 
 returns : tie.Need-returns-then-digit
 returns c =
-    let a = c.before.before.args in
-    (λ values t. (t, λ first. second_before a.t3 a.clauses.now values a.at a.seen _ _ (sym c.before.digit.ensures ∙ c.if-digit.true)), (refl, λ k n. refl, λ k n. refl))
+    let a = c.args in
+    (λ values t. (t, λ first. second_before a.t3 a.clauses.now values a.at a.seen _ _ (sym c.digit.ensures ∙ c.if-digit.true)), (refl, λ k n. refl, λ k n. refl))
 
 missing-requires : tie.Need-missing-none-requires
-missing-requires c κs = let s = c.before.before.before.before in (s.requires.0, (s.requires.1.0, omega arith, s.requires.1.1))
+missing-requires c κs = let s = c in (s.requires.0, (s.requires.1.0, omega arith, s.requires.1.1))
 
 keep-word-requires : tie.Need-keep_word-met-requires
 keep-word-requires c κs = search rules
 
 returns-2 : tie.Need-returns-then-seen-eq0
 returns-2 c =
-    let s = c.before.before.before.before.before.before.before.before.before in
+    let s = c in
     let a = s.args in
-    let M = c.before.before.before.before.missing-none.ensures in
-    let K = c.before.before.keep_word-met.ensures in (
+    let M = c.missing-none.ensures in
+    let K = c.keep_word-met.ensures in (
       λ values t. (
         (M.0 values t).0,
-        λ first Z. second_alone a.t3 a.clauses.now s.requires.0 values a.at a.seen _ _ first _ _ (M.0 values t).1 M.1 (sym c.before.before.before.before.before.before.before.before.digit.ensures ∙ c.before.before.before.before.before.before.before.if-digit.false) Z _ _ K c.if-seen-eq0.true,
+        λ first Z. second_alone a.t3 a.clauses.now s.requires.0 values a.at a.seen _ _ first _ _ (M.0 values t).1 M.1 (sym c.digit.ensures ∙ c.if-digit.false) Z _ _ K c.if-seen-eq0.true,
       ),
       (refl, K.met_kept, K.firsts_kept),
     )
@@ -50,16 +50,16 @@ mark-all-requires c κs = search rules
 
 returns-3 : tie.Need-returns
 returns-3 c =
-    let s = c.before.before.before.before.before.before.before.before.before.before.before.before.before.before.before.before.before in
+    let s = c in
     let a = s.args in
-    let M = c.before.before.before.before.before.before.before.before.before.before.before.before.missing-none.ensures in
-    let K = c.before.before.before.before.before.before.before.before.before.before.keep_word-met.ensures in
-    let F = c.before.before.before.before.fill_failing-any.ensures in (
+    let M = c.missing-none.ensures in
+    let K = c.keep_word-met.ensures in
+    let F = c.fill_failing-any.ensures in (
       λ values t. (
         (M.0 values t).0,
         λ first Z.
-            second_marked a.t3 a.clauses.now s.requires.0 values a.at a.seen _ _ first _ _ (M.0 values t).1 M.1 (sym c.before.before.before.before.before.before.before.before.before.before.before.before.before.before.before.before.digit.ensures ∙ c.before.before.before.before.before.before.before.before.before.before.before.before.before.before.before.if-digit.false) Z _ _ K
-            c.before.before.before.before.before.before.before.before.before.before.before.before.missing-none.new.0 _ (M.0 values t).0 F.0 F.1.0 _ _ _ c.mark_all-more.ensures,
+            second_marked a.t3 a.clauses.now s.requires.0 values a.at a.seen _ _ first _ _ (M.0 values t).1 M.1 (sym c.digit.ensures ∙ c.if-digit.false) Z _ _ K
+            c.missing-none.new.0 _ (M.0 values t).0 F.0 F.1.0 _ _ _ c.mark_all-more.ensures,
       ),
       (refl, K.met_kept, K.firsts_kept),
     )

@@ -15,16 +15,16 @@ use Rattle.text.proofs.text_fits.Tie as tie
 
 returns : tie.Need-returns-then-room-ge-LONGEST_TEXT
 returns c =
-    let row = c.before.before.args.row.now in
-    let short : length (row_text (row_levels constant_levels) row) ≤ c.before.before.args.room = omega (arith, row_text_length (row_levels constant_levels) row) in
+    let row = c.args.row.now in
+    let short : length (row_text (row_levels constant_levels) row) ≤ c.args.room = omega (arith, row_text_length (row_levels constant_levels) row) in
     sym (le-leb _ _ short)
 
 text-length-requires : tie.Need-text_length-requires
-text-length-requires c κs = row_inside (row_levels constant_levels) _ (lit≤ tt) (lit≤ tt) c.before.before.requires
+text-length-requires c κs = row_inside (row_levels constant_levels) _ (lit≤ tt) (lit≤ tt) c.requires
 
 returns-2 : tie.Need-returns
 returns-2 c =
-    let start = c.before.before.before in
+    let start = c in
     ap (λ (n : ℕ). leb n start.args.room) (c.text_length.ensures.0 ∙ ap length (row_text_lem _ start.args.row.now))
 
 pub text_fits_spec : {M : Type 1} → statement M

@@ -37,12 +37,12 @@ add_result c = search rules
 
 returns : tie.Need-returns
 returns c =
-    let a = c.before.before.before.before.args in
-    let low = c.before.before.half_word-low in
+    let a = c.args in
+    let low = c.half_word-low in
     let high = c.half_word-high in
     word_halves (constant_leaf constant_levels a.x) a.w low.result high.result low.ensures.0
-    (λ i l. low.ensures.1 i l ∙ c.before.before.before.digit.ensures ∙ ap (bit a.x) (omega arith))
-    (λ i l. high.ensures.1 i l ∙ c.before.digit-2.ensures ∙ ap (bit a.x) (omega arith))
+    (λ i l. low.ensures.1 i l ∙ c.digit.ensures ∙ ap (bit a.x) (omega arith))
+    (λ i l. high.ensures.1 i l ∙ c.digit-2.ensures ∙ ap (bit a.x) (omega arith))
 
 pub constant_word_spec : {M : Type 1} → statement M
 constant_word_spec =

@@ -27,9 +27,9 @@ join-word-requires c κs = search rules
 
 returns : tie.Need-returns-then-join_word invariant-loop-w decreases-loop-w
 returns c =
-    let x = c.before.join_word in
-    let l = c.before.before.before.loop-w in
-    sym (first_not_last _ l.w x.result x.ensures l.invariant.1 x.type-inv c.if-join_word.true 16 (omega arith))
+    let x = c.join_word in
+    let l = c.loop-w in
+    sym (first_not_last _ l.w x.result x.ensures l.invariant.1 x.type_inv c.if-join_word.true 16 (omega arith))
 
 add-w : tie.Need-overflow_add-w invariant-loop-w decreases-loop-w
 add-w c = omega arith
@@ -39,12 +39,12 @@ loop-less c = omega arith
 
 loop-again : tie.Need-loop-w-preserved invariant-loop-w decreases-loop-w
 loop-again c =
-    let l = c.before.before.before.loop-w in
-    let x = c.before.join_word in
+    let l = c.loop-w in
+    let x = c.join_word in
     (omega arith, every_word _ l.w x.result x.ensures l.invariant.1 c.if-join_word.false)
 
 returns-2 : tie.Need-returns invariant-loop-w decreases-loop-w
-returns-2 c = let e : c.before.loop-w.w ≡ 16 = omega arith in sym (sym (every_first 1024 _) ∙ rw e at c.before.loop-w.invariant.1)
+returns-2 c = let e : c.loop-w.w ≡ 16 = omega arith in sym (sym (every_first 1024 _) ∙ rw e at c.loop-w.invariant.1)
 
 pub everywhere_spec : {M : Type 1} → statement M
 everywhere_spec =

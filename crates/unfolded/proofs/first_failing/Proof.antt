@@ -37,9 +37,9 @@ add_result c = let small : c.lowest.result ≤ 64 = rw c.lowest.ensures (first_l
 
 returns : tie.Need-returns-then-holds invariant-loop-word decreases-loop-word
 returns c =
-    let l = c.before.before.before.before.loop-word in
-    let x = c.before.before.join_word-holds in
-    ap (λ (k : ℕ). 64 * l.word + k) c.lowest.ensures ∙ sym (first_word _ l.word x.result x.ensures l.invariant.1 x.type-inv c.before.if-holds.true 16 (omega arith))
+    let l = c.loop-word in
+    let x = c.join_word-holds in
+    ap (λ (k : ℕ). 64 * l.word + k) c.lowest.ensures ∙ sym (first_word _ l.word x.result x.ensures l.invariant.1 x.type_inv c.if-holds.true 16 (omega arith))
 
 add-word : tie.Need-overflow_add-word invariant-loop-word decreases-loop-word
 add-word c = omega arith
@@ -49,12 +49,12 @@ loop-less c = omega arith
 
 loop-again : tie.Need-loop-word-preserved invariant-loop-word decreases-loop-word
 loop-again c =
-    let l = c.before.before.before.loop-word in
-    let x = c.before.join_word-holds in
+    let l = c.loop-word in
+    let x = c.join_word-holds in
     (omega arith, every_word _ l.word x.result x.ensures l.invariant.1 c.if-holds.false)
 
 returns-2 : tie.Need-returns invariant-loop-word decreases-loop-word
-returns-2 c = let e : c.before.loop-word.word ≡ 16 = omega arith in sym (eqb-true _ 1024 (sym (every_first 1024 _) ∙ rw e at c.before.loop-word.invariant.1))
+returns-2 c = let e : c.loop-word.word ≡ 16 = omega arith in sym (eqb-true _ 1024 (sym (every_first 1024 _) ∙ rw e at c.loop-word.invariant.1))
 
 pub first_failing_spec : {M : Type 1} → statement M
 first_failing_spec =

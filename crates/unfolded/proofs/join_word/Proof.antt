@@ -15,8 +15,8 @@ test-word-requires c κs = search rules
 
 returns : tie.Need-returns
 returns c i l =
-    let s = c.before.before.args in
-    let parts = c.before.part_words-parts in
+    let s = c.args in
+    let parts = c.part_words-parts in
     c.test_word.ensures i l ∙ ap (is_way Holds) (join_bits 16 s.table.now s.join s.w parts.result parts.ensures i l)
 
 pub join_word_spec : {M : Type 1} → statement M

@@ -16,8 +16,8 @@ word-of-requires c κs = search rules
 
 returns : tie.Need-returns
 returns c =
-    let s = c.before.before in
-    c.word_of.ensures ∙ ap (λ t. get_or s.args.table.now (row_words constant_levels * t + s.args.w) 0) c.before.index.ensures.0
+    let s = c in
+    c.word_of.ensures ∙ ap (λ t. get_or s.args.table.now (row_words constant_levels * t + s.args.w) 0) c.index.ensures.0
 
 pub part_word_spec : {M : Type 1} → statement M
 part_word_spec = tie.close (tie.spec index-requires word-of-requires returns)

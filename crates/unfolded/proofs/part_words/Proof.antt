@@ -13,7 +13,7 @@ part-word-requires-3 : tie.Need-part_word-requires-3
 part-word-requires-3 c κs = search rules
 
 returns : tie.Need-returns
-returns c = (c.before.before.part_word.ensures, c.before.part_word-2.ensures, c.part_word-3.ensures)
+returns c = (c.part_word.ensures, c.part_word-2.ensures, c.part_word-3.ensures)
 
 pub part_words_spec : {M : Type 1} → statement M
 part_words_spec =

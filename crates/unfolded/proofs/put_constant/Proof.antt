@@ -23,7 +23,7 @@ add_start : tie.Need-overflow_add-start invariant-loop-k decreases-loop-k
 add_start c = omega arith
 
 loop-holds : tie.Need-loop-k-init invariant-loop-k decreases-loop-k
-loop-holds c = (omega arith, c.before.requires.1, stored_none _ _ _)
+loop-holds c = (omega arith, c.requires.1, stored_none _ _ _)
 
 constant-word-requires : tie.Need-constant_word-requires invariant-loop-k decreases-loop-k
 constant-word-requires c κs = omega arith
@@ -45,7 +45,7 @@ loop-less c = omega arith
 
 loop-again : tie.Need-loop-k-preserved invariant-loop-k decreases-loop-k
 loop-again c =
-    let l = c.before.before.loop-k in
+    let l = c.loop-k in
     (omega arith, simp length-set l.invariant.1, stored_more _ _ _ l.k c.constant_word.result l.table (omega arith) c.constant_word.ensures l.invariant.2)
 
 same_length : tie.Need-shape_of-table invariant-loop-k decreases-loop-k
@@ -53,9 +53,9 @@ same_length c = omega arith
 
 returns : tie.Need-returns invariant-loop-k decreases-loop-k
 returns c =
-    let e : c.before.loop-k.k ≡ 16 = omega arith in
-    let start : 512 + 16 * c.before.before.before.args.c ≡ 16 * (32 + c.before.before.before.args.c) = omega arith in
-    rw (e, start) at c.before.loop-k.invariant.2
+    let e : c.loop-k.k ≡ 16 = omega arith in
+    let start : 512 + 16 * c.args.c ≡ 16 * (32 + c.args.c) = omega arith in
+    rw (e, start) at c.loop-k.invariant.2
 
 pub put_constant_spec : {M : Type 1} → statement M
 put_constant_spec =

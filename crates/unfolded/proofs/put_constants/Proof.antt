@@ -20,16 +20,16 @@ abbrev decreases-loop-rest : tie.decreases-loop-rest
 decreases-loop-rest constants named table₀ rest₀ table rest = rest
 
 -- the lowest bit that is left
-here : (c : tie.After-lowest-c invariant-loop-rest decreases-loop-rest) → (c.lowest-c.result < 32) × T (bit c.before.before.loop-rest.rest c.lowest-c.result)
-here c = lowest_below 32 _ _ (omega arith) (omega (arith, c.before.before.loop-rest.invariant.0, c.before.before.before.before.requires.0)) c.before.loop-rest-test.true c.lowest-c.ensures
+here : (c : tie.After-lowest-c invariant-loop-rest decreases-loop-rest) → (c.lowest-c.result < 32) × T (bit c.loop-rest.rest c.lowest-c.result)
+here c = lowest_below 32 _ _ (omega arith) (omega (arith, c.loop-rest.invariant.0, c.requires.0)) c.loop-rest-test.true c.lowest-c.ensures
 
 -- what is left without it
 out : (c : tie.After-without_lowest-rest invariant-loop-rest decreases-loop-rest) (k : ℕ)
-    → bit c.without_lowest-rest.result k ≡ (bit c.before.before.before.before.before.before.before.before.loop-rest.rest k && not (eqb k c.before.before.before.before.before.before.lowest-c.result))
-out c k = rw c.before.before.before.before.before.before.lowest-c.ensures (c.without_lowest-rest.ensures.1 k)
+    → bit c.without_lowest-rest.result k ≡ (bit c.loop-rest.rest k && not (eqb k c.lowest-c.result))
+out c k = rw c.lowest-c.ensures (c.without_lowest-rest.ensures.1 k)
 
 loop-holds : tie.Need-loop-rest-init invariant-loop-rest decreases-loop-rest
-loop-holds c = (le_refl _, c.before.requires.1, parts_none constant_levels (omega arith) _ _ _)
+loop-holds c = (le_refl _, c.requires.1, parts_none constant_levels (omega arith) _ _ _)
 
 lowest-requires : tie.Need-lowest-c-requires invariant-loop-rest decreases-loop-rest
 lowest-requires c κs = tt
@@ -38,31 +38,31 @@ mul-put-constant : tie.Need-offset_bounds-constants-c invariant-loop-rest decrea
 mul-put-constant c = omega (arith, (here c).0)
 
 element-copy-out-put-constant : tie.Need-bounds-constants-c invariant-loop-rest decreases-loop-rest
-element-copy-out-put-constant c = omega (arith, (here c).0)
+element-copy-out-put-constant c = omega (arith, (here c.before).0)
 
 put-constant-requires : tie.Need-put_constant-requires invariant-loop-rest decreases-loop-rest
-put-constant-requires c κs = ((here c.before.before).0, c.before.before.before.before.loop-rest.invariant.1)
+put-constant-requires c κs = ((here c.before.before.before).0, c.loop-rest.invariant.1)
 
 without-lowest-requires : tie.Need-without_lowest-rest-requires invariant-loop-rest decreases-loop-rest
-without-lowest-requires c κs = nonzero _ c.before.before.before.before.before.before.loop-rest-test.true
+without-lowest-requires c κs = nonzero _ c.loop-rest-test.true
 
 loop-less : tie.Need-loop-rest-smaller invariant-loop-rest decreases-loop-rest
-loop-less c = without_less _ _ _ c.without_lowest-rest.ensures.0 (out c) (here c.before.before.before.before.before.before).1
+loop-less c = without_less _ _ _ c.without_lowest-rest.ensures.0 (out c) (here c.before.before.before.before.before.before.before).1
 
 loop-again : tie.Need-loop-rest-preserved invariant-loop-rest decreases-loop-rest
 loop-again c =
-    let l = c.before.before.before.before.before.before.before.before.loop-rest in
-    let put = c.before.before.before.put_constant in (
+    let l = c.loop-rest in
+    let put = c.put_constant in (
       omega (arith, c.without_lowest-rest.ensures.0, l.invariant.0),
       put.auto.1.1.0 ∙ l.invariant.1,
-      parts_more constant_levels (omega arith) _ _ l.rest _ c.before.before.before.before.before.before.lowest-c.result (out c) put.ensures l.invariant.2,
+      parts_more constant_levels (omega arith) _ _ l.rest _ c.lowest-c.result (out c) put.ensures l.invariant.2,
     )
 
 same_length : tie.Need-shape_of-table invariant-loop-rest decreases-loop-rest
-same_length c = omega (arith, c.before.loop-rest.invariant.1, c.before.before.before.requires.1)
+same_length c = omega (arith, c.loop-rest.invariant.1, c.requires.1)
 
 returns : tie.Need-returns invariant-loop-rest decreases-loop-rest
-returns c = rw c.loop-rest-test.false at c.before.loop-rest.invariant.2
+returns c = rw c.loop-rest-test.false at c.loop-rest.invariant.2
 
 pub put_constants_spec : {M : Type 1} → statement M
 put_constants_spec =

@@ -25,7 +25,7 @@ mul-start : tie.Need-overflow_mul-start invariant-loop-j decreases-loop-j
 mul-start c = omega arith
 
 loop-holds : tie.Need-loop-j-init invariant-loop-j decreases-loop-j
-loop-holds c = (omega arith, c.before.before.requires, stored_none _ _ _)
+loop-holds c = (omega arith, c.requires, stored_none _ _ _)
 
 add-table : tie.Need-overflow_add-table invariant-loop-j decreases-loop-j
 add-table c = omega arith
@@ -44,14 +44,14 @@ loop-less c = omega arith
 
 loop-again : tie.Need-loop-j-preserved invariant-loop-j decreases-loop-j
 loop-again c =
-    let l = c.before.loop-j in
+    let l = c.loop-j in
     (omega arith, simp length-set l.invariant.1, stored_more _ _ _ l.j _ l.table (omega arith) (bit_ones 64) l.invariant.2)
 
 same_length : tie.Need-shape_of-table invariant-loop-j decreases-loop-j
 same_length c = omega arith
 
 returns : tie.Need-returns invariant-loop-j decreases-loop-j
-returns c = let e : c.before.loop-j.j ≡ 16 = omega arith in rw (e, c.before.before.index-start.ensures.0) at c.before.loop-j.invariant.2
+returns c = let e : c.loop-j.j ≡ 16 = omega arith in rw (e, c.index-start.ensures.0) at c.loop-j.invariant.2
 
 pub put_full_spec : {M : Type 1} → statement M
 put_full_spec =

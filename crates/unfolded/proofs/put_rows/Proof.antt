@@ -18,7 +18,7 @@ abbrev decreases-loop-j : tie.decreases-loop-j
 decreases-loop-j rows table₀ j₀ table j = 192 - j
 
 loop-holds : tie.Need-loop-j-init invariant-loop-j decreases-loop-j
-loop-holds c = (omega arith, c.before.before.requires.1, stored_none _ _ _)
+loop-holds c = (omega arith, c.requires.1, stored_none _ _ _)
 
 word-at-requires : tie.Need-word_at-requires invariant-loop-j decreases-loop-j
 word-at-requires c κs = omega arith
@@ -37,7 +37,7 @@ loop-less c = omega arith
 
 loop-again : tie.Need-loop-j-preserved invariant-loop-j decreases-loop-j
 loop-again c =
-    let l = c.before.before.loop-j in (
+    let l = c.loop-j in (
       omega arith,
       simp length-set l.invariant.1,
       rw zero-add at (stored_more _ _ _ l.j c.word_at.result l.table (omega arith) c.word_at.ensures l.invariant.2),
@@ -47,7 +47,7 @@ same_length : tie.Need-shape_of-table invariant-loop-j decreases-loop-j
 same_length c = omega arith
 
 returns : tie.Need-returns invariant-loop-j decreases-loop-j
-returns c = let e : c.before.loop-j.j ≡ 192 = omega arith in rw e at c.before.loop-j.invariant.2
+returns c = let e : c.loop-j.j ≡ 192 = omega arith in rw e at c.loop-j.invariant.2
 
 pub put_rows_spec : {M : Type 1} → statement M
 put_rows_spec =

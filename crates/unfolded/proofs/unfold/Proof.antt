@@ -17,9 +17,9 @@ put-constants-requires c κs = search rules
 
 returns : tie.Need-returns
 returns c =
-    let s = c.before.before.before.before.before.before.before in
+    let s = c in
     unfolded_all constant_levels (omega arith) s.args.rows.now s.args.constants.now s.args.named s.requires.0 s.requires.2
-    c.before.before.before.before.put_rows.ensures c.before.before.put_full.ensures c.put_constants.ensures
+    c.put_rows.ensures c.put_full.ensures c.put_constants.ensures
 
 pub unfold_spec : {M : Type 1} → statement M
 unfold_spec =

@@ -19,10 +19,10 @@ way-at-requires c κs = search rules
 
 returns : tie.Need-returns
 returns c =
-    let s = c.before.before.before.args in
-    let parts = c.before.before.part_words-parts in
+    let s = c.args in
+    let parts = c.part_words-parts in
     let here : 64 * (s.leaf / 64) + s.leaf % 64 ≡ s.leaf = omega arith in
-    c.way_at.ensures s.join.form _ _ _ c.before.ways_word-ways.ensures
+    c.way_at.ensures s.join.form _ _ _ c.ways_word-ways.ensures
     ∙ join_bits 16 s.table.now s.join (s.leaf / 64) parts.result parts.ensures (s.leaf % 64) (omega arith)
     ∙ ap (join_way 16 s.table.now s.join) here
 

@@ -33,10 +33,10 @@ add_result c = search rules
 
 returns : tie.Need-returns
 returns c =
-    let s = c.before.before in
-    let rows = s.before.args.rows.now in
-    let w = s.before.args.w in
-    let low = c.before.four_bytes-low in
+    let s = c in
+    let rows = s.args.rows.now in
+    let w = s.args.w in
+    let low = c.four_bytes-low in
     let high = c.four_bytes-high in
     let byte : (j : ℕ) → get_or rows j 0 < 2 ^ 8 = λ j. (s.shared_slice_known-1.given j).fits in
     word_halves (row_leaf rows) w low.result high.result low.ensures.1

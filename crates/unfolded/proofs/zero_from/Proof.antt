@@ -30,19 +30,19 @@ loop-less c = omega arith
 
 loop-again : tie.Need-loop-w-preserved invariant-loop-w decreases-loop-w
 loop-again c =
-    let known = c.before.before.before in
-    let l = c.before.before.loop-w in
+    let known = c in
+    let l = c.loop-w in
     let x = c.word_at-all in
-    let start = known.before.args.start in (
+    let start = known.args.start in (
       omega arith,
-      zero_more known.before.args.rows.now l.w x.result x.ensures (λ i. (known.shared_slice_known-1.given i).fits) x.type-inv
+      zero_more known.args.rows.now l.w x.result x.ensures (λ i. (known.shared_slice_known-1.given i).fits) x.type_inv
           (8 * start) l.all (omega arith) l.invariant.1,
     )
 
 returns : tie.Need-returns invariant-loop-w decreases-loop-w
 returns c =
-    let rows = c.before.before.before.args.rows.now in
-    let l = c.before.loop-w in (
+    let rows = c.args.rows.now in
+    let l = c.loop-w in (
       λ t i h m. l.invariant.1.0 (eqb-true l.all 0 (is_true _ t)) i h (omega arith),
       λ none. of_true (eq-eqb l.all 0 (l.invariant.1.1 (zero_past rows _ (8 * l.w) none))),
     )

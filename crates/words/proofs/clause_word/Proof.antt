@@ -15,13 +15,13 @@ add-term-word-2 : tie.Need-overflow_add-at-2
 add-term-word-2 c = search rules
 
 term-word-requires-2 : tie.Need-term_word-b-requires
-term-word-requires-2 c κs = (omega (arith, c.before.requires.room), c.before.requires.terms 2 (omega arith))
+term-word-requires-2 c κs = (omega (arith, c.requires.room), c.requires.terms 2 (omega arith))
 
 add-term-word-3 : tie.Need-overflow_add-at-3
 add-term-word-3 c = search rules
 
 term-word-requires-3 : tie.Need-term_word-c-requires
-term-word-requires-3 c κs = (omega (arith, c.before.before.requires.room), c.before.before.requires.terms 3 (omega arith))
+term-word-requires-3 c κs = (omega (arith, c.requires.room), c.requires.terms 3 (omega arith))
 
 element-copy-out-test-word : tie.Need-bounds-clauses-at
 element-copy-out-test-word c = search rules

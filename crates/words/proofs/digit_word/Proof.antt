@@ -16,7 +16,7 @@ array-read-result : tie.Need-bounds-p
 array-read-result c = search rules
 
 returns : tie.Need-returns-then-p-lt6
-returns c i h = mask_digit c.before.args.p c.before.args.w i c.if-p-lt6.true h
+returns c i h = mask_digit c.args.p c.args.w i c.if-p-lt6.true h
 
 digit-requires : tie.Need-digit-requires
 digit-requires c κs = search rules
@@ -26,10 +26,10 @@ spread-requires c κs = search rules
 
 returns-2 : tie.Need-returns
 returns-2 c i h =
-    let s = c.before.before in
-    let a = s.before.args in
+    let s = c in
+    let a = s.args in
     let e : 6 + (a.p - 6) ≡ a.p = omega arith in
-    c.spread.ensures i h ∙ c.before.digit.ensures
+    c.spread.ensures i h ∙ c.digit.ensures
     ∙ sym (bit_high 6 a.w i h (a.p - 6)) ∙ ap (λ z. bit z (6 + (a.p - 6))) (omega arith) ∙ ap (bit (64 * a.w + i)) e
 
 pub digit_word_spec : {M : Type 1} → statement M

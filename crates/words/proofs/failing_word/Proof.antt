@@ -13,7 +13,7 @@ clause-word-requires c κs = search rules
 
 returns : tie.Need-returns
 returns c i h =
-    bit_of_and _ _ i ∙ ap (◌&&◌ (bit c.before.args.x i)) (not_bits c.clause_word.result i _ c.clause_word.type-inv h (c.clause_word.ensures i h))
+    bit_of_and _ _ i ∙ ap (◌&&◌ (bit c.args.x i)) (not_bits c.clause_word.result i _ c.clause_word.type_inv h (c.clause_word.ensures i h))
 
 pub failing_word_spec : {M : Type 1} → statement M
 failing_word_spec = tie.close (tie.spec clause-word-requires returns)

@@ -12,8 +12,8 @@ same_length c = search rules
 
 returns : tie.Need-returns
 returns c =
-    let a = c.before.before.before.before.before.args in
-    let s = c.before.before.set_variables in
+    let a = c.args in
+    let s = c.set_variables in
     terms_moved a.n a.m a.w _ _ s.ensures
 
 pub move_terms_spec : {M : Type 1} → statement M

@@ -24,20 +24,20 @@ loop-holds c = (omega arith, λ i h. sym (and-true _))
 
 returns : tie.Need-returns-then-r-eq0 invariant-loop-k decreases-loop-k
 returns c i h =
-    let l = c.before.before.loop-k in
+    let l = c.loop-k in
     let z : bit l.r i ≡ false = ap (λ x. bit x i) c.if-r-eq0.true ∙ bit_zero i in
-    let a = c.before.before.before.args in
+    let a = c.args in
     bit_zero i
     ∙ sym (section_stays (bit a.x i) a.clauses.now (λ t. bit (get_or a.terms.now t 0) i) a.start l.k a.count l.invariant.0 (sym (l.invariant.1 i h) ∙ z))
 
 mul-clause-word : tie.Need-overflow_mul-k invariant-loop-k decreases-loop-k
-mul-clause-word c = omega (arith, c.before.before.before.requires.room)
+mul-clause-word c = omega (arith, c.requires.room)
 
 add-clause-word : tie.Need-overflow_add-start invariant-loop-k decreases-loop-k
-add-clause-word c = omega (arith, c.before.before.before.requires.room)
+add-clause-word c = omega (arith, c.requires.room)
 
 clause-word-requires : tie.Need-clause_word-r-requires invariant-loop-k decreases-loop-k
-clause-word-requires c κs = clauses_at c.before.before.before.requires c.before.before.loop-k.k c.before.loop-k-test.true
+clause-word-requires c κs = clauses_at c.requires c.loop-k.k c.loop-k-test.true
 
 add-k : tie.Need-overflow_add-k invariant-loop-k decreases-loop-k
 add-k c = omega arith
@@ -47,8 +47,8 @@ loop-less c = omega arith
 
 loop-again : tie.Need-loop-k-preserved invariant-loop-k decreases-loop-k
 loop-again c =
-    let l = c.before.before.before.loop-k in
-    let a = c.before.before.before.before.args in (
+    let l = c.loop-k in
+    let a = c.args in (
       omega arith,
       λ i h.
           bit_of_and l.r c.clause_word-r.result i ∙ ap₂ ◌&&◌ (l.invariant.1 i h) (c.clause_word-r.ensures i h)
@@ -57,9 +57,9 @@ loop-again c =
 
 returns-2 : tie.Need-returns invariant-loop-k decreases-loop-k
 returns-2 c i h =
-    let e : c.before.loop-k.k ≡ c.before.before.args.count = omega arith in
-    let a = c.before.before.args in
-    c.before.loop-k.invariant.1 i h ∙ ap (λ k. bit a.x i && all_clauses a.clauses.now (λ t. bit (get_or a.terms.now t 0) i) a.start k) e
+    let e : c.loop-k.k ≡ c.args.count = omega arith in
+    let a = c.args in
+    c.loop-k.invariant.1 i h ∙ ap (λ k. bit a.x i && all_clauses a.clauses.now (λ t. bit (get_or a.terms.now t 0) i) a.start k) e
 
 pub section_word_spec : {M : Type 1} → statement M
 section_word_spec =

@@ -23,16 +23,16 @@ abbrev decreases-loop-rest : tie.decreases-loop-rest
 decreases-loop-rest values named terms₀ rest₀ terms rest = rest
 
 -- the lowest bit that is left
-here : (c : tie.After-lowest-i invariant-loop-rest decreases-loop-rest) → (c.lowest-i.result < 32) × T (bit c.before.before.loop-rest.rest c.lowest-i.result)
-here c = lowest_below 32 _ _ (omega arith) (omega (arith, c.before.before.loop-rest.invariant.0, c.before.before.before.before.requires.0)) c.before.loop-rest-test.true c.lowest-i.ensures
+here : (c : tie.After-lowest-i invariant-loop-rest decreases-loop-rest) → (c.lowest-i.result < 32) × T (bit c.loop-rest.rest c.lowest-i.result)
+here c = lowest_below 32 _ _ (omega arith) (omega (arith, c.loop-rest.invariant.0, c.requires.0)) c.loop-rest-test.true c.lowest-i.ensures
 
 -- what is left without it
 out : (c : tie.After-without_lowest-rest invariant-loop-rest decreases-loop-rest) (k : ℕ)
-    → bit c.without_lowest-rest.result k ≡ (bit c.before.before.before.before.before.loop-rest.rest k && not (eqb k c.before.before.before.lowest-i.result))
-out c k = rw c.before.before.before.lowest-i.ensures (c.without_lowest-rest.ensures.1 k)
+    → bit c.without_lowest-rest.result k ≡ (bit c.loop-rest.rest k && not (eqb k c.lowest-i.result))
+out c k = rw c.lowest-i.ensures (c.without_lowest-rest.ensures.1 k)
 
 loop-holds : tie.Need-loop-rest-init invariant-loop-rest decreases-loop-rest
-loop-holds c = (le_refl _, c.before.requires.1, λ k t. t, words_none _ _ _)
+loop-holds c = (le_refl _, c.requires.1, λ k t. t, words_none _ _ _)
 
 lowest-requires : tie.Need-lowest-i-requires invariant-loop-rest decreases-loop-rest
 lowest-requires c κs = tt
@@ -50,32 +50,32 @@ mul-terms : tie.Need-offset_bounds-terms-i invariant-loop-rest decreases-loop-re
 mul-terms c = omega (arith, (here c.before.before).0)
 
 slice-write-terms : tie.Need-bounds-terms-i invariant-loop-rest decreases-loop-rest
-slice-write-terms c = omega (arith, (here c.before.before).0, c.before.before.before.before.loop-rest.invariant.1)
+slice-write-terms c = omega (arith, (here c.before.before).0, c.loop-rest.invariant.1)
 
 without-lowest-requires : tie.Need-without_lowest-rest-requires invariant-loop-rest decreases-loop-rest
-without-lowest-requires c κs = nonzero _ c.before.before.before.loop-rest-test.true
+without-lowest-requires c κs = nonzero _ c.loop-rest-test.true
 
 loop-less : tie.Need-loop-rest-smaller invariant-loop-rest decreases-loop-rest
 loop-less c = without_less _ _ _ c.without_lowest-rest.ensures.0 (out c) (here c.before.before.before).1
 
 loop-again : tie.Need-loop-rest-preserved invariant-loop-rest decreases-loop-rest
 loop-again c =
-    let l = c.before.before.before.before.before.loop-rest in
+    let l = c.loop-rest in
     let low = here c.before.before.before in (
       omega (arith, c.without_lowest-rest.ensures.0, l.invariant.0),
       simp length-set l.invariant.1,
       λ k t. l.invariant.2 k (and_left (bit l.rest k) _ (subst T (out c k) t)),
-      words_more _ l.rest _ _ _ l.terms c.before.before.before.lowest-i.result c.before.spread.result (omega (arith, low.0, l.invariant.1)) l.invariant.2 low.1 (out c)
-          (λ k h. c.before.spread.ensures k h ∙ c.before.before.digit.ensures) l.invariant.3,
+      words_more _ l.rest _ _ _ l.terms c.lowest-i.result c.spread.result (omega (arith, low.0, l.invariant.1)) l.invariant.2 low.1 (out c)
+          (λ k h. c.spread.ensures k h ∙ c.digit.ensures) l.invariant.3,
     )
 
 same_length : tie.Need-shape_of-terms invariant-loop-rest decreases-loop-rest
-same_length c = omega (arith, c.before.loop-rest.invariant.1, c.before.before.before.requires.1)
+same_length c = omega (arith, c.loop-rest.invariant.1, c.requires.1)
 
 returns : tie.Need-returns invariant-loop-rest decreases-loop-rest
 returns c n m old w h wo wv =
-    let l = c.before.loop-rest in
-    let a = c.before.before.before.args in
+    let l = c.loop-rest in
+    let a = c.args in
     terms_changed n m a.named a.values old w a.terms.now l.terms h wo wv (rw c.loop-rest-test.false at l.invariant.3)
 
 pub set_constants_spec : {M : Type 1} → statement M

@@ -21,7 +21,7 @@ abbrev decreases-loop-p : tie.decreases-loop-p
 decreases-loop-p n m from w terms₀ p₀ terms p = n + m - p
 
 loop-holds : tie.Need-loop-p-init invariant-loop-p decreases-loop-p
-loop-holds c = (c.before.requires.1, omega arith, λ t a b d. absurd (omega arith), λ t a. refl)
+loop-holds c = (c.requires.1, omega arith, λ t a b d. absurd (omega arith), λ t a. refl)
 
 add-loop : tie.Need-overflow_add-n invariant-loop-p decreases-loop-p
 add-loop c = omega arith
@@ -33,10 +33,10 @@ digit-word-requires : tie.Need-digit_word-requires invariant-loop-p decreases-lo
 digit-word-requires c κs = search rules
 
 mul-terms : tie.Need-offset_bounds-terms-t invariant-loop-p decreases-loop-p
-mul-terms c = omega (arith, c.before.variable_at-t.ensures)
+mul-terms c = omega (arith, c.variable_at-t.ensures)
 
 slice-write-terms : tie.Need-bounds-terms-t invariant-loop-p decreases-loop-p
-slice-write-terms c = omega (arith, c.before.variable_at-t.ensures)
+slice-write-terms c = omega (arith, c.variable_at-t.ensures)
 
 add-p : tie.Need-overflow_add-p invariant-loop-p decreases-loop-p
 add-p c = omega arith
@@ -46,10 +46,10 @@ loop-less c = omega arith
 
 loop-again : tie.Need-loop-p-preserved invariant-loop-p decreases-loop-p
 loop-again c =
-    let l = c.before.before.before.loop-p in
-    let a = c.before.before.before.before.before.args in
-    let s = c.before.variable_at-t.result in
-    let v = c.before.variable_at-t.ensures in
+    let l = c.loop-p in
+    let a = c.args in
+    let s = c.variable_at-t.result in
+    let v = c.variable_at-t.ensures in
     let pos = position a.n a.m in
     let in_list : s < length l.terms = omega (arith, v) in
     let apart : (t : ℕ) → t < a.n + a.m → (t ≡ s → ⊥) → pos t ≡ l.p → ⊥ =
@@ -68,8 +68,8 @@ same_length c = omega arith
 
 returns : tie.Need-returns invariant-loop-p decreases-loop-p
 returns c =
-    let l = c.before.loop-p in
-    let a = c.before.before.before.args in
+    let l = c.loop-p in
+    let a = c.args in
     record { set = λ t h b. l.invariant.2 t h b (omega (arith, position_lt a.n a.m t h)); kept = l.invariant.3 }
 
 pub set_variables_spec : {M : Type 1} → statement M

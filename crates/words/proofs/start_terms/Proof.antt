@@ -25,9 +25,9 @@ same_length c = search rules
 
 returns : tie.Need-returns
 returns c =
-    let v = c.before.before.before.before in
-    let s = v.before.before.before in
-    rw c.before.index-full.ensures.0
+    let v = c in
+    let s = v in
+    rw c.index-full.ensures.0
     (terms_started s.args.n s.args.m c.spread.result _ _ s.requires.0 (omega arith) s.requires.2 v.set_variables.ensures c.spread.ensures)
 
 pub start_terms_spec : {M : Type 1} → statement M

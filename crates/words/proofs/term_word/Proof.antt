@@ -18,7 +18,7 @@ element-copy-out-result : tie.Need-bounds-terms-t
 element-copy-out-result c = search rules
 
 returns : tie.Need-returns
-returns c = ap (λ t. get_or c.before.before.before.args.terms.now t 0) c.before.index-t.ensures.0
+returns c = ap (λ t. get_or c.args.terms.now t 0) c.index-t.ensures.0
 
 pub term_word_spec : {M : Type 1} → statement M
 term_word_spec =

@@ -9,8 +9,8 @@ ways-word-requires c κs = search rules
 
 returns : tie.Need-returns
 returns c i h =
-    let s = c.before.before.before.args in
-    holds_word s.form s.a s.b s.c _ c.before.before.ways_word-ways.ensures (search rules) (search rules) (search rules) i h
+    let s = c.args in
+    holds_word s.form s.a s.b s.c _ c.ways_word-ways.ensures (search rules) (search rules) (search rules) i h
 
 pub test_word_spec : {M : Type 1} → statement M
 test_word_spec = tie.close (tie.spec ways-word-requires returns)

@@ -33,11 +33,11 @@ leaf-values-requires c κs = (c.requires.0, omega (arith, leaf_lt c))
 -- it fits, since no more than 32 constants are named
 cast-result : tie.Need-overflow_cast-result
 cast-result c =
-    record { fits = within_lt 32 c.before.args.named c.leaf_values.result _ c.before.requires.0 c.leaf_values.ensures (omega arith) c.leaf_values.type-inv }
+    record { fits = within_lt 32 c.args.named c.leaf_values.result _ c.requires.0 c.leaf_values.ensures (omega arith) c.leaf_values.type_inv }
 
 returns : tie.Need-returns
 returns c =
-    values_is constant_levels _ _ _ _ c.leaf_values.result c.leaf_values.type-inv (λ i. rw (power c.before) at (c.leaf_values.ensures i))
+    values_is constant_levels _ _ _ _ c.leaf_values.result c.leaf_values.type_inv (λ i. rw (power c.before) at (c.leaf_values.ensures i))
 
 pub values_at_spec : {M : Type 1} → statement M
 values_at_spec =

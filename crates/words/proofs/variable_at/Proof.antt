@@ -11,7 +11,7 @@ sub-result-2 : tie.Need-overflow_sub-result-then-p-n
 sub-result-2 c = search rules
 
 returns : tie.Need-returns-then-p-n
-returns c = let a = c.before.args in rw (← (position_free a.n a.m a.p c.if-p-n.true)) (has_digit a.n a.m a.p c.before.requires.1)
+returns c = let a = c.args in rw (← (position_free a.n a.m a.p c.if-p-n.true)) (has_digit a.n a.m a.p c.requires.1)
 
 mul-result : tie.Need-overflow_mul-result
 mul-result c = search rules
@@ -26,7 +26,7 @@ sub-result-4 : tie.Need-overflow_sub-result-3
 sub-result-4 c = search rules
 
 returns-2 : tie.Need-returns
-returns-2 c = let a = c.before.args in rw (← (position_own a.n a.m a.p c.if-p-n.false)) (has_digit a.n a.m a.p c.before.requires.1)
+returns-2 c = let a = c.args in rw (← (position_own a.n a.m a.p c.if-p-n.false)) (has_digit a.n a.m a.p c.requires.1)
 
 pub variable_at_spec : {M : Type 1} → statement M
 variable_at_spec =

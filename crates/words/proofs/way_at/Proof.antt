@@ -10,33 +10,33 @@ digit-requires c κs = search rules
 
 returns : tie.Need-returns-then-digit
 returns k form a b c W =
-    let start = k.before.before in
-    way_overlap form a b c _ W start.args.i start.requires (sym k.before.digit.ensures ∙ k.if-digit.true)
+    let start = k in
+    way_overlap form a b c _ W start.args.i start.requires (sym k.digit.ensures ∙ k.if-digit.true)
 
 digit-requires-2 : tie.Need-digit-requires-2
 digit-requires-2 c κs = search rules
 
 returns-2 : tie.Need-returns-then-digit-2
 returns-2 k form a b c W =
-    let start = k.before.before.before.before in
-    way_surplus form a b c _ W start.args.i start.requires (sym k.before.digit-2.ensures ∙ k.if-digit-2.true)
+    let start = k in
+    way_surplus form a b c _ W start.args.i start.requires (sym k.digit-2.ensures ∙ k.if-digit-2.true)
 
 digit-requires-3 : tie.Need-digit-requires-3
 digit-requires-3 c κs = search rules
 
 returns-3 : tie.Need-returns-then-digit-3
 returns-3 k form a b c W =
-    let start = k.before.before.before.before.before.before in
-    way_shortfall form a b c _ W start.args.i start.requires (sym k.before.digit-3.ensures ∙ k.if-digit-3.true)
+    let start = k in
+    way_shortfall form a b c _ W start.args.i start.requires (sym k.digit-3.ensures ∙ k.if-digit-3.true)
 
 returns-4 : tie.Need-returns
 returns-4 k form a b c W =
-    let third = k.before in
-    let second = third.before.before in
-    let first = second.before.before in
-    let start = first.before in
-    way_holds form a b c _ W start.args.i start.requires (sym first.digit.ensures ∙ second.before.if-digit.false)
-    (sym second.digit-2.ensures ∙ third.before.if-digit-2.false) (sym third.digit-3.ensures ∙ k.if-digit-3.false)
+    let third = k in
+    let second = third in
+    let first = second in
+    let start = first in
+    way_holds form a b c _ W start.args.i start.requires (sym first.digit.ensures ∙ second.if-digit.false)
+    (sym second.digit-2.ensures ∙ third.if-digit-2.false) (sym third.digit-3.ensures ∙ k.if-digit-3.false)
 
 pub way_at_spec : {M : Type 1} → statement M
 way_at_spec =

@@ -20,20 +20,20 @@ wide-requires : tie.Need-wide-middle-requires
 wide-requires c κs = search rules
 
 -- the number of the way
-way : (c : tie.After-wide-middle) → c.wide-middle.result ≡ way_number c.before.before.args.way
-way c = c.wide-middle.ensures.0 ∙ c.before.way_number.ensures
+way : (c : tie.After-wide-middle) → c.wide-middle.result ≡ way_number c.args.way
+way c = c.wide-middle.ensures.0 ∙ c.way_number.ensures
 
 mul-middle : tie.Need-overflow_mul-middle
-mul-middle c = omega (arith, way c, number_lt c.before.before.args.way)
+mul-middle c = omega (arith, way c, number_lt c.args.way)
 
 add_result : tie.Need-overflow_add-result
-add_result c = let P = c.before.before.requires in omega (arith, P.0, P.1, way c, number_lt c.before.before.args.way)
+add_result c = let P = c.requires in omega (arith, P.0, P.1, way c, number_lt c.args.way)
 
 mul-result : tie.Need-overflow_mul-result
-mul-result c = let P = c.before.before.requires in omega (arith, P.0, P.1)
+mul-result c = let P = c.requires in omega (arith, P.0, P.1)
 
 add_result_2 : tie.Need-overflow_add-result-2
-add_result_2 c = let P = c.before.before.requires in omega (arith, P.0, P.1, way c, number_lt c.before.before.args.way)
+add_result_2 c = let P = c.requires in omega (arith, P.0, P.1, way c, number_lt c.args.way)
 
 returns : tie.Need-returns
 returns c = omega (arith, way c)

@@ -11,7 +11,7 @@ ask-requires : tie.Need-ask-requires
 ask-requires c κs = search rules
 
 pack-requires : tie.Need-pack-requires
-pack-requires c κs = subst InBytes (sym c.before.before.before.before.ask.ensures.0) (outcome_fits _ _ _)
+pack-requires c κs = subst InBytes (sym c.ask.ensures.0) (outcome_fits _ _ _)
 
 same_length : tie.Need-shape_of-answer
 same_length c = search rules
@@ -21,8 +21,8 @@ same-length-2 c = search rules
 
 returns : tie.Need-returns
 returns c =
-    let start = c.before.before.before.before.before.before.before.before.before.before.before.args in
-    given_packed start.question.now start.answer-1.now start.work-1.now _ _ _ c.before.before.before.before.before.ask.ensures _ c.pack.ensures
+    let start = c.args in
+    given_packed start.question.now start.answer.now start.work.now _ _ _ c.ask.ensures _ c.pack.ensures
 
 pub zimorgal_ask_spec : {M : Type 1} → statement M
 zimorgal_ask_spec =

@@ -12,7 +12,7 @@ constant-number-requires : tie.Need-constant_number-requires
 constant-number-requires c κs = search rules
 
 returns : tie.Need-returns
-returns c = c.constant_number.ensures ∙ ap constant_number c.before.from_text.ensures
+returns c = c.constant_number.ensures ∙ ap constant_number c.from_text.ensures
 
 pub zimorgal_constant_spec : {M : Type 1} → statement M
 zimorgal_constant_spec = tie.close (tie.spec from-text-requires constant-number-requires returns)

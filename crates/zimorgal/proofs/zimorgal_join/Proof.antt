@@ -19,10 +19,10 @@ join-number-requires c κs = search rules
 
 returns : tie.Need-returns
 returns c =
-    let a = c.before.before.args.a in
-    let b = c.before.before.args.b in
+    let a = c.args.a in
+    let b = c.args.b in
     let shared = set_in_both (2 ^ constant_levels) a b in
-    let joined : c.before.join_constants.result ≡ cond shared Undefined (Constant (a + b)) = c.before.join_constants.ensures.1 in
+    let joined : c.join_constants.result ≡ cond shared Undefined (Constant (a + b)) = c.join_constants.ensures.1 in
     let told = c.join_number.ensures ∙ ap (join_number constant_levels) joined ∙ number_cases constant_levels shared (a + b) in
     (join_told constant_levels a b (omega arith) (omega arith) _ told, told)
 

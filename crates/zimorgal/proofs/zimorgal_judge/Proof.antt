@@ -13,7 +13,7 @@ judgement-number-requires : tie.Need-judgement_number-requires
 judgement-number-requires c κs = subst Small (sym c.judge.ensures.0) (judgement_small _ _)
 
 returns : tie.Need-returns
-returns c = judges_numbered _ _ _ c.before.judge.ensures _ c.judgement_number.ensures
+returns c = judges_numbered _ _ _ c.judge.ensures _ c.judgement_number.ensures
 
 pub zimorgal_judge_spec : {M : Type 1} → statement M
 zimorgal_judge_spec = tie.close (tie.spec judge-requires judgement-number-requires returns)

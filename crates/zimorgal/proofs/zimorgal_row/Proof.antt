@@ -9,13 +9,13 @@ row-range-requires : tie.Need-row_range-range-requires
 row-range-requires c κs = search rules
 
 mul-result : tie.Need-overflow_mul-result
-mul-result c = omega (arith, range_small c.before.before.args.answer.now _ _ c.row_range-range.ensures)
+mul-result c = omega (arith, range_small c.args.answer.now _ _ c.row_range-range.ensures)
 
 add_result : tie.Need-overflow_add-result
-add_result c = omega (arith, range_small c.before.before.args.answer.now _ _ c.row_range-range.ensures)
+add_result c = omega (arith, range_small c.args.answer.now _ _ c.row_range-range.ensures)
 
 returns : tie.Need-returns
-returns c = range_given c.before.before.args.answer.now _ _ c.row_range-range.ensures
+returns c = range_given c.args.answer.now _ _ c.row_range-range.ensures
 
 pub zimorgal_row_spec : {M : Type 1} → statement M
 zimorgal_row_spec = tie.close (tie.spec row-range-requires mul-result add_result returns)

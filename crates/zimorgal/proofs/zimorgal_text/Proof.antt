@@ -16,7 +16,7 @@ same_length c = search rules
 
 returns : tie.Need-returns
 returns c =
-    let t = c.before.before.before.tree_text.ensures in
+    let t = c.tree_text.ensures in
     (c.text_number.ensures ∙ ap text_number t.0, t.1)
 
 pub zimorgal_text_spec : {M : Type 1} → statement M

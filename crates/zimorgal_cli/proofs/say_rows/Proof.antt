@@ -37,7 +37,7 @@ loop-again : tie.Need-loop-v-preserved invariant-loop-v decreases-loop-v
 loop-again c = omega arith
 
 same-length-2 : tie.Need-shape_of-text invariant-loop-v decreases-loop-v
-same-length-2 c = c.before.loop-v.invariant
+same-length-2 c = c.loop-v.invariant
 
 returns-2 : tie.Need-returns invariant-loop-v decreases-loop-v
 returns-2 c = tt

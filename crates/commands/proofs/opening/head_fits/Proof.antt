@@ -15,15 +15,15 @@ add-if2 c = search rules
 
 returns-2 : tie.Need-returns-then-free-own-gt12
 unfolding head_fits
-returns-2 c = simp (le-ltb 1 _ c.before.if-kind-gt1.false, lt-ltb 12 _ c.if-free-own-gt12.true)
+returns-2 c = simp (le-ltb 1 _ c.if-kind-gt1.false, lt-ltb 12 _ c.if-free-own-gt12.true)
 
 returns-3 : tie.Need-returns-then-kind-eq0
 unfolding head_fits
-returns-3 c = simp (le-ltb _ _ c.before.before.if-kind-gt1.false, le-ltb _ _ c.before.if-free-own-gt12.false, eq-eqb _ _ c.if-kind-eq0.true) refl
+returns-3 c = simp (le-ltb _ _ c.if-kind-gt1.false, le-ltb _ _ c.if-free-own-gt12.false, eq-eqb _ _ c.if-kind-eq0.true) refl
 
 returns-4 : tie.Need-returns
 unfolding head_fits
-returns-4 c = simp (le-ltb _ _ c.before.before.if-kind-gt1.false, le-ltb _ _ c.before.if-free-own-gt12.false, ne_eqb _ _ c.if-kind-eq0.false)
+returns-4 c = simp (le-ltb _ _ c.if-kind-gt1.false, le-ltb _ _ c.if-free-own-gt12.false, ne_eqb _ _ c.if-kind-eq0.false)
 
 pub head_fits_spec : {M : Type 1} → statement M
 head_fits_spec = tie.close (tie.spec returns add-if2 returns-2 returns-3 returns-4)

@@ -10,18 +10,18 @@ use Rattle.commands.proofs.opening.read_head.Tie as tie
 
 returns : tie.Need-returns-then-bytes-lt1
 unfolding head_of
-returns c = simp (le-ltb 0 (length c.before.before.args.bytes.now) (omega arith))
+returns c = simp (le-ltb 0 (length c.args.bytes.now) (omega arith))
 
 shared-slice-read-if2 : tie.Need-bounds-bytes-0
 shared-slice-read-if2 c = search rules
 
 returns-2 : tie.Need-returns-then-bytes-ne1
 unfolding head_of
-returns-2 c = simp (lt-ltb 0 _ c.before.before.if-bytes-lt1.false, ne_eqb _ 1 c.if-bytes-ne1.true)
+returns-2 c = simp (lt-ltb 0 _ c.if-bytes-lt1.false, ne_eqb _ 1 c.if-bytes-ne1.true)
 
 returns-3 : tie.Need-returns-then-bytes-lt4
 unfolding head_of
-returns-3 c = simp (lt-ltb 0 _ c.before.before.before.if-bytes-lt1.false, eq-eqb _ _ c.before.if-bytes-ne1.false, lt-ltb _ 4 c.if-bytes-lt4.true)
+returns-3 c = simp (lt-ltb 0 _ c.if-bytes-lt1.false, eq-eqb _ _ c.if-bytes-ne1.false, lt-ltb _ 4 c.if-bytes-lt4.true)
 
 shared-slice-read-kind : tie.Need-bounds-bytes-1
 shared-slice-read-kind c = search rules
@@ -44,14 +44,14 @@ head-fits-requires c κs = search rules
 returns-4 : tie.Need-returns-then-head_fits
 returns-4 c =
     rw c.if-head_fits.true at
-    (whole_head c.before.before.before.before.before.before.before.before.before.before.before.before.args.bytes.now _ _ _ c.before.before.before.before.before.before.before.before.before.before.if-bytes-lt1.false c.before.before.before.before.before.before.before.before.if-bytes-ne1.false c.before.before.before.before.before.before.before.if-bytes-lt4.false c.before.before.before.before.index-free.ensures.0
-    c.before.before.index-own.ensures.0 c.before.head_fits.ensures)
+    (whole_head c.args.bytes.now _ _ _ c.if-bytes-lt1.false c.if-bytes-ne1.false c.if-bytes-lt4.false c.index-free.ensures.0
+    c.index-own.ensures.0 c.head_fits.ensures)
 
 returns-5 : tie.Need-returns
 returns-5 c =
     rw c.if-head_fits.false at
-    (whole_head c.before.before.before.before.before.before.before.before.before.before.before.before.args.bytes.now _ _ _ c.before.before.before.before.before.before.before.before.before.before.if-bytes-lt1.false c.before.before.before.before.before.before.before.before.if-bytes-ne1.false c.before.before.before.before.before.before.before.if-bytes-lt4.false c.before.before.before.before.index-free.ensures.0
-    c.before.before.index-own.ensures.0 c.before.head_fits.ensures)
+    (whole_head c.args.bytes.now _ _ _ c.if-bytes-lt1.false c.if-bytes-ne1.false c.if-bytes-lt4.false c.index-free.ensures.0
+    c.index-own.ensures.0 c.head_fits.ensures)
 
 pub read_head_spec : {M : Type 1} → statement M
 read_head_spec =

@@ -35,19 +35,19 @@ four-requires-5 : tie.Need-four-requires-in-Together
 four-requires-5 c κs = search rules
 
 returns : tie.Need-returns-in-Join
-returns c = rw (c.before.enum_told-1.given.1, byte_back c.before.before.before.args.a, byte_back c.before.before.before.args.b, byte_back c.before.before.before.args.c) c.four.ensures
+returns c = rw (c.enum_told-1.is, byte_back c.args.a, byte_back c.args.b, byte_back c.args.c) c.four.ensures
 
 returns-2 : tie.Need-returns-in-Equality
-returns-2 c = rw (c.before.enum_told-in-Equality-1.given.1, byte_back c.before.before.before.args.a, byte_back c.before.before.before.args.b) c.four-in-Equality.ensures
+returns-2 c = rw (c.enum_told-in-Equality-1.is, byte_back c.args.a, byte_back c.args.b) c.four-in-Equality.ensures
 
 returns-3 : tie.Need-returns-in-Full
-returns-3 c = rw (c.before.enum_told-in-Full-1.given.1, byte_back c.before.before.before.args.a) c.four-in-Full.ensures
+returns-3 c = rw (c.enum_told-in-Full-1.is, byte_back c.args.a) c.four-in-Full.ensures
 
 returns-4 : tie.Need-returns-in-Empty
-returns-4 c = rw (c.before.enum_told-in-Empty-1.given.1, byte_back c.before.before.before.args.a) c.four-in-Empty.ensures
+returns-4 c = rw (c.enum_told-in-Empty-1.is, byte_back c.args.a) c.four-in-Empty.ensures
 
 returns-5 : tie.Need-returns-in-Together
-returns-5 c = rw (c.before.enum_told-in-Together-1.given.1, byte_back c.before.before.before.args.a, byte_back c.before.before.before.args.b) c.four-in-Together.ensures
+returns-5 c = rw (c.enum_told-in-Together-1.is, byte_back c.args.a, byte_back c.args.b) c.four-in-Together.ensures
 
 pub join_for_spec : {M : Type 1} → statement M
 join_for_spec =

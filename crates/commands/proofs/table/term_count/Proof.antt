@@ -20,19 +20,19 @@ enum-told-5 : tie.Need-enum_told-in-Together
 enum-told-5 c = search rules
 
 returns : tie.Need-returns-in-Join
-returns c = rw c.enum_told-1.given.1 refl
+returns c = rw c.enum_told-1.is refl
 
 returns-2 : tie.Need-returns-in-Equality
-returns-2 c = rw c.enum_told-in-Equality-1.given.1 refl
+returns-2 c = rw c.enum_told-in-Equality-1.is refl
 
 returns-3 : tie.Need-returns-in-Full
-returns-3 c = rw c.enum_told-in-Full-1.given.1 refl
+returns-3 c = rw c.enum_told-in-Full-1.is refl
 
 returns-4 : tie.Need-returns-in-Empty
-returns-4 c = rw c.enum_told-in-Empty-1.given.1 refl
+returns-4 c = rw c.enum_told-in-Empty-1.is refl
 
 returns-5 : tie.Need-returns-in-Together
-returns-5 c = rw c.enum_told-in-Together-1.given.1 refl
+returns-5 c = rw c.enum_told-in-Together-1.is refl
 
 pub term_count_spec : {M : Type 1} → statement M
 term_count_spec =

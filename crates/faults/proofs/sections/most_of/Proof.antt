@@ -17,16 +17,16 @@ enum-told-4 : tie.Need-enum_told-in-SecondDisequation
 enum-told-4 c = search rules
 
 returns : tie.Need-returns-in-FirstPositive
-returns c = rw c.enum_told-1.given.1 refl
+returns c = rw c.enum_told-1.is refl
 
 returns-2 : tie.Need-returns-in-FirstDisequation
-returns-2 c = rw c.enum_told-in-FirstDisequation-1.given.1 refl
+returns-2 c = rw c.enum_told-in-FirstDisequation-1.is refl
 
 returns-3 : tie.Need-returns-in-SecondPositive
-returns-3 c = rw c.enum_told-in-SecondPositive-1.given.1 refl
+returns-3 c = rw c.enum_told-in-SecondPositive-1.is refl
 
 returns-4 : tie.Need-returns-in-SecondDisequation
-returns-4 c = rw c.enum_told-in-SecondDisequation-1.given.1 refl
+returns-4 c = rw c.enum_told-in-SecondDisequation-1.is refl
 
 pub most_of_spec : {M : Type 1} → statement M
 most_of_spec =

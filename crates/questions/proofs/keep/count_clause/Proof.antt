@@ -23,30 +23,30 @@ section-number-requires : tie.Need-section_number-i-requires
 section-number-requires c κs = search rules
 
 mul-counts : tie.Need-offset_bounds-counts-i
-mul-counts c = omega (arith, section_below c.before.before.command-1.given.0.0, c.section_number-i.ensures)
+mul-counts c = omega (arith, section_below c.command-1.given.0.0, c.section_number-i.ensures)
 
 element-copy-out-counts : tie.Need-bounds-counts-i
-element-copy-out-counts c = omega (arith, section_below c.before.before.command-1.given.0.0, c.section_number-i.ensures)
+element-copy-out-counts c = omega (arith, section_below c.command-1.given.0.0, c.section_number-i.ensures)
 
 add-counts : tie.Need-overflow_add-counts
 add-counts c =
-    rw c.before.section_number-i.ensures
-    (omega (arith, subst (Slot c.before.before.before.before.before.args.counts-1.now) c.before.before.before.command-1.given.1 c.before.before.before.before.before.requires))
+    rw c.section_number-i.ensures
+    (omega (arith, subst (Slot c.args.counts.now) c.command-1.given.1 c.requires))
 
 element-write-counts : tie.Need-bounds-counts-i-in-Clause
-element-write-counts c = omega (arith, section_below c.before.before.before.command-1.given.0.0, c.before.section_number-i.ensures)
+element-write-counts c = omega (arith, section_below c.command-1.given.0.0, c.section_number-i.ensures)
 
 returns : tie.Need-returns-in-End
-returns c = simp c.enum_told-1.given.1
+returns c = simp c.enum_told-1.is
 
 returns-2 : tie.Need-returns-in-Head
-returns-2 c = simp c.enum_told-in-Head-1.given.1
+returns-2 c = simp c.enum_told-in-Head-1.is
 
 returns-3 : tie.Need-returns-in-Constant
-returns-3 c = simp c.enum_told-in-Constant-1.given.1
+returns-3 c = simp c.enum_told-in-Constant-1.is
 
 returns-4 : tie.Need-returns-in-Clause
-returns-4 c = simp (c.before.before.before.command-1.given.1, c.before.section_number-i.ensures)
+returns-4 c = simp (c.command-1.given.1, c.section_number-i.ensures)
 
 pub count_clause_spec : {M : Type 1} → statement M
 count_clause_spec =

@@ -26,45 +26,45 @@ section-count-requires c κs = search rules
 
 mul-i : tie.Need-overflow_mul-i
 mul-i c =
-    let start = c.before.before.before.before.before.before in
-    omega (arith, subst (Slot start.args.counts.now) c.before.before.before.command-1.given.1 start.requires.1.0, c.section_count.ensures, c.before.section_start.ensures)
+    let start = c in
+    omega (arith, subst (Slot start.args.counts.now) c.command-1.given.1 start.requires.1.0, c.section_count.ensures, c.section_start.ensures)
 
 add-i : tie.Need-overflow_add-i
 add-i c =
-    let start = c.before.before.before.before.before.before in
-    omega (arith, subst (Slot start.args.counts.now) c.before.before.before.command-1.given.1 start.requires.1.0, c.section_count.ensures, c.before.section_start.ensures)
+    let start = c in
+    omega (arith, subst (Slot start.args.counts.now) c.command-1.given.1 start.requires.1.0, c.section_count.ensures, c.section_start.ensures)
 
 join-for-requires : tie.Need-join_for-join-requires
 join-for-requires c κs = search rules
 
 store-requires : tie.Need-store-requires
 store-requires c κs =
-    let start = c.before.before.before.before.before.before.before.before in
-    omega (arith, start.requires.0, subst (Slot start.args.counts.now) c.before.before.before.before.before.command-1.given.1 start.requires.1.0, c.before.before.section_count.ensures, c.before.before.before.section_start.ensures)
+    let start = c in
+    omega (arith, start.requires.0, subst (Slot start.args.counts.now) c.command-1.given.1 start.requires.1.0, c.section_count.ensures, c.section_start.ensures)
 
 constants-in-requires : tie.Need-constants_in-requires
 constants-in-requires c κs =
-    let start = c.before.before.before.before.before.before.before.before.before.before.before in
-    let command = c.before.before.before.before.before.before.before.before.command-1 in
-    rw c.before.before.before.before.join_for-join.ensures (subst SmallIn command.given.1 start.requires.1.1)
+    let start = c in
+    let command = c.command-1 in
+    rw c.join_for-join.ensures (subst SmallIn command.given.1 start.requires.1.1)
 
 returns : tie.Need-returns-in-End
-returns c = simp c.enum_told-1.given.1 (refl, refl)
+returns c = simp c.enum_told-1.is (refl, refl)
 
 returns-2 : tie.Need-returns-in-Head
-returns-2 c = simp c.enum_told-in-Head-1.given.1 (refl, refl)
+returns-2 c = simp c.enum_told-in-Head-1.is (refl, refl)
 
 returns-3 : tie.Need-returns-in-Constant
-returns-3 c = simp c.enum_told-in-Constant-1.given.1 (refl, refl)
+returns-3 c = simp c.enum_told-in-Constant-1.is (refl, refl)
 
 same_length : tie.Need-shape_of-clauses
 same_length c = search rules
 
 returns-4 : tie.Need-returns-in-Clause
 returns-4 c =
-    let counted = c.before.before.before.before.before.before in
-    let join = c.before.before.before.before.before.join_for-join in
-    simp (counted.before.before.before.command-1.given.1, c.before.before.before.store.ensures, c.constants_in.ensures, join.ensures, counted.section_count.ensures, counted.before.section_start.ensures)
+    let counted = c in
+    let join = c.join_for-join in
+    simp (counted.command-1.given.1, c.store.ensures, c.constants_in.ensures, join.ensures, counted.section_count.ensures, counted.section_start.ensures)
     (refl, refl)
 
 pub keep_clause_spec : {M : Type 1} → statement M

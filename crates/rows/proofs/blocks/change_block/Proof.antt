@@ -9,9 +9,9 @@ use Rattle.rows.proofs.blocks.change_block.Tie as tie
 
 returns : tie.Need-returns-then-old-full
 returns c =
-    let a = c.before.before.args in
+    let a = c.args in
     let e = (beq_iff a.old a.full).0 (of_true c.if-old-full.true) in
-    leaf_same _ _ _ _ (subst (AllLeaves a.row-1.now a.height a.q) e c.before.before.requires.1)
+    leaf_same _ _ _ _ (subst (AllLeaves a.row.now a.height a.q) e c.requires.1)
 
 write-block-requires : tie.Need-write_block-requires
 write-block-requires c κs = search rules

@@ -13,10 +13,10 @@ power-requires : tie.Need-power-requires
 power-requires c κs = search rules
 
 mul-i : tie.Need-overflow_mul-i
-mul-i c = omega (arith, first_at_lem c.before.before.args.row.now _ _ c.before.before.requires _ c.power.ensures, c.before.before.requires.few)
+mul-i c = omega (arith, first_at_lem c.args.row.now _ _ c.requires _ c.power.ensures, c.requires.few)
 
 shared-slice-read-wide : tie.Need-bounds-row-i
-shared-slice-read-wide c = omega (arith, first_at_lem c.before.before.before.args.row.now _ _ c.before.before.before.requires _ c.before.power.ensures)
+shared-slice-read-wide c = omega (arith, first_at_lem c.args.row.now _ _ c.requires _ c.power.ensures)
 
 wide-requires : tie.Need-wide-requires
 wide-requires c κs = search rules
@@ -27,9 +27,9 @@ digit-requires c κs = search rules
 returns : tie.Need-returns
 unfolding row_leaf
 returns c =
-    let a = c.before.before.before.before.before.args in
-    let e = c.before.before.before.power.ensures in
-    c.digit.ensures ∙ ap (λ (b : ℕ). bit b (a.q * c.before.before.before.power.result % 8)) c.before.wide.ensures.0 ∙ ap (λ (s : ℕ). row_leaf a.row.now (a.q * s)) e
+    let a = c.args in
+    let e = c.power.ensures in
+    c.digit.ensures ∙ ap (λ (b : ℕ). bit b (a.q * c.power.result % 8)) c.wide.ensures.0 ∙ ap (λ (s : ℕ). row_leaf a.row.now (a.q * s)) e
 
 pub first_leaf_spec : {M : Type 1} → statement M
 first_leaf_spec =

@@ -15,7 +15,7 @@ mask-requires c κs = search rules
 returns : tie.Need-returns
 returns c =
     let small : c.mask.result < 256 = omega arith in
-    block_test _ _ _ _ _ _ c.before.whole.ensures c.mask.ensures small
+    block_test _ _ _ _ _ _ c.whole.ensures c.mask.ensures small
 
 pub is_block_spec : {M : Type 1} → statement M
 is_block_spec = tie.close (tie.spec whole-requires mask-requires returns)

@@ -20,7 +20,7 @@ shared-slice-read-if1 : tie.Need-bounds-part-i invariant-loop-i decreases-loop-i
 shared-slice-read-if1 c = omega arith
 
 returns : tie.Need-returns-then-part-i invariant-loop-i decreases-loop-i
-returns c = (λ t. absurd t, λ f. c.if-part-i.true (f _ c.before.before.loop-i-test.true))
+returns c = (λ t. absurd t, λ f. c.if-part-i.true (f _ c.loop-i-test.true))
 
 add-i : tie.Need-overflow_add-i invariant-loop-i decreases-loop-i
 add-i c = omega arith
@@ -29,10 +29,10 @@ loop-less : tie.Need-loop-i-smaller invariant-loop-i decreases-loop-i
 loop-less c = omega arith
 
 loop-again : tie.Need-loop-i-preserved invariant-loop-i decreases-loop-i
-loop-again c = (omega arith, below_more _ _ c.before.before.before.loop-i.invariant.1 c.if-part-i.false)
+loop-again c = (omega arith, below_more _ _ c.loop-i.invariant.1 c.if-part-i.false)
 
 returns-2 : tie.Need-returns invariant-loop-i decreases-loop-i
-returns-2 c = (λ t k l. c.before.loop-i.invariant.1 k (omega arith), λ f. tt)
+returns-2 c = (λ t k l. c.loop-i.invariant.1 k (omega arith), λ f. tt)
 
 pub is_filled_spec : {M : Type 1} → statement M
 is_filled_spec =

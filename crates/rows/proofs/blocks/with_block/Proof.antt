@@ -11,7 +11,7 @@ mask-requires : tie.Need-mask-requires
 mask-requires c κs = search rules
 
 returns : tie.Need-returns
-returns c = block_bits _ _ _ _ _ _ c.before.whole.ensures c.mask.ensures
+returns c = block_bits _ _ _ _ _ _ c.whole.ensures c.mask.ensures
 
 pub with_block_spec : {M : Type 1} → statement M
 with_block_spec = tie.close (tie.spec whole-requires mask-requires returns)

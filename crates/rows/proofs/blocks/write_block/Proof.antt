@@ -9,25 +9,25 @@ power-requires : tie.Need-power-blocks-requires
 power-requires c κs = search rules
 
 div-j : tie.Need-nonzero_div-j
-div-j c = size_pos c.before.before.before.args.row-1.now _ _ c.before.before.before.requires c.before.if-height-le3.true _ c.power-blocks.ensures
+div-j c = size_pos c.args.row.now _ _ c.requires c.if-height-le3.true _ c.power-blocks.ensures
 
 slice-read-with-block : tie.Need-bounds-row-j
-slice-read-with-block c = byte_at c.before.before.before.before.args.row-1.now _ _ c.before.before.before.before.requires c.before.before.if-height-le3.true _ c.before.power-blocks.ensures
+slice-read-with-block c = byte_at c.args.row.now _ _ c.requires c.if-height-le3.true _ c.power-blocks.ensures
 
 rem-with-block : tie.Need-nonzero_rem-q
-rem-with-block c = size_pos c.before.before.before.before.args.row-1.now _ _ c.before.before.before.before.requires c.before.before.if-height-le3.true _ c.before.power-blocks.ensures
+rem-with-block c = size_pos c.args.row.now _ _ c.requires c.if-height-le3.true _ c.power-blocks.ensures
 
 with-block-requires : tie.Need-with_block-requires
-with-block-requires c κs = bits_at c.before.before.before.before.args.row-1.now _ _ c.before.before.before.before.requires c.before.before.if-height-le3.true _ c.before.power-blocks.ensures
+with-block-requires c κs = bits_at c.args.row.now _ _ c.requires c.if-height-le3.true _ c.power-blocks.ensures
 
 slice-write-row : tie.Need-bounds-row-j-then-height-le3
-slice-write-row c = byte_at c.before.before.before.before.before.args.row-1.now _ _ c.before.before.before.before.before.requires c.before.before.before.if-height-le3.true _ c.before.before.power-blocks.ensures
+slice-write-row c = byte_at c.args.row.now _ _ c.requires c.if-height-le3.true _ c.power-blocks.ensures
 
 same_length : tie.Need-shape_of-row-then-height-le3
 same_length c = search rules
 
 returns : tie.Need-returns-then-height-le3
-returns c = set_at c.before.before.before.before.before.args.row-1.now _ _ c.before.before.before.before.before.requires c.before.before.before.if-height-le3.true _ c.before.before.power-blocks.ensures _ _ c.with_block.ensures
+returns c = set_at c.args.row.now _ _ c.requires c.if-height-le3.true _ c.power-blocks.ensures _ _ c.with_block.ensures
 
 sub-power : tie.Need-overflow_sub-height-2
 sub-power c = search rules
@@ -36,10 +36,10 @@ power-requires-2 : tie.Need-power-size-requires
 power-requires-2 c κs = search rules
 
 mul-start : tie.Need-overflow_mul-start
-mul-start c = omega (arith, part_fits c.before.before.before.args.row-1.now _ _ c.before.before.before.requires c.before.if-height-le3.false _ c.power-size.ensures)
+mul-start c = omega (arith, part_fits c.args.row.now _ _ c.requires c.if-height-le3.false _ c.power-size.ensures)
 
 add-fill : tie.Need-overflow_add-start
-add-fill c = omega (arith, part_fits c.before.before.before.args.row-1.now _ _ c.before.before.before.requires c.before.if-height-le3.false _ c.power-size.ensures)
+add-fill c = omega (arith, part_fits c.args.row.now _ _ c.requires c.if-height-le3.false _ c.power-size.ensures)
 
 sub-fill : tie.Need-slice_bounds-fill-count
 sub-fill c = search rules
@@ -48,7 +48,7 @@ part-fill-start : tie.Need-slice_bounds-fill-start
 part-fill-start c = search rules
 
 part-fill-end : tie.Need-slice_bounds-fill-end
-part-fill-end c = part_fits c.before.before.before.args.row-1.now _ _ c.before.before.before.requires c.before.if-height-le3.false _ c.power-size.ensures
+part-fill-end c = part_fits c.args.row.now _ _ c.requires c.if-height-le3.false _ c.power-size.ensures
 
 whole-requires : tie.Need-whole-requires
 whole-requires c κs = search rules
@@ -61,8 +61,8 @@ same-length-2 c = search rules
 
 returns-2 : tie.Need-returns
 returns-2 c =
-    fill_at c.before.before.before.before.before.before.before.before.args.row-1.now _ _ c.before.before.before.before.before.before.before.before.requires c.before.before.before.before.before.before.if-height-le3.false _ c.before.before.before.before.before.power-size.ensures _ _ _ _
-    c.before.before.before.before.fill-arg-1.given.1 c.before.before.fill.ensures c.before.before.before.whole.ensures
+    fill_at c.args.row.now _ _ c.requires c.if-height-le3.false _ c.power-size.ensures _ _ _ _
+    c.fill-arg-1.given.1 c.fill.ensures c.whole.ensures
 
 pub write_block_spec : {M : Type 1} → statement M
 write_block_spec =
