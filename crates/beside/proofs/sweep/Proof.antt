@@ -59,7 +59,7 @@ returns c =
 small : (c : tie.Joined1 invariant-loop-o decreases-loop-o) → c.before.before.loop.o * c.before.before.before.before.word_count.result + c.args.w < 64
 small c =
     let s = c in
-    word_small s.args.t3.free s.args.t3.own c.before.before.before.own_words.result c.before.before.before.before.word_count.result c.before.before.loop.o s.args.w
+    word_small s.args.sizes.free s.args.sizes.own c.before.before.before.own_words.result c.before.before.before.before.word_count.result c.before.before.loop.o s.args.w
     s.requires.0.variables c.before.before.before.before.word_count.ensures c.before.before.before.own_words.ensures c.before.loop-test.true s.requires.1.0
 
 mul-move-terms : tie.Need-overflow_mul-o invariant-loop-o decreases-loop-o

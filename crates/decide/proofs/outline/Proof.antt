@@ -16,7 +16,7 @@ splits-requires : tie.Need-splits-requires
 splits-requires c κs =
     let start = c in
     let (q, S) = start.requires in
-    omega (arith, c.room_of.ensures, room_most start.args.search (get_or start.args.t1.counts 1 0), count_sized _ q S)
+    omega (arith, c.room_of.ensures, room_most start.args.search (get_or start.args.sizes.counts 1 0), count_sized _ q S)
 
 extra-of-requires : tie.Need-extra_of-requires
 extra-of-requires c κs = search rules

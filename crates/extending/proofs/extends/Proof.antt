@@ -47,7 +47,7 @@ shl-wanted c = omega (arith, c.requires.0.few)
 sub-wanted : tie.Need-overflow_sub-wanted invariant-loop-b decreases-loop-b
 sub-wanted c =
     let s = c in
-    rw (power_shift (get_or s.args.t3.counts 3 0) (omega (arith, s.requires.0.few))) (pow_pos (get_or s.args.t3.counts 3 0))
+    rw (power_shift (get_or s.args.sizes.counts 3 0) (omega (arith, s.requires.0.few))) (pow_pos (get_or s.args.sizes.counts 3 0))
 
 loop-holds : tie.Need-loop-b-init invariant-loop-b decreases-loop-b
 loop-holds c =

@@ -31,7 +31,7 @@ slice-aggregate-missing c = search rules
 missing-requires : tie.Need-missing-none-requires
 missing-requires c κs =
     let s = c in
-    (s.requires.0, (s.requires.1, omega arith, merged_free s.args.t3.free s.args.choices _ c.merge_word-x.ensures))
+    (s.requires.0, (s.requires.1, omega arith, merged_free s.args.sizes.free s.args.choices _ c.merge_word-x.ensures))
 
 returns-2 : tie.Need-returns-then-none-ne0
 returns-2 c constants values v t =

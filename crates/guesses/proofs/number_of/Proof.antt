@@ -21,7 +21,7 @@ mul-number : tie.Need-overflow_mul-number invariant-loop-v decreases-loop-v
 mul-number c =
     let a = c in
     let v = c.loop-v.v in
-    omega (arith, number_lt v a.args.t1 a.requires.1, few {k = v} (omega arith))
+    omega (arith, number_lt v a.args.values a.requires.1, few {k = v} (omega arith))
 
 array-read-index : tie.Need-bounds-values-v invariant-loop-v decreases-loop-v
 array-read-index c = omega arith
@@ -33,7 +33,7 @@ add-number : tie.Need-overflow_add-number invariant-loop-v decreases-loop-v
 add-number c =
     let a = c in
     let v = c.loop-v.v in
-    omega (arith, number_lt v a.args.t1 a.requires.1, few {k = v} (omega arith))
+    omega (arith, number_lt v a.args.values a.requires.1, few {k = v} (omega arith))
 
 add-v : tie.Need-overflow_add-v invariant-loop-v decreases-loop-v
 add-v c = omega arith
@@ -44,7 +44,7 @@ loop-less c = omega arith
 loop-again : tie.Need-loop-v-preserved invariant-loop-v decreases-loop-v
 loop-again c =
     let l = c.loop-v in
-    let values = c.args.t1 in
+    let values = c.args.values in
     (omega arith, ap₂ (λ n d. 2 * n + d) l.invariant.1 c.index.ensures.0 ∙ number_more l.v values)
 
 returns : tie.Need-returns invariant-loop-v decreases-loop-v

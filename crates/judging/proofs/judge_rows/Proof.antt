@@ -18,7 +18,7 @@ unfold-requires c κs =
     (start.requires.0, named_lt _ _ start.requires.1.0.2, zero_at 1024)
 
 -- no more constants stand first than there may be
-few : (s : tie.Start) → s.args.t2.defined ≤ 32
+few : (s : tie.Start) → s.args.question.defined ≤ 32
 few s = rw s.requires.1.1 (leading_few s.args.bytes.now 32 0)
 
 mul-judge-first : tie.Need-overflow_mul-question
@@ -39,13 +39,13 @@ returns : tie.Need-returns-in_default
 returns c q e St =
     let walked = c in
     let start = walked in
-    rows_broken start.args.t2 _ _ q St _ (walked.judge_first-first.ensures q _ _ _ e (laid start.args.t2 _ _ q St _ walked.before.before.«unfold».ensures)) (λ a. no_other (rw a at c.in_default.is))
+    rows_broken start.args.question _ _ q St _ (walked.judge_first-first.ensures q _ _ _ e (laid start.args.question _ _ q St _ walked.before.before.«unfold».ensures)) (λ a. no_other (rw a at c.in_default.is))
 
 returns-2 : tie.Need-returns-then-question-eq0
 returns-2 c q e St =
     let walked = c in
     let start = walked in
-    rows_satisfied start.args.t2 _ _ q St _ (walked.judge_first-first.ensures q _ _ _ e (laid start.args.t2 _ _ q St _ walked.before.before.«unfold».ensures)) c.enum_told-1.is c.if-question-eq0.true
+    rows_satisfied start.args.question _ _ q St _ (walked.judge_first-first.ensures q _ _ _ e (laid start.args.question _ _ q St _ walked.before.before.«unfold».ensures)) c.enum_told-1.is c.if-question-eq0.true
 
 sizes-of-requires : tie.Need-sizes_of-sizes-requires
 sizes-of-requires c κs =
@@ -55,7 +55,7 @@ sizes-of-requires c κs =
 extends-requires : tie.Need-extends-requires
 extends-requires c κs =
     let start = c in
-    sizes_readable start.args.t2 _ start.args.rows.now start.requires.1.0.0 start.requires.1.0.2 _ c.sizes_of-sizes.ensures
+    sizes_readable start.args.question _ start.args.rows.now start.requires.1.0.0 start.requires.1.0.2 _ c.sizes_of-sizes.ensures
 
 returns-3 : tie.Need-returns-then-extends
 returns-3 c q e St =
@@ -64,8 +64,8 @@ returns-3 c q e St =
     let walked = unbroken in
     let start = walked in
     let U = walked.before.before.«unfold».ensures in
-    rows_extending start.args.t2 _ _ q St _ (walked.judge_first-first.ensures q _ _ _ e (laid start.args.t2 _ _ q St _ U)) unbroken.enum_told-1.is unbroken.if-question-eq0.false _
-    (extends_found start.args.t2 _ _ q St _ sized.sizes_of-sizes.ensures _ U _ c.extends.ensures) c.if-extends.true
+    rows_extending start.args.question _ _ q St _ (walked.judge_first-first.ensures q _ _ _ e (laid start.args.question _ _ q St _ U)) unbroken.enum_told-1.is unbroken.if-question-eq0.false _
+    (extends_found start.args.question _ _ q St _ sized.sizes_of-sizes.ensures _ U _ c.extends.ensures) c.if-extends.true
 
 returns-4 : tie.Need-returns
 returns-4 c q e St =
@@ -74,8 +74,8 @@ returns-4 c q e St =
     let walked = unbroken in
     let start = walked in
     let U = walked.before.before.«unfold».ensures in
-    rows_accepted start.args.t2 _ _ q St _ (walked.judge_first-first.ensures q _ _ _ e (laid start.args.t2 _ _ q St _ U)) unbroken.enum_told-1.is unbroken.if-question-eq0.false _
-    (extends_found start.args.t2 _ _ q St _ sized.sizes_of-sizes.ensures _ U _ c.extends.ensures) c.if-extends.false
+    rows_accepted start.args.question _ _ q St _ (walked.judge_first-first.ensures q _ _ _ e (laid start.args.question _ _ q St _ U)) unbroken.enum_told-1.is unbroken.if-question-eq0.false _
+    (extends_found start.args.question _ _ q St _ sized.sizes_of-sizes.ensures _ U _ c.extends.ensures) c.if-extends.false
 
 pub judge_rows_spec : {M : Type 1} → statement M
 judge_rows_spec =

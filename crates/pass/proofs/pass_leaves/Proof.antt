@@ -26,7 +26,7 @@ abbrev decreases-loop-b : tie.decreases-loop-b
 decreases-loop-b clauses constants search firsts₀ plains₀ rows₀ sizes terms₀ keys₀ leaves seen₀ b₀ firsts plains rows terms keys seen b = leaves - b
 
 -- there are at most 64 leaves
-few_leaves : (s : tie.Start invariant-loop-b decreases-loop-b) → 2 ^ s.args.t2.height ≤ 64
+few_leaves : (s : tie.Start invariant-loop-b decreases-loop-b) → 2 ^ s.args.sizes.height ≤ 64
 few_leaves s = pow_mono {j = 6} (omega (arith, s.requires.1.2))
 
 slice-aggregate-start-terms : tie.Need-slice_bounds-start_terms-end invariant-loop-b decreases-loop-b
@@ -45,7 +45,7 @@ shl-t25 : tie.Need-overflow_shl-seen invariant-loop-b decreases-loop-b
 shl-t25 c = omega (arith, c.requires.0.few)
 
 sub-t26 : tie.Need-overflow_sub-seen invariant-loop-b decreases-loop-b
-sub-t26 c = rw (power_shift (get_or c.args.t2.counts 3 0) (omega (arith, c.requires.0.few))) (pow_pos (get_or c.args.t2.counts 3 0))
+sub-t26 c = rw (power_shift (get_or c.args.sizes.counts 3 0) (omega (arith, c.requires.0.few))) (pow_pos (get_or c.args.sizes.counts 3 0))
 
 loop-holds : tie.Need-loop-b-init invariant-loop-b decreases-loop-b
 loop-holds c =

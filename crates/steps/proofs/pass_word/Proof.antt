@@ -21,8 +21,8 @@ use Rattle.steps.proofs.pass_word.Statement.{statement}
 use Rattle.steps.proofs.pass_word.Tie as tie
 
 -- the number of a word is small
-few_turns : (s : tie.Start) → s.args.spot.leaf * word_count s.args.t3.free + s.args.spot.word < 4096
-few_turns s = turn_lt s.args.t3.free s.args.spot.leaf s.args.spot.word (omega (arith, s.requires.0.variables)) s.requires.1.1 s.requires.1.2
+few_turns : (s : tie.Start) → s.args.spot.leaf * word_count s.args.sizes.free + s.args.spot.word < 4096
+few_turns s = turn_lt s.args.sizes.free s.args.spot.leaf s.args.spot.word (omega (arith, s.requires.0.variables)) s.requires.1.1 s.requires.1.2
 
 allowed-word-requires : tie.Need-allowed_word-x-requires
 allowed-word-requires c κs = let s = c in (s.requires.0, (s.requires.1.2, s.requires.1.0, s.requires.1.3))
