@@ -50,7 +50,7 @@ returns-3 c =
 -- what was read, once the tests are passed
 taken : (c : tie.Else-work-lt-WORK_BYTES) → (
     let reading = c in
-    Taken reading.args.question.now reading.read-reading.result reading.read-reading.new.1.0)
+    Taken reading.args.question.now reading.read-reading.result reading.read-reading.new.clauses)
 taken c =
     let reading = c in
     answer_taken reading.args.question.now _ reading.read-reading.ensures.0 _ reading.read-reading.ensures.1.1.0 c.if-reading-ne0.false

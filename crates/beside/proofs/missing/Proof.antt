@@ -16,7 +16,7 @@ sweep-requires : tie.Need-sweep-none-requires
 sweep-requires c κs =
     let p = c.requires in
     let put = c.put_all in
-    (p.0, (p.1.0, omega (arith, put.auto.0, p.1.1), put.ensures.0))
+    (p.0, (p.1.0, omega (arith, put.auto.words, p.1.1), put.ensures.0))
 
 move-terms-requires : tie.Need-move_terms-requires
 move-terms-requires c κs = search rules
@@ -40,7 +40,7 @@ returns c =
       λ values t.
           let S = sweep.ensures.0 values t in (
             c.move_terms.ensures values S.swept.at S.swept.table,
-            swept_missing a.clauses.now a.t3.counts a.t3.free a.t3.own values a.w a.x a.wanted sweep.result c.share_word.result _ sweep.new.1.1.1.1.1.1.0 share.new.0
+            swept_missing a.clauses.now a.sizes.counts a.sizes.free a.sizes.own values a.w a.x a.wanted sweep.result c.share_word.result _ sweep.new.left share.new.words
                 s.requires.1.0 s.requires.1.2 c.share_word.ensures share.ensures.0 S,
           ),
       λ k h. share.ensures.1 k (omega (arith, s.requires.0.few)) ∙ sweep.ensures.1 k h ∙ put.ensures.1 k (omega (arith, s.requires.0.few)),

@@ -35,7 +35,7 @@ loop-holds c =
       refl,
       λ j h t u. absurd (T_not (bit a.wanted j) u t),
       λ k h. refl,
-      λ values t. swept_start a.clauses.now a.t3.counts a.t3.free a.t3.own values a.w a.x a.wanted a.terms.now a.left.now p.1.2 t,
+      λ values t. swept_start a.clauses.now a.sizes.counts a.sizes.free a.sizes.own values a.w a.x a.wanted a.terms.now a.left.now p.1.2 t,
     )
 
 same_length : tie.Need-shape_of-left-then-going-eq0 invariant-loop-o decreases-loop-o
@@ -49,7 +49,7 @@ returns c =
       λ values t. record {
         words = total.result;
         enough = total.ensures;
-        swept = rw c.if-none-eq0.true at (swept_stop a.clauses.now a.t3.counts a.t3.free a.t3.own values a.w a.x a.wanted l.o total.result l.none l.going l.terms l.left
+        swept = rw c.if-none-eq0.true at (swept_stop a.clauses.now a.sizes.counts a.sizes.free a.sizes.own values a.w a.x a.wanted l.o total.result l.none l.going l.terms l.left
             l.invariant.0 c.if-none-eq0.true c.if-going-eq0.true l.invariant.2 (l.invariant.4 values t));
       },
       l.invariant.3,
@@ -101,13 +101,13 @@ loop-again c =
     let y = c.section_word-y in
     let taken = c.take_all-going in (
       omega (arith, c.loop-o-test.true),
-      taken.auto.1.1.1.1.1.0 ∙ l.invariant.1,
-      emptied_more _ _ a.wanted l.going taken.result l.left taken.new.1.1.1.1.1.0 taken.ensures l.invariant.2,
+      taken.auto.left ∙ l.invariant.1,
+      emptied_more _ _ a.wanted l.going taken.result l.left taken.new.left taken.ensures l.invariant.2,
       λ k h. taken.ensures.left_kept k (λ m. absurd (omega (arith, s.requires.0.few))) ∙ l.invariant.3 k h,
       λ values t.
           let S = l.invariant.4 values t in
-          swept_more a.clauses.now a.t3.counts a.t3.free a.t3.own values a.w a.x a.wanted l.o l.none l.going y.result _ taken.result
-          l.terms moved.new.1.1.1.0 l.left taken.new.1.1.1.1.1.0 s.requires.0 (l.o * words.result + a.w) (ap (λ k. l.o * k + a.w) words.ensures)
+          swept_more a.clauses.now a.sizes.counts a.sizes.free a.sizes.own values a.w a.x a.wanted l.o l.none l.going y.result _ taken.result
+          l.terms moved.new.terms l.left taken.new.left s.requires.0 (l.o * words.result + a.w) (ap (λ k. l.o * k + a.w) words.ensures)
           (moved.ensures values S.at S.table)
           y.ensures (taken_out l.none y.result (bit y.result) y.type_inv (λ i h. refl))
           taken.ensures l.invariant.2 S,

@@ -74,7 +74,7 @@ loop-again c =
     let low = here c.before.before.before.before.before in
     let m = c.take_one-r in (
       omega (arith, c.without_lowest-rest.ensures.0, l.invariant.0),
-      m.auto.1.1.1.1.1.1.0 ∙ l.invariant.1,
+      m.auto.left ∙ l.invariant.1,
       but_more _ _ _ _ _ l.rest _ l.r m.result l.left _ (omega (arith, s.requires.0.0)) low.1 (out c) l.invariant.2 m.ensures,
     )
 

@@ -64,7 +64,7 @@ loop-again c =
     let inside = c.loop-at-test.true in
     let (τ, e, T) = subst (Stepped constant_levels _ _ σ) c.next-1.given.1 (c.take_sign.ensures σ S (omega (arith, l.invariant.0, few, inside, c.if-text-gt-LONGEST_TEXT.false))) in
     let turn = turn_goes s l.at inside σ so_far τ e few in
-    (c.take_sign.auto.0 ∙ l.invariant.0, omega arith, (τ, T, turn.0, turn.1))
+    (c.take_sign.auto.items ∙ l.invariant.0, omega arith, (τ, T, turn.0, turn.1))
 
 array-read-from-stack : tie.Need-bounds-items-0 invariant-loop-at decreases-loop-at
 array-read-from-stack c = search rules

@@ -13,7 +13,7 @@ open-pair-requires : tie.Need-open_pair-requires
 open-pair-requires c κs = (omega (arith, c.requires.1.top, c.requires.2), omega (arith, c.requires.1.top, c.requires.1.pairs, brackets_few c.requires.0))
 
 same_length : tie.Need-shape_of-items-then-sign-eq40
-same_length c = c.open_pair.auto.0
+same_length c = c.open_pair.auto.items
 
 returns : tie.Need-returns-then-sign-eq40
 returns c σ S room = steps_same constant_levels _ σ _ _ c.open_pair.ensures.1 c.open_pair.ensures.0 (steps_open constant_levels c.args.items.now _ σ S room _ c.if-sign-eq40.true)
@@ -22,7 +22,7 @@ put-leaf-requires : tie.Need-put_leaf-requires
 put-leaf-requires c κs = (omega (arith, c.requires.1.top, c.requires.2), omega arith)
 
 same-length-2 : tie.Need-shape_of-items-then-sign-eq111
-same-length-2 c = c.put_leaf.auto.0
+same-length-2 c = c.put_leaf.auto.items
 
 returns-2 : tie.Need-returns-then-sign-eq111
 returns-2 c σ S room = steps_same constant_levels _ σ _ _ c.put_leaf.ensures.1 c.put_leaf.ensures.0 (steps_leaf constant_levels c.args.items.now _ σ S room _ false 0 c.if-sign-eq111.true refl)
@@ -37,7 +37,7 @@ put-leaf-requires-2 : tie.Need-put_leaf-requires-then-sign-eq42
 put-leaf-requires-2 c κs = (omega (arith, c.requires.1.top, c.requires.2), rw c.full_leaves.ensures (ones_room _ constant_levels (omega (arith, c.levels_below.ensures))))
 
 same-length-3 : tie.Need-shape_of-items-then-sign-eq42
-same-length-3 c = c.put_leaf-then-sign-eq42.auto.0
+same-length-3 c = c.put_leaf-then-sign-eq42.auto.items
 
 returns-3 : tie.Need-returns-then-sign-eq42
 returns-3 c σ S room =
@@ -48,7 +48,7 @@ close-pair-requires : tie.Need-close_pair-requires
 close-pair-requires c κs = (c.requires.0, c.requires.1, omega (arith, c.requires.2))
 
 same-length-4 : tie.Need-shape_of-items-then-sign-eq41
-same-length-4 c = c.close_pair.auto.0
+same-length-4 c = c.close_pair.auto.items
 
 returns-4 : tie.Need-returns-then-sign-eq41
 returns-4 c σ S room = rw c.if-sign-eq41.true (c.close_pair.ensures σ S (omega arith))

@@ -69,7 +69,7 @@ loop-again c =
     let i = c.lowest-i.result in (
       omega (arith, c.without_lowest-rest.ensures.0, l.invariant.0),
       λ k t. l.invariant.1 k (and_left (bit l.rest k) _ (subst T (out c k) t)),
-      c.keep_one-r.auto.1.1.1.1.1.1.0 ∙ l.invariant.2,
+      c.keep_one-r.auto.firsts ∙ l.invariant.2,
       but_more _ _ _ _ _ i l.rest _ l.r l.firsts _ _ (l.invariant.1 i low.1) low.1 (out c) l.invariant.3 c.keep_one-r.ensures,
     )
 

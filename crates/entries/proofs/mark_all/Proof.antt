@@ -59,7 +59,7 @@ loop-again c =
     let low = here c.before.before.before.before.before in
     let m = c.mark_one-r in (
       omega (arith, c.without_lowest-rest.ensures.0, l.invariant.0),
-      m.auto.0 ∙ l.invariant.1,
+      m.auto.rows ∙ l.invariant.1,
       but_more _ _ _ _ _ _ l.rest _ _ _ l.rows _ _ _ s.requires.1 s.requires.0 low.1 (out c) l.invariant.2 m.ensures,
     )
 

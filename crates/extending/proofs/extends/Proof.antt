@@ -53,12 +53,12 @@ loop-holds : tie.Need-loop-b-init invariant-loop-b decreases-loop-b
 loop-holds c =
     let s = c in
     let a = s.args in
-    let d = get_or a.t3.counts 3 0 in
+    let d = get_or a.sizes.counts 3 0 in
     let e = power_shift d (omega (arith, s.requires.0.few)) in (
       omega arith,
       rw e (omega (arith, pow-lt {i = d} {j = 64} (omega (arith, s.requires.0.few)))),
       (0, 0, λ i l. bit_zero i, c.start_terms.ensures),
-      rw e (leaves_start (stored_by a.t3 a.clauses.now a.constants.now) a.table.now (2 ^ d - 1)),
+      rw e (leaves_start (stored_by a.sizes a.clauses.now a.constants.now) a.table.now (2 ^ d - 1)),
     )
 
 look-leaf-requires : tie.Need-look_leaf-rest-requires invariant-loop-b decreases-loop-b
@@ -74,10 +74,10 @@ returns c =
     let a = s.args in
     let l = c.loop-b in
     let keys = c.put_keys.ensures in
-    let S = stored_by a.t3 a.clauses.now a.constants.now in
+    let S = stored_by a.sizes a.clauses.now a.constants.now in
     let looked = c.look_leaf-rest in
-    sym (leaves_unmet S a.table.now (l.b + 1) (2 ^ get_or a.t3.counts 3 0 - 1) looked.result (subst (λ b. T b) (sym c.if-not-rest.true) tt)
-    (looked.ensures.1 a.constants.now (2 ^ get_or a.t3.counts 3 0 - 1) keys l.invariant.3))
+    sym (leaves_unmet S a.table.now (l.b + 1) (2 ^ get_or a.sizes.counts 3 0 - 1) looked.result (subst (λ b. T b) (sym c.if-not-rest.true) tt)
+    (looked.ensures.1 a.constants.now (2 ^ get_or a.sizes.counts 3 0 - 1) keys l.invariant.3))
 
 add-b : tie.Need-overflow_add-b invariant-loop-b decreases-loop-b
 add-b c = omega arith
@@ -91,13 +91,13 @@ loop-again c =
     let a = s.args in
     let l = c.loop-b in
     let keys = c.put_keys.ensures in
-    let S = stored_by a.t3 a.clauses.now a.constants.now in
+    let S = stored_by a.sizes a.clauses.now a.constants.now in
     let looked = c.look_leaf-rest in (
       omega arith,
       omega arith,
       looked.ensures.0,
       looked_met _ _ _ _ _ looked.result (holds looked.result.met (λ u. T_not (not looked.result.met) (of_false c.if-not-rest.false) u))
-          (looked.ensures.1 a.constants.now (2 ^ get_or a.t3.counts 3 0 - 1) keys l.invariant.3),
+          (looked.ensures.1 a.constants.now (2 ^ get_or a.sizes.counts 3 0 - 1) keys l.invariant.3),
     )
 
 returns-2 : tie.Need-returns invariant-loop-b decreases-loop-b
@@ -105,7 +105,7 @@ returns-2 c =
     let s = c in
     let a = s.args in
     let l = c.loop-b in
-    leaves_all (stored_by a.t3 a.clauses.now a.constants.now) a.table.now l.b l.wanted c.loop-b-test.false (omega (arith, s.requires.0.few))
+    leaves_all (stored_by a.sizes a.clauses.now a.constants.now) a.table.now l.b l.wanted c.loop-b-test.false (omega (arith, s.requires.0.few))
     l.invariant.1 l.invariant.3
 
 pub extends_spec : {M : Type 1} → statement M

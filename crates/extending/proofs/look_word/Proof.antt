@@ -41,7 +41,7 @@ returns-2 c constants values v t =
     let missing = c.missing-none in
     let (placed, M) = missing.ensures.0 values (c.move_terms.ensures values v t) in (
       (a.w, placed),
-      word_unmet (stored_by a.t3 a.clauses.now constants) values a.w a.choices merged.result a.wanted missing.result _ s.requires.1
+      word_unmet (stored_by a.sizes a.clauses.now constants) values a.w a.choices merged.result a.wanted missing.result _ s.requires.1
           merged.ensures M missing.type_inv c.if-none-ne0.true,
     )
 
@@ -59,7 +59,7 @@ returns-3 c constants values v t =
     let missing = c.missing-none in
     let (placed, M) = missing.ensures.0 values (c.move_terms.ensures values v t) in (
       (a.w, placed),
-      word_met (stored_by a.t3 a.clauses.now constants) values a.w a.choices merged.result a.wanted missing.result _ s.requires.1
+      word_met (stored_by a.sizes a.clauses.now constants) values a.w a.choices merged.result a.wanted missing.result _ s.requires.1
           merged.ensures M c.still_wanted-wanted.result (omega (arith, s.requires.0.few)) c.if-none-ne0.false c.still_wanted-wanted.ensures,
     )
 

@@ -61,7 +61,7 @@ loop-again c =
     let mark = c.mark in
     let here = lowest_set l.rest low.result l.invariant.0 c.loop-rest-test.true low.ensures in (
       omega (arith, and_le_l l.rest ((2 ^ 64 - 1) - same.result.leaves), l.invariant.0),
-      mark.auto.0 ∙ l.invariant.1,
+      mark.auto.present ∙ l.invariant.1,
       λ k b. rest_more a.leaves l.rest same.result.leaves k l.invariant.2 b,
       word_more constant_levels a.table.now a.free a.w a.leaves l.rest low.result same.result.choice same.result.leaves a.present.now l.present _
           (omega arith) here l.invariant.2 same.ensures l.invariant.3 mark.ensures,

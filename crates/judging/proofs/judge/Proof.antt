@@ -37,7 +37,7 @@ returns-2 c =
 -- what was read, once the tests are passed
 taken : (c : tie.After-struct_known-2-1) → (
     let reading = c in
-    Taken reading.args.question.now reading.read-reading.result reading.read-reading.new.1.0)
+    Taken reading.args.question.now reading.read-reading.result reading.read-reading.new.clauses)
 taken c =
     let reading = c in
     answer_taken reading.args.question.now _ reading.read-reading.ensures.0 _ reading.read-reading.ensures.1.1.0 c.if-reading-ne0.false

@@ -31,8 +31,8 @@ returns c =
     let s = c in
     let a = s.args in
     let p = c.pass_words-r in
-    let firsts = p.new.1.1.1.1.1.1.0 in
-    let rows = p.new.1.1.1.1.1.1.1.0 in
+    let firsts = p.new.firsts in
+    let rows = p.new.rows in
     let g = c.put_entry in (
       p.ensures.0,
       λ h constants v t A.

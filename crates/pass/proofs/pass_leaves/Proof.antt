@@ -55,8 +55,8 @@ loop-holds c =
       refl,
       (0, 0, λ i l. bit_zero i, c.start_terms.ensures),
       λ i l. absurd (omega arith),
-      rw (power_shift (get_or a.t2.counts 3 0) (omega (arith, s.requires.0.few)))
-          (after_none (stored_by a.t2 a.clauses.now a.constants.now) a.t2.height a.search a.firsts.now a.plains.now a.rows.now s.requires.1.3),
+      rw (power_shift (get_or a.sizes.counts 3 0) (omega (arith, s.requires.0.few)))
+          (after_none (stored_by a.sizes a.clauses.now a.constants.now) a.sizes.height a.search a.firsts.now a.plains.now a.rows.now s.requires.1.3),
     )
 
 values-at-requires : tie.Need-values_at-values-requires invariant-loop-b decreases-loop-b
@@ -88,10 +88,10 @@ returns c =
     let s = c in
     let a = s.args in
     let l = c.loop-b in
-    let S = stored_by a.t2 a.clauses.now a.constants.now in
+    let S = stored_by a.sizes a.clauses.now a.constants.now in
     let F = c.first_like-like.ensures in
-    passed_none S a.t2.height a.search l.b c.visit-seen.result _ _ _ (omega (arith, c.power-leaves.ensures, c.loop-b-test.true)) (sym c.digit.ensures ∙ not-true _ c.if-not-digit.true)
-    (c.visit-seen.ensures.1 a.t2.height a.constants.now c.values_at-values.ensures (λ m. sym (l.invariant.3 _ m) ∙ F.1 m) l.invariant.4)
+    passed_none S a.sizes.height a.search l.b c.visit-seen.result _ _ _ (omega (arith, c.power-leaves.ensures, c.loop-b-test.true)) (sym c.digit.ensures ∙ not-true _ c.if-not-digit.true)
+    (c.visit-seen.ensures.1 a.sizes.height a.constants.now c.values_at-values.ensures (λ m. sym (l.invariant.3 _ m) ∙ F.1 m) l.invariant.4)
 
 add-b : tie.Need-overflow_add-b invariant-loop-b decreases-loop-b
 add-b c = omega arith
@@ -105,11 +105,11 @@ loop-again c =
     let a = s.args in
     let l = c.loop-b in
     let F = c.first_like-like.ensures in
-    let W = c.visit-seen.ensures.1 a.t2.height a.constants.now c.values_at-values.ensures (λ m. sym (l.invariant.3 _ m) ∙ F.1 m) l.invariant.4 in (
+    let W = c.visit-seen.ensures.1 a.sizes.height a.constants.now c.values_at-values.ensures (λ m. sym (l.invariant.3 _ m) ∙ F.1 m) l.invariant.4 in (
       omega (arith, c.loop-b-test.true),
       simp length-set l.invariant.1,
       c.visit-seen.ensures.0,
-      keys_more (leaf_values (stored_by a.t2 a.clauses.now a.constants.now) a.t2.height) l.keys l.b c.values_at-values.result
+      keys_more (leaf_values (stored_by a.sizes a.clauses.now a.constants.now) a.sizes.height) l.keys l.b c.values_at-values.result
           (omega (arith, few_leaves s, c.power-leaves.ensures, c.loop-b-test.true)) c.values_at-values.ensures l.invariant.3,
       W.done (of_true (sym c.digit.ensures ∙ not-false _ c.if-not-digit.false)),
     )
@@ -119,8 +119,8 @@ returns-2 c =
     let s = c in
     let a = s.args in
     let l = c.loop-b in
-    let e : l.b ≡ 2 ^ a.t2.height = omega (arith, c.power-leaves.ensures) in
-    passed_all (stored_by a.t2 a.clauses.now a.constants.now) a.t2.height a.search l.seen l.firsts l.plains l.rows (rw e at l.invariant.4)
+    let e : l.b ≡ 2 ^ a.sizes.height = omega (arith, c.power-leaves.ensures) in
+    passed_all (stored_by a.sizes a.clauses.now a.constants.now) a.sizes.height a.search l.seen l.firsts l.plains l.rows (rw e at l.invariant.4)
 
 pub pass_leaves_spec : {M : Type 1} → statement M
 pass_leaves_spec =

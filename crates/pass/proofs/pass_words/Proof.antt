@@ -42,7 +42,7 @@ returns c =
       l.invariant.2,
       (
         λ h constants v t A.
-            amid_done (stored_by a.t3 a.clauses.now constants) h a.search a.number l.w (word_count a.t3.free) l.r l.firsts l.rows
+            amid_done (stored_by a.sizes a.clauses.now constants) h a.search a.number l.w (word_count a.sizes.free) l.r l.firsts l.rows
             (omega (arith, c.loop-w-test.true, c.word_count-words.ensures))
             (c.is_done.ensures c.if-is_done.true) (l.invariant.3 h constants v t A),
         l.invariant.4,
@@ -81,7 +81,7 @@ returns-2 : tie.Need-returns invariant-loop-w decreases-loop-w
 returns-2 c =
     let a = c.args in
     let l = c.loop-w in
-    let e : l.w ≡ word_count a.t3.free = omega (arith, c.loop-w-test.false, c.word_count-words.ensures) in
+    let e : l.w ≡ word_count a.sizes.free = omega (arith, c.loop-w-test.false, c.word_count-words.ensures) in
     (l.invariant.2, (λ h constants v t A. rw e at (l.invariant.3 h constants v t A), l.invariant.4))
 
 pub pass_words_spec : {M : Type 1} → statement M

@@ -115,7 +115,7 @@ loop-again c =
       simp length-set l.invariant.1,
       simp length-set l.invariant.2,
       ap length taking.ensures.2 ∙ simp length-set l.invariant.3,
-      taken_more o firsts l.e b taking.result l.taken (at_leaf leaf) (leaf_lt leaf) taking.ensures.0 l.invariant.4 taking.new.0
+      taken_more o firsts l.e b taking.result l.taken (at_leaf leaf) (leaf_lt leaf) taking.ensures.0 l.invariant.4 taking.new.taken
           (omega (arith, leaf_lt leaf, l.invariant.3)) taking.ensures.2,
       filled_more o firsts l.e c.sub_leaf.result c.choice_of.result l.subleaf l.choice (omega arith) (omega arith)
           (stands ∙ sub_leaf_is o firsts l.e b taking.result l.taken (at_leaf leaf) (leaf_lt leaf) taking.ensures.0 l.invariant.4)

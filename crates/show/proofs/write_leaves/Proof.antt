@@ -68,7 +68,7 @@ loop-again c =
     let start = c in
     let l = c.loop-k in (
       omega arith,
-      c.change_block.auto.0 ∙ l.invariant.1,
+      c.change_block.auto.row ∙ l.invariant.1,
       blocks_more _ (digits start.args.plain.now start.args.p) _ _ l.row _ l.invariant.2 c.change_block.ensures c.digit_of.ensures,
     )
 

@@ -18,7 +18,7 @@ write-sub-leaves-requires c κs =
     let start = c in (
       start.requires.0,
       (
-        c.write_leaves.auto.0 ∙ ap length start.requires.1.0 ∙ zeros_length (row_bytes constant_levels),
+        c.write_leaves.auto.row ∙ ap length start.requires.1.0 ∙ zeros_length (row_bytes constant_levels),
         start.requires.1.2,
         shows_plain (row_levels constant_levels) _ start.requires.0 _ _ (rw start.requires.1.1 at c.write_leaves.ensures),
       ),
@@ -31,7 +31,7 @@ returns : tie.Need-returns
 returns c =
     let start = c in
     shows_all (row_levels constant_levels) _ start.requires.0 _ (lit≤ tt) _
-    (c.write_sub_leaves.auto.0 ∙ c.write_leaves.auto.0 ∙ ap length start.requires.1.0 ∙ zeros_length (row_bytes constant_levels))
+    (c.write_sub_leaves.auto.row ∙ c.write_leaves.auto.row ∙ ap length start.requires.1.0 ∙ zeros_length (row_bytes constant_levels))
     (λ j. (c.slice_known-3-1.given j).fits) c.write_sub_leaves.ensures
 
 pub write_row_spec : {M : Type 1} → statement M

@@ -68,7 +68,7 @@ loop-again c =
     let start = c in
     let l = c.loop-n in (
       omega arith,
-      c.change_block.auto.0 ∙ l.invariant.1,
+      c.change_block.auto.row ∙ l.invariant.1,
       shows_more (row_levels constant_levels) _ start.requires.0 _ _ _ l.row _ l.invariant.2 c.change_block.ensures c.digit_of.ensures,
     )
 
@@ -78,8 +78,8 @@ same_length c = c.loop-n.invariant.1
 returns : tie.Need-returns invariant-loop-n decreases-loop-n
 returns c =
     let a = c.args in
-    let e : c.loop-n.n ≡ a.t2.count = omega arith in
-    subst (λ (n : ℕ). Shows (row_levels constant_levels) a.t2 n a.p c.loop-n.row) e c.loop-n.invariant.2
+    let e : c.loop-n.n ≡ a.plan.count = omega arith in
+    subst (λ (n : ℕ). Shows (row_levels constant_levels) a.plan n a.p c.loop-n.row) e c.loop-n.invariant.2
 
 pub write_sub_leaves_spec : {M : Type 1} → statement M
 write_sub_leaves_spec =

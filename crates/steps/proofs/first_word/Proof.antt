@@ -23,12 +23,12 @@ returns : tie.Need-returns
 returns c =
     let a = c.args in
     let P = c.requires in
-    let S = stored_by a.t3 a.clauses.now [] in
-    let bits : (values : ℕ) → Terms a.t3.free a.t3.own values a.w a.terms.now → (i : ℕ) → i < 64
+    let S = stored_by a.sizes a.clauses.now [] in
+    let bits : (values : ℕ) → Terms a.sizes.free a.sizes.own values a.w a.terms.now → (i : ℕ) → i < 64
     → bit c.section_word.result i ≡ first_meets S values (64 * a.w + i) =
-    λ values t i l. c.section_word.ensures i l ∙ ap₂ ◌&&◌ (bit_ones 64 i l) (first_bits a.t3 a.clauses.now P.0 values a.w a.terms.now t i l) in
+    λ values t i l. c.section_word.ensures i l ∙ ap₂ ◌&&◌ (bit_ones 64 i l) (first_bits a.sizes a.clauses.now P.0 values a.w a.terms.now t i l) in
     let (values, t) = P.1.1 in
-    (word_free a.t3.free a.w c.section_word.result (first_meets S values) P.1.0 (first_periodic S values) (bits values t), bits)
+    (word_free a.sizes.free a.w c.section_word.result (first_meets S values) P.1.0 (first_periodic S values) (bits values t), bits)
 
 pub first_word_spec : {M : Type 1} → statement M
 first_word_spec = tie.close (tie.spec element-copy-out-section-word section-word-requires returns)

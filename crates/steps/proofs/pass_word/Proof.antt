@@ -36,8 +36,8 @@ returns c =
       (
         λ h constants t A.
             let U = W.0 _ t in
-            amid_none a.t3 a.clauses.now constants h a.spot.leaf a.spot.word a.spot.search a.seen _ _ s.requires.1.2 A
-            (λ k m. sym (allowed_same a.t3 a.clauses.now constants a.spot.search _ _) ∙ sym (U.1 k m) ∙ ap (λ x. bit x k) c.if-x-eq0.true ∙ bit_zero k)
+            amid_none a.sizes a.clauses.now constants h a.spot.leaf a.spot.word a.spot.search a.seen _ _ s.requires.1.2 A
+            (λ k m. sym (allowed_same a.sizes a.clauses.now constants a.spot.search _ _) ∙ sym (U.1 k m) ∙ ap (λ x. bit x k) c.if-x-eq0.true ∙ bit_zero k)
             _ (λ e. (W.1 e).1),
         refl,
       ),
@@ -79,27 +79,27 @@ enum-told-3 c = search rules
 kept : (k : tie.After-keep_all-met) → (
     let a = k.args in
     let x = k.allowed_word-x in
-    KeptAll (get_or a.t3.counts 1 0) (a.spot.leaf * word_count a.t3.free + a.spot.word)
-    (λ i j. bit x.result j && not (clause_test a.clauses.now (λ t. bit (get_or x.new.0 t 0) j) (256 + 4 * i)))
-    k.keep_word-least.result k.keep_word-least.new.1.1.1.1.0 k.keep_all-met.result k.keep_all-met.new.1.1.1.1.1.1.0)
+    KeptAll (get_or a.sizes.counts 1 0) (a.spot.leaf * word_count a.sizes.free + a.spot.word)
+    (λ i j. bit x.result j && not (clause_test a.clauses.now (λ t. bit (get_or x.new.terms t 0) j) (256 + 4 * i)))
+    k.keep_word-least.result k.keep_word-least.new.firsts k.keep_all-met.result k.keep_all-met.new.firsts)
 kept k = rw k.word_count.ensures at k.keep_all-met.ensures
 
 -- where the second system plays no part
 alone : (k : tie.After-keep_all-met) → (
     let a = k.args in
     (a.spot.search ≡ Unmet → ⊥) → (rows : List ℕ) (h : ℕ) (constants : List ℕ)
-    → Terms a.t3.free a.t3.own (leaf_values (stored_by a.t3 a.clauses.now constants) h a.spot.leaf) a.spot.word a.terms.now
-    → Amid (stored_by a.t3 a.clauses.now constants) h a.spot.search a.spot.leaf a.spot.word a.seen a.firsts.now a.rows.now
-    → Amid (stored_by a.t3 a.clauses.now constants) h a.spot.search a.spot.leaf (a.spot.word + 1)
-    (record { met = k.keep_all-met.result; possible = a.seen.possible; here = a.seen.here; wanted = a.seen.wanted }) k.keep_all-met.new.1.1.1.1.1.1.0 rows)
+    → Terms a.sizes.free a.sizes.own (leaf_values (stored_by a.sizes a.clauses.now constants) h a.spot.leaf) a.spot.word a.terms.now
+    → Amid (stored_by a.sizes a.clauses.now constants) h a.spot.search a.spot.leaf a.spot.word a.seen a.firsts.now a.rows.now
+    → Amid (stored_by a.sizes a.clauses.now constants) h a.spot.search a.spot.leaf (a.spot.word + 1)
+    (record { met = k.keep_all-met.result; possible = a.seen.possible; here = a.seen.here; wanted = a.seen.wanted }) k.keep_all-met.new.firsts rows)
 alone k other rows h constants t A =
     let s = k in
     let a = s.args in
     let x = k.allowed_word-x in
     let U = x.ensures.0 _ t in
-    amid_kept a.t3 a.clauses.now constants h a.spot.leaf a.spot.word a.spot.search a.seen _ _ s.requires.1.2 A
-    s.requires.0 x.new.0 U.0 x.result
-    (λ j m. U.1 j m ∙ allowed_same a.t3 a.clauses.now constants a.spot.search _ _) _ _ k.keep_word-least.ensures _ _ (kept k)
+    amid_kept a.sizes a.clauses.now constants h a.spot.leaf a.spot.word a.spot.search a.seen _ _ s.requires.1.2 A
+    s.requires.0 x.new.terms U.0 x.result
+    (λ j m. U.1 j m ∙ allowed_same a.sizes a.clauses.now constants a.spot.search _ _) _ _ k.keep_word-least.ensures _ _ (kept k)
     other rows
 
 returns-2 : tie.Need-returns-in-First
@@ -121,13 +121,13 @@ returns-3 c =
       (
         λ h constants t A.
             let U = x.ensures.0 _ t in
-            let S₀ = stored_by a.t3 a.clauses.now [] in
-            let v = leaf_values (stored_by a.t3 a.clauses.now constants) h a.spot.leaf in
+            let S₀ = stored_by a.sizes a.clauses.now [] in
+            let v = leaf_values (stored_by a.sizes a.clauses.now constants) h a.spot.leaf in
             let first : (j : ℕ) → j < 64 → bit x.result j ≡ first_meets S₀ v (64 * a.spot.word + j) =
             λ j m. U.1 j m ∙ ap (λ s. allowed_in S₀ s v (64 * a.spot.word + j)) e in
-            amid_second a.t3 a.clauses.now constants h a.spot.leaf a.spot.word a.spot.search a.seen _ _ s.requires.1.2 A
-            s.requires.0 x.new.0 U.0 x.result
-            (λ j m. U.1 j m ∙ allowed_same a.t3 a.clauses.now constants a.spot.search _ _) _ _ k.keep_word-least.ensures _ _ (kept k)
+            amid_second a.sizes a.clauses.now constants h a.spot.leaf a.spot.word a.spot.search a.seen _ _ s.requires.1.2 A
+            s.requires.0 x.new.terms U.0 x.result
+            (λ j m. U.1 j m ∙ allowed_same a.sizes a.clauses.now constants a.spot.search _ _) _ _ k.keep_word-least.ensures _ _ (kept k)
             e _ _ _ (rw (k.word_count.ensures, (x.ensures.1 e).1) at ((Q.0 _ U.0).1 first (subst (λ r. Settled S₀ a.seen r) (sym (x.ensures.1 e).1) (A.settled e)))) Q.1.0 Q.1.1 Q.1.2,
         Q.1.0,
       ),

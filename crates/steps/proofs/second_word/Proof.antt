@@ -12,7 +12,7 @@ digit-requires c κs = search rules
 returns : tie.Need-returns-then-digit
 returns c =
     let a = c.args in
-    (λ values t. (t, λ first. second_before a.t3 a.clauses.now values a.at a.seen _ _ (sym c.digit.ensures ∙ c.if-digit.true)), (refl, λ k n. refl, λ k n. refl))
+    (λ values t. (t, λ first. second_before a.sizes a.clauses.now values a.at a.seen _ _ (sym c.digit.ensures ∙ c.if-digit.true)), (refl, λ k n. refl, λ k n. refl))
 
 missing-requires : tie.Need-missing-none-requires
 missing-requires c κs = let s = c in (s.requires.0, (s.requires.1.0, omega arith, s.requires.1.1))
@@ -28,7 +28,7 @@ returns-2 c =
     let K = c.keep_word-met.ensures in (
       λ values t. (
         (M.0 values t).0,
-        λ first Z. second_alone a.t3 a.clauses.now s.requires.0 values a.at a.seen _ _ first _ _ (M.0 values t).1 M.1 (sym c.digit.ensures ∙ c.if-digit.false) Z _ _ K c.if-seen-eq0.true,
+        λ first Z. second_alone a.sizes a.clauses.now s.requires.0 values a.at a.seen _ _ first _ _ (M.0 values t).1 M.1 (sym c.digit.ensures ∙ c.if-digit.false) Z _ _ K c.if-seen-eq0.true,
       ),
       (refl, K.met_kept, K.firsts_kept),
     )
@@ -58,8 +58,8 @@ returns-3 c =
       λ values t. (
         (M.0 values t).0,
         λ first Z.
-            second_marked a.t3 a.clauses.now s.requires.0 values a.at a.seen _ _ first _ _ (M.0 values t).1 M.1 (sym c.digit.ensures ∙ c.if-digit.false) Z _ _ K
-            c.missing-none.new.0 _ (M.0 values t).0 F.0 F.1.0 _ _ _ c.mark_all-more.ensures,
+            second_marked a.sizes a.clauses.now s.requires.0 values a.at a.seen _ _ first _ _ (M.0 values t).1 M.1 (sym c.digit.ensures ∙ c.if-digit.false) Z _ _ K
+            c.missing-none.new.terms _ (M.0 values t).0 F.0 F.1.0 _ _ _ c.mark_all-more.ensures,
       ),
       (refl, K.met_kept, K.firsts_kept),
     )

@@ -54,7 +54,7 @@ loop-again c =
     let l = c.loop-rest in
     let put = c.put_constant in (
       omega (arith, c.without_lowest-rest.ensures.0, l.invariant.0),
-      put.auto.1.1.0 ∙ l.invariant.1,
+      put.auto.table ∙ l.invariant.1,
       parts_more constant_levels (omega arith) _ _ l.rest _ c.lowest-c.result (out c) put.ensures l.invariant.2,
     )
 
