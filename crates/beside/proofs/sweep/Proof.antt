@@ -56,11 +56,11 @@ returns c =
     )
 
 -- the next word is below 64
-small : (c : tie.Joined1 invariant-loop-o decreases-loop-o) → c.before.before.loop.o * c.before.before.before.before.word_count.result + c.args.w < 64
+small : (c : tie.Joined-none-eq0 invariant-loop-o decreases-loop-o) → c.loop-o.o * c.word_count-words.result + c.args.w < 64
 small c =
     let s = c in
-    word_small s.args.sizes.free s.args.sizes.own c.before.before.before.own_words.result c.before.before.before.before.word_count.result c.before.before.loop.o s.args.w
-    s.requires.0.variables c.before.before.before.before.word_count.ensures c.before.before.before.own_words.ensures c.before.loop-test.true s.requires.1.0
+    word_small s.args.sizes.free s.args.sizes.own c.own_words-total.result c.word_count-words.result c.loop-o.o s.args.w
+    s.requires.0.variables c.word_count-words.ensures c.own_words-total.ensures c.loop-o-test.true s.requires.1.0
 
 mul-move-terms : tie.Need-overflow_mul-o invariant-loop-o decreases-loop-o
 mul-move-terms c = omega (arith, small c)

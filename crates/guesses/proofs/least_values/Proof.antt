@@ -1,14 +1,13 @@
 -- `guesses::least_values` meets its contract. The loop's invariant: the values of all variables but the last `left` are guessed. Assumes nothing.
 use mathlib.Core.Path.{◌≡◌, sym, ◌∙◌}
-use mathlib.Core.Bool.{true, false}
-use mathlib.Core.Logic.{⊎_elim}
 use Prim.Native.Nat.{◌+◌, ◌/◌}
 use native.Mathlib.Omega.{arith}
 use lib.Dec.{ltb}
-use borrow.Author.Tests.{ltb-true, ltb-false, not-true, not-false}
+use borrow.Author.Tests.{ltb-true, ltb-false}
 use Rattle.guesses.specs.Guesses.{least_number}
 use Rattle.guesses.specs.GuessLaws.{Guessed, guess_none, guess_empty, guess_full, guess_all, few}
 use Rattle.guesses.proofs.least_values.Statement.{statement}
+use mathlib.Core.Logic.{⊎_elim}
 use Rattle.guesses.proofs.least_values.Tie as tie
 
 abbrev invariant-loop-left : tie.invariant-loop-left
@@ -55,13 +54,9 @@ loop-again c =
     let end = l.low + l.span / 2 in
     let told : c.passes_below.result ≡ ltb least end = c.passes_below.ensures in
     ⊎_elim
-    (λ w.
-    let fails : c.passes_below.result ≡ false = not-true _ w.0.taken in
-    rw (w.1, w.2) (guess_full least free l.left l.values l.low l.span l.invariant (omega arith) s.requires.0 (ltb-false least end (sym told ∙ fails))))
-    (λ w.
-    let passes : c.passes_below.result ≡ true = not-false _ w.0.left in
-    rw (w.1, w.2) (guess_empty least free l.left l.values l.low l.span l.invariant (omega arith) s.requires.0 (ltb-true least end (sym told ∙ passes))))
-    c.if-not-passes_below.branch
+    (λ w. rw (w.values-is, w.low-is) (guess_full least free l.left l.values l.low l.span l.invariant (omega arith) s.requires.0 (ltb-false least end (sym told ∙ w.if-not-passes_below.true))))
+    (λ w. rw (w.values-is, w.low-is) (guess_empty least free l.left l.values l.low l.span l.invariant (omega arith) s.requires.0 (ltb-true least end (sym told ∙ w.if-not-passes_below.false))))
+    c.if-not-passes_below.branch-raw
 
 returns : tie.Need-returns invariant-loop-left decreases-loop-left
 returns c =
