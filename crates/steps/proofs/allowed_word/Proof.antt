@@ -18,16 +18,16 @@ enum-known-search : tie.Need-enum_known-search
 enum-known-search c = search rules
 
 missed-word-requires : tie.Need-missed_word-requires
-missed-word-requires c κs = (c.requires.0, (c.requires.1.0, rw c.search-1.given.1 at c.requires.1.1, c.first_word-x.ensures.0))
+missed-word-requires c κs = (c.requires.0, (c.requires.1.0, rw c.in-Missed.is at c.requires.1.1, c.first_word-x.ensures.0))
 
 returns : tie.Need-returns-in-First
-returns c = rw c.enum_told-1.is (λ values t. (t, c.first_word-x.ensures.1 values t), λ e. absurd (first_not_unmet e))
+returns c = rw c.in-First.is (λ values t. (t, c.first_word-x.ensures.1 values t), λ e. absurd (first_not_unmet e))
 
 returns-2 : tie.Need-returns-in-Unmet
-returns-2 c = rw c.enum_told-in-Unmet-1.is (λ values t. (t, c.first_word-x.ensures.1 values t), λ e. (c.first_word-x.ensures.0, refl))
+returns-2 c = rw c.in-Unmet.is (λ values t. (t, c.first_word-x.ensures.1 values t), λ e. (c.first_word-x.ensures.0, refl))
 
 returns-3 : tie.Need-returns-in-Missed
-returns-3 c = rw c.search-1.given.1 (λ values t. c.missed_word.ensures values t (c.first_word-x.ensures.1 values t), λ e. absurd (missed_not_unmet _ e))
+returns-3 c = rw c.in-Missed.is (λ values t. c.missed_word.ensures values t (c.first_word-x.ensures.1 values t), λ e. absurd (missed_not_unmet _ e))
 
 pub allowed_word_spec : {M : Type 1} → statement M
 allowed_word_spec =

@@ -70,7 +70,7 @@ enum-told-2 : tie.Need-enum_told-in-Unmet
 enum-told-2 c = search rules
 
 second-word-requires : tie.Need-second_word-requires
-second-word-requires c κs = let s = c in (s.requires.0, (s.requires.1.2, (c.allowed_word-x.ensures.1 c.enum_told-in-Unmet-1.is).0))
+second-word-requires c κs = let s = c in (s.requires.0, (s.requires.1.2, (c.allowed_word-x.ensures.1 c.in-Unmet.is).0))
 
 enum-told-3 : tie.Need-enum_told-in-Missed
 enum-told-3 c = search rules
@@ -104,18 +104,18 @@ alone k other rows h constants t A =
 
 returns-2 : tie.Need-returns-in-First
 returns-2 c =
-    let k = c.before.before in (
+    let k = c.before in (
       λ values t. (k.allowed_word-x.ensures.0 values t).0,
-      (λ h constants t A. alone k (λ e. first_not_unmet (sym c.enum_told-1.is ∙ e)) _ h constants t A, refl),
+      (λ h constants t A. alone k (λ e. first_not_unmet (sym c.in-First.is ∙ e)) _ h constants t A, refl),
     )
 
 returns-3 : tie.Need-returns-in-Unmet
 returns-3 c =
-    let k = c.before.before.before.before.before.before in
+    let k = c.before.before.before.before.before in
     let s = k in
     let a = s.args in
     let x = k.allowed_word-x in
-    let e = c.enum_told-in-Unmet-1.is in
+    let e = c.in-Unmet.is in
     let Q = c.second_word.ensures in (
       λ values t. (Q.0 values (x.ensures.0 values t).0).0,
       (
@@ -135,9 +135,9 @@ returns-3 c =
 
 returns-4 : tie.Need-returns-in-Missed
 returns-4 c =
-    let k = c.before.before in (
+    let k = c.before in (
       λ values t. (k.allowed_word-x.ensures.0 values t).0,
-      (λ h constants t A. alone k (λ e. missed_not_unmet _ (sym c.enum_told-in-Missed-1.is ∙ e)) _ h constants t A, refl),
+      (λ h constants t A. alone k (λ e. missed_not_unmet _ (sym c.in-Missed.is ∙ e)) _ h constants t A, refl),
     )
 
 pub pass_word_spec : {M : Type 1} → statement M
