@@ -23,22 +23,22 @@ enum-told-6 : tie.Need-enum_told-in-Missed
 enum-told-6 c = search rules
 
 returns : tie.Need-returns-in-Satisfied
-returns c = rw c.enum_told-1.is refl
+returns c = rw c.in-Satisfied.is refl
 
 returns-2 : tie.Need-returns-in-Unsatisfied
-returns-2 c = rw c.enum_told-in-Unsatisfied-1.is refl
+returns-2 c = rw c.in-Unsatisfied.is refl
 
 returns-3 : tie.Need-returns-in-Vacuous
-returns-3 c = rw c.enum_told-in-Vacuous-1.is refl
+returns-3 c = rw c.in-Vacuous.is refl
 
 returns-4 : tie.Need-returns-in-Entailed
-returns-4 c = rw c.enum_told-in-Entailed-1.is refl
+returns-4 c = rw c.in-Entailed.is refl
 
 returns-5 : tie.Need-returns-in-Unmet
-returns-5 c = rw c.enum_told-in-Unmet-1.is refl
+returns-5 c = rw c.in-Unmet.is refl
 
 returns-6 : tie.Need-returns-in-Missed
-returns-6 c = rw c.enum_told-in-Missed-1.is refl
+returns-6 c = rw c.in-Missed.is refl
 
 pub is_shown_spec : {M : Type 1} → statement M
 is_shown_spec =

@@ -23,10 +23,10 @@ returns : tie.Need-returns-in-First
 returns c = search rules
 
 returns-2 : tie.Need-returns-in-Unmet
-returns-2 c = rw c.enum_told-in-Unmet-1.is refl
+returns-2 c = rw c.in-Unmet.is refl
 
 returns-3 : tie.Need-returns-in-Missed
-returns-3 c = rw c.enum_told-in-Missed-1.is refl
+returns-3 c = rw c.in-Missed.is refl
 
 pub room_of_spec : {M : Type 1} → statement M
 room_of_spec =

@@ -38,7 +38,7 @@ returns-5 : tie.Need-returns-in-Unmet
 returns-5 c = search rules
 
 returns-6 : tie.Need-returns-in-Missed
-returns-6 c = rw c.finding-1.given.1 refl
+returns-6 c = rw c.in-Missed.is refl
 
 pub search_of_spec : {M : Type 1} → statement M
 search_of_spec =

@@ -16,7 +16,7 @@ returns : tie.Need-returns-then-not-term_named
 returns c =
     let a = c in
     let s = a in
-    rw (not-true a.term_named.result c.if-not-term_named.true) at
+    rw (c.if-not-term_named.true) at
     (terms_judged s.args.variables s.args.constants s.args.test s.args.a s.args.b s.args.c a.term_count-count.ensures a.term_named.ensures refl refl)
 
 term-named-requires-2 : tie.Need-term_named-requires-2
@@ -27,7 +27,7 @@ returns-2 c =
     let b = c in
     let a = b in
     let s = a in
-    rw (not-false a.term_named.result b.if-not-term_named.false, not-true b.term_named-2.result c.if-not-term_named-2.true) at
+    rw (b.if-not-term_named.false, c.if-not-term_named-2.true) at
     (terms_judged s.args.variables s.args.constants s.args.test s.args.a s.args.b s.args.c a.term_count-count.ensures a.term_named.ensures b.term_named-2.ensures refl)
 
 term-named-requires-3 : tie.Need-term_named-requires-3
@@ -38,7 +38,7 @@ returns-3 c =
     let b = c in
     let a = b in
     let s = a in
-    rw (not-false a.term_named.result b.if-not-term_named.false, not-false b.term_named-2.result c.if-not-term_named-2.false) at
+    rw (b.if-not-term_named.false, c.if-not-term_named-2.false) at
     (terms_judged s.args.variables s.args.constants s.args.test s.args.a s.args.b s.args.c a.term_count-count.ensures a.term_named.ensures b.term_named-2.ensures c.term_named-3.ensures)
 
 pub all_named_spec : {M : Type 1} → statement M

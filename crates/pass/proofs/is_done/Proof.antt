@@ -37,9 +37,9 @@ returns-3 c e =
     let s = c in
     let F = c.first_bits in
     record {
-      plain = sym c.digit.ensures ∙ not-false _ c.if-not-digit.false;
+      plain = sym c.digit.ensures ∙ c.if-not-digit.false;
       full = all_set s.args.met s.args.count F.result s.ranges.met.fits s.requires F.ensures.1 c.if-first_bits-ne0.false;
-      unmet = λ q. absurd (first_not_unmet (sym c.enum_told-1.is ∙ q));
+      unmet = λ q. absurd (first_not_unmet (sym c.in-First.is ∙ q));
     }
 
 returns-4 : tie.Need-returns-in-Unmet
@@ -47,7 +47,7 @@ returns-4 c e =
     let s = c in
     let F = c.first_bits in
     record {
-      plain = sym c.digit.ensures ∙ not-false _ c.if-not-digit.false;
+      plain = sym c.digit.ensures ∙ c.if-not-digit.false;
       full = all_set s.args.met s.args.count F.result s.ranges.met.fits s.requires F.ensures.1 c.if-first_bits-ne0.false;
       unmet = λ q. sym c.digit-in-Unmet.ensures ∙ e;
     }
@@ -57,9 +57,9 @@ returns-5 c e =
     let s = c in
     let F = c.first_bits in
     record {
-      plain = sym c.digit.ensures ∙ not-false _ c.if-not-digit.false;
+      plain = sym c.digit.ensures ∙ c.if-not-digit.false;
       full = all_set s.args.met s.args.count F.result s.ranges.met.fits s.requires F.ensures.1 c.if-first_bits-ne0.false;
-      unmet = λ q. absurd (missed_not_unmet _ (sym c.enum_told-in-Missed-1.is ∙ q));
+      unmet = λ q. absurd (missed_not_unmet _ (sym c.in-Missed.is ∙ q));
     }
 
 pub is_done_spec : {M : Type 1} → statement M

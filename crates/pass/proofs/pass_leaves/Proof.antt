@@ -90,7 +90,7 @@ returns c =
     let l = c.loop-b in
     let S = stored_by a.sizes a.clauses.now a.constants.now in
     let F = c.first_like-like.ensures in
-    passed_none S a.sizes.height a.search l.b c.visit-seen.result _ _ _ (omega (arith, c.power-leaves.ensures, c.loop-b-test.true)) (sym c.digit.ensures ∙ not-true _ c.if-not-digit.true)
+    passed_none S a.sizes.height a.search l.b c.visit-seen.result _ _ _ (omega (arith, c.power-leaves.ensures, c.loop-b-test.true)) (sym c.digit.ensures ∙ c.if-not-digit.true)
     (c.visit-seen.ensures.1 a.sizes.height a.constants.now c.values_at-values.ensures (λ m. sym (l.invariant.3 _ m) ∙ F.1 m) l.invariant.4)
 
 add-b : tie.Need-overflow_add-b invariant-loop-b decreases-loop-b
@@ -111,7 +111,7 @@ loop-again c =
       c.visit-seen.ensures.0,
       keys_more (leaf_values (stored_by a.sizes a.clauses.now a.constants.now) a.sizes.height) l.keys l.b c.values_at-values.result
           (omega (arith, few_leaves s, c.power-leaves.ensures, c.loop-b-test.true)) c.values_at-values.ensures l.invariant.3,
-      W.done (of_true (sym c.digit.ensures ∙ not-false _ c.if-not-digit.false)),
+      W.done (of_true (sym c.digit.ensures ∙ c.if-not-digit.false)),
     )
 
 returns-2 : tie.Need-returns invariant-loop-b decreases-loop-b

@@ -23,7 +23,7 @@ all-found-requires c κs = search rules
 
 returns : tie.Need-returns-then-not-all_found
 returns c =
-    surveyed_none _ _ _ _ _ _ c.pass_leaves-seen.ensures (sym c.all_found.ensures ∙ not-true _ c.if-not-all_found.true)
+    surveyed_none _ _ _ _ _ _ c.pass_leaves-seen.ensures (sym c.all_found.ensures ∙ c.if-not-all_found.true)
 
 digit-requires : tie.Need-digit-requires
 digit-requires c κs = search rules
@@ -32,7 +32,7 @@ returns-2 : tie.Need-returns-then-digit
 returns-2 c =
     let found = c in
     surveyed_unmet _ _ _ _ _ _ found.pass_leaves-seen.ensures
-    (sym found.all_found.ensures ∙ not-false _ found.if-not-all_found.false) (sym c.digit.ensures ∙ c.if-digit.true)
+    (sym found.all_found.ensures ∙ found.if-not-all_found.false) (sym c.digit.ensures ∙ c.if-digit.true)
 
 element-copy-out-lowest-missed : tie.Need-bounds-sizes-1-2
 element-copy-out-lowest-missed c = search rules
@@ -45,7 +45,7 @@ returns-3 c =
     let more = c in
     let found = more in
     surveyed_missed _ _ _ _ _ _ found.pass_leaves-seen.ensures _
-    (sym found.all_found.ensures ∙ not-false _ found.if-not-all_found.false) (sym more.digit.ensures ∙ more.if-digit.false) c.lowest_missed.ensures
+    (sym found.all_found.ensures ∙ found.if-not-all_found.false) (sym more.digit.ensures ∙ more.if-digit.false) c.lowest_missed.ensures
 
 pub survey_leaves_spec : {M : Type 1} → statement M
 survey_leaves_spec =
