@@ -45,7 +45,7 @@ sub-items : tie.Need-overflow_sub-items
 sub-items c = omega (arith, pair_sizes constant_levels c.args.items.now c.args.scan c.requires.0 c.requires.1 _ c.is_pair.ensures c.if-is_pair.true, ap (λ s. s.top) c.closed_scan-next.ensures)
 
 mul-items : tie.Need-offset_bounds-items-next
-mul-items c = omega (arith, pair_sizes constant_levels c.args.items.now c.args.scan c.requires.0 c.requires.1 _ c.is_pair.ensures c.if-is_pair.true, c.requires.2, c.requires.1.top, c.before.before.before.before.before.before.before.before.before.before.before.before.before.well-formed, ap (λ s. s.top) c.closed_scan-next.ensures)
+mul-items c = omega (arith, pair_sizes constant_levels c.args.items.now c.args.scan c.requires.0 c.requires.1 _ c.is_pair.ensures c.if-is_pair.true, c.requires.2, c.requires.1.top, c.well_formed, ap (λ s. s.top) c.closed_scan-next.ensures)
 
 slice-write-items : tie.Need-bounds-items-next
 slice-write-items c = omega (arith, pair_sizes constant_levels c.args.items.now c.args.scan c.requires.0 c.requires.1 _ c.is_pair.ensures c.if-is_pair.true, c.requires.2, c.requires.1.top, ap (λ s. s.top) c.closed_scan-next.ensures)

@@ -10,10 +10,10 @@ use Rattle.constants.proofs.from_stack.Statement.{statement}
 use Rattle.constants.proofs.from_stack.Tie as tie
 
 returns : tie.Need-returns-then-scan-ne1
-returns c items σ s S e runs-s short = sym (text_none constant_levels s (whole_none s (ended s σ runs-s ∙ not_alone constant_levels items _ σ S (λ one. omega (arith, c.if1.true)))))
+returns c items σ s S e runs-s short = sym (text_none constant_levels s (whole_none s (ended s σ runs-s ∙ not_alone constant_levels items _ σ S (λ one. omega (arith, c.if-scan-ne1.true)))))
 
 returns-2 : tie.Need-returns-then-item-eq0
-returns-2 c items σ s S e runs-s short = sym (text_none constant_levels s (whole_none s (ended s σ runs-s ∙ bracket_alone constant_levels items _ σ S _ e c.before.if1.false c.if2.true)))
+returns-2 c items σ s S e runs-s short = sym (text_none constant_levels s (whole_none s (ended s σ runs-s ∙ bracket_alone constant_levels items _ σ S _ e c.if-scan-ne1.false c.if-item-eq0.true)))
 
 leaves-of-requires : tie.Need-leaves_of-requires
 leaves-of-requires c κs = search rules
@@ -26,8 +26,8 @@ from-told-requires c κs = search rules
 
 returns-3 : tie.Need-returns
 returns-3 c items σ s S e runs-s short =
-    let (t, alone, leaves, height, folded) = tree_alone constant_levels items _ σ S _ e c.before.before.before.if1.false c.before.before.if2.false in
-    c.from_told.ensures t (record { leaves = c.before.Leaves-of.ensures.0 ∙ leaves; height = height; folded = folded })
+    let (t, alone, leaves, height, folded) = tree_alone constant_levels items _ σ S _ e c.if-scan-ne1.false c.if-item-eq0.false in
+    c.from_told.ensures t (record { leaves = c.leaves_of.ensures.0 ∙ leaves; height = height; folded = folded })
     ∙ sym (text_tree constant_levels s short t (text_whole s t (ended s σ runs-s ∙ alone)))
 
 pub from_stack_spec : {M : Type 1} → statement M

@@ -1,18 +1,27 @@
 -- `constants::from_text` meets its contract. The loop's invariant: the rest of the text, from the stack that is kept, gives what the whole gives. Assumes nothing.
 use mathlib.Core.Path.{◌≡◌, refl, sym, ◌∙◌, subst}
 use mathlib.Core.List.{List, []}
-use mathlib.Core.Option.{some}
-use Prim.Native.Nat.{◌-◌, ◌≤◌}
+use mathlib.Core.Option.{none, some}
+use Prim.Native.Nat.{ℕ, ◌-◌, ◌≤◌}
 use native.Mathlib.Omega.{arith}
 use lib.ListN.{length, drop}
 use borrow.Author.Rules.{rules}
 use Rattle.shares.specs.Constant.{constant_levels}
-use Rattle.constants.specs.Stacks.{Item, runs, Stacked, Stepped}
+use Rattle.constants.specs.Stacks.{Item, onto, runs, Stacked, Stepped}
+use Rattle.constants.specs.declared.Scan.{Scan}
+use Rattle.constants.specs.declared.Step.{Step}
+use Rattle.constants.specs.declared.Step.TheVariants as step
 use Rattle.constants.specs.StackLaws.{whole_none, turn_goes, turn_stops, all_read}
 use Rattle.constants.specs.StackedLaws.{none_yet}
 use Rattle.constants.specs.FromTextLaws.{text_long, text_none}
 use Rattle.constants.proofs.from_text.Statement.{statement}
 use Rattle.constants.proofs.from_text.Tie as tie
+
+-- A step that does not go on stops.
+stopped : (levels : ℕ) (items : List ℕ) (x : ℕ) (σ : List Item) (s : Step) → ((n : Scan) → s ≡ step.Goes n → ⊥)
+    → Stepped levels items x σ s → onto x σ ≡ none
+stopped levels items x σ (step.Goes n) other w = absurd (other n refl)
+stopped levels items x σ step.Stops other w = w
 
 abbrev invariant-loop-at : tie.invariant-loop-at
 invariant-loop-at text items₀ scan₀ at₀ items scan at =
@@ -47,11 +56,11 @@ returns-2 c =
     let l = c.loop-at in
     let s = c.args.text.now in
     let (σ, S, few, so_far) = l.invariant.2 in
-    let stops = subst (Stepped constant_levels _ _ σ) c.enum_told-1.is (c.take_sign.ensures σ S (omega (arith, l.invariant.0, few, c.loop-at-test.true, c.if-text-gt-LONGEST_TEXT.false))) in
+    let stops = stopped _ _ _ _ _ c.in_default.not-Goes (c.take_sign.ensures σ S (omega (arith, l.invariant.0, few, c.loop-at-test.true, c.if-text-gt-LONGEST_TEXT.false))) in
     sym (text_none constant_levels s (whole_none s (turn_stops s l.at c.loop-at-test.true σ so_far stops)))
 
 add_at : tie.Need-overflow_add-at invariant-loop-at decreases-loop-at
-add_at c = omega (arith, c.loop-at-test.true, c.before.before.before.before.before.before.before.before.before.before.before.well-formed)
+add_at c = omega (arith, c.loop-at-test.true, c.well_formed)
 
 loop-less : tie.Need-loop-at-smaller invariant-loop-at decreases-loop-at
 loop-less c = omega (arith, c.loop-at-test.true)
@@ -62,7 +71,7 @@ loop-again c =
     let s = c.args.text.now in
     let (σ, S, few, so_far) = l.invariant.2 in
     let inside = c.loop-at-test.true in
-    let (τ, e, T) = subst (Stepped constant_levels _ _ σ) c.next-1.given.1 (c.take_sign.ensures σ S (omega (arith, l.invariant.0, few, inside, c.if-text-gt-LONGEST_TEXT.false))) in
+    let (τ, e, T) = subst (Stepped constant_levels _ _ σ) c.in-Goes.is (c.take_sign.ensures σ S (omega (arith, l.invariant.0, few, inside, c.if-text-gt-LONGEST_TEXT.false))) in
     let turn = turn_goes s l.at inside σ so_far τ e few in
     (c.take_sign.auto.items ∙ l.invariant.0, omega arith, (τ, T, turn.0, turn.1))
 
