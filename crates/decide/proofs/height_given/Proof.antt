@@ -14,7 +14,7 @@ is-shown-requires c κs = search rules
 
 returns : tie.Need-returns-then-not-is_shown
 returns c =
-    λ q S. sym (no_height q c.args.finding (sym c.is_shown.ensures ∙ flip _ c.if-not-is_shown.true))
+    λ q S. sym (no_height q c.args.finding (sym c.is_shown.ensures ∙ c.if-not-is_shown.true))
 
 search-of-requires : tie.Need-search_of-requires
 search-of-requires c κs = search rules
@@ -32,7 +32,7 @@ returns-2 c =
     λ q S.
     ap (λ o. o.height + o.splits) (c.outline-outline.ensures q S)
     ∙ ap (λ s. (outline_of q s).height + (outline_of q s).splits) c.search_of.ensures
-    ∙ shown_height q c.args.finding (sym c.is_shown.ensures ∙ flip _ c.if-not-is_shown.false)
+    ∙ shown_height q c.args.finding (sym c.is_shown.ensures ∙ c.if-not-is_shown.false)
 
 pub height_given_spec : {M : Type 1} → statement M
 height_given_spec =

@@ -70,7 +70,7 @@ returns-3 c =
     let start = known.args in
     let T = taken known in
     judges_refused _ _ 19 0 (judged_19 _ start.rows.now T.question T.read (long known)
-    (sym (zero_others known c.zero_from.result c.zero_from.ensures) ∙ flip _ c.if-not-zero_from.true))
+    (sym (zero_others known c.zero_from.result c.zero_from.ensures) ∙ c.if-not-zero_from.true))
 
 judge-rows-requires : tie.Need-judge_rows-requires
 judge-rows-requires c κs =
@@ -85,7 +85,7 @@ returns-4 c =
     let T = taken known in
     judges_rows _ start.rows.now T.question
     (judged_on _ _ T.question T.read (long known)
-    (sym (zero_others known c.zero_from.result c.zero_from.ensures) ∙ flip _ c.if-not-zero_from.false))
+    (sym (zero_others known c.zero_from.result c.zero_from.ensures) ∙ c.if-not-zero_from.false))
     _ (c.judge_rows.ensures T.question T.read T.stands)
 
 pub judge_spec : {M : Type 1} → statement M
