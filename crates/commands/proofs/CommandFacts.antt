@@ -1,11 +1,9 @@
 -- Facts of commands and the head that the functions' proofs cite. Assumes nothing.
 use mathlib.Core.Path.{◌≡◌}
-use mathlib.Core.Bool.{Bool, false, cond}
+use mathlib.Core.Bool.{Bool, cond}
 use mathlib.Core.List.{List}
-use Prim.Native.Nat.{ℕ, ◌≤◌, ◌<◌}
-use native.Mathlib.Omega.{arith}
-use borrow.Author.Tests.{lt-ltb, le-ltb, eq-eqb, ne_eqb}
-use lib.Dec.{eqb}
+use Prim.Native.Nat.{ℕ, ◌≤◌}
+use borrow.Author.Tests.{lt-ltb, le-ltb, eq-eqb}
 use lib.ListN.{length, get_or}
 use Rattle.format.specs.declared.Head.TheVariants.{Opens, Wrong}
 use Rattle.format.specs.Format.{head_fits, head_of}
@@ -15,10 +13,3 @@ pub whole_head : (s : List ℕ) (n m : ℕ) (b : Bool) → 1 ≤ length s → ge
     → b ≡ head_fits (get_or s 1 0) n m → cond b (Opens (get_or s 1 0) n m) (Wrong 5) ≡ head_of s
 unfolding head_of
 whole_head s n m b l e w p q r = rw (r, p, q) (simp (lt-ltb 0 (length s) l, eq-eqb (get_or s 0 0) 1 e, le-ltb (length s) 4 w))
-
--- a byte below m is no number from m on, and a byte from m on is none below it
-pub not_above : {b m : ℕ} → b < m → (k : ℕ) → m ≤ k → eqb b k ≡ false
-not_above {b} l k g = ne_eqb b k (λ e. omega arith)
-
-pub not_below : {b m : ℕ} → m ≤ b → (k : ℕ) → k < m → eqb b k ≡ false
-not_below {b} g k l = ne_eqb b k (λ e. omega arith)

@@ -21,7 +21,7 @@ use Rattle.format.specs.declared.Step.{Step}
 use Rattle.format.specs.declared.Step.TheVariants.{Take, Refused}
 use Rattle.format.specs.declared.Reading.{Reading}
 use Rattle.format.specs.Format.{most_constants, Result, refused, accepted, read_at, atom_of, fault, judged, taken, ended, go, stop, onward, turn, following, run, head_fits, kind_from, most_of, in_section, opened, head_of, read}
-use Rattle.format.specs.Stored.{kind_number, clause_bytes, section_start, readings_at, Stored, stored, stored_of, count_of, defined_by, named_word, Stands, reading_of, written_onward, written_by, clauses_after, leading_of, is_leading, constant_at, place_of, leading}
+use Rattle.format.specs.Stored.{kind_number, clause_bytes, section_start, readings_at, Stored, stored, stored_of, count_of, defined_by, named_word, Stands, reading_of, written_onward, command_written, written_by, clauses_after, leading_of, is_leading, constant_at, place_of, leading}
 use Rattle.format.specs.Keeping.{lead_into, kept_constants, constant_count, kept_clauses, kept_names, clause_counts, judged_of, refusal_of, is_end, wrong_of}
 use Rattle.format.specs.FormatLaws.{constant_fits, judged_take, size_some, Whole, read_whole, branch, Sound, Stay, Kept, turn_kept, head_fits_lem, opened_sound, HeadRight, head_right}
 use Rattle.format.specs.Callers.{levels_are}
@@ -173,7 +173,9 @@ module _ (s : List ℕ) (kind : ℕ) (x : Stored) (defined : ℕ) (q₀ : Questi
     where
       by : (k : ℕ) → length s < at + k → written_by k s at g.q x.clauses ≡ written_by (length s) s 4 q₀ l₀ → x.clauses ≡ written_by (length s) s 4 q₀ l₀
       by zero h z = absurd (omega (arith, g.within))
-      by (suc k) h z = sym (ap (written_onward _ x.clauses) (sym judged_is) ∙ f _) ∙ z
+      by (suc k) h z =
+          let rest : Command → ℕ → List ℕ = λ c next. written_by k s next (taken g.q c) (command_written g.q x.clauses c) in
+          sym (ap (written_onward rest x.clauses) (sym judged_is) ∙ f rest) ∙ z
 
   -- a refusal
   refuses : (n place : ℕ) (out : Reading) → onward s at g.q r ≡ stop (refused n place)
@@ -234,6 +236,9 @@ module _ (s : List ℕ) (kind : ℕ) (x : Stored) (defined : ℕ) (q₀ : Questi
     unfolding run written_by
     goes b h = by g.turns g.enough g.same g.written
       where
+        rest : ℕ → Command → ℕ → List ℕ
+        rest k c next = written_by k s next (taken g.q c) (command_written g.q x.clauses c)
+
         on : turn s at g.q ≡ go (taken g.q c) next
         on = turn_is ∙ ap (onward s at g.q) t ∙ goes_on s at g.q c next h
 
@@ -254,7 +259,7 @@ module _ (s : List ℕ) (kind : ℕ) (x : Stored) (defined : ℕ) (q₀ : Questi
             same = sym (ap (following (λ q' at'. run k s at' q')) on) ∙ z;
             written =
                 ap (written_by k s next (taken g.q c)) (sym (written_same x g.q g.stands c))
-                ∙ sym (ap (written_onward _ x.clauses) (sym judged_is ∙ t) ∙ written_on _ x.clauses c next h)
+                ∙ sym (ap (written_onward (rest k) x.clauses) (sym judged_is ∙ t) ∙ written_on (rest k) x.clauses c next h)
                 ∙ w;
           },
           refl,

@@ -53,18 +53,18 @@ loop-again c =
     (λ w. (
       omega arith,
       omega arith,
-      rw w.6 (w.3.kept.1.1.1.1.0 ∙ l.invariant.2),
-      rw w.6
-          (alike_more constant_levels a.table.now a.keys.now a.free a.b l.a w.1.result a.present.now l.present _ l.invariant.0 (omega arith)
-          w.0.taken w.1.ensures l.invariant.3 w.3.ensures),
+      rw w.present-is (w.mark_word.auto.present ∙ l.invariant.2),
+      rw w.present-is
+          (alike_more constant_levels a.table.now a.keys.now a.free a.b l.a w.half.result a.present.now l.present _ l.invariant.0 (omega arith)
+          w.if-keys-a.true w.half.ensures l.invariant.3 w.mark_word.ensures),
     ))
     (λ w. (
       omega arith,
       omega arith,
-      rw w.1 l.invariant.2,
-      rw w.1 (alike_other constant_levels a.table.now a.keys.now a.free a.b l.a a.present.now l.present w.0.left l.invariant.3),
+      rw w.present-is l.invariant.2,
+      rw w.present-is (alike_other constant_levels a.table.now a.keys.now a.free a.b l.a a.present.now l.present w.if-keys-a.false l.invariant.3),
     ))
-    c.if-keys-a.branch
+    c.if-keys-a.branch-raw
 
 same_length : tie.Need-shape_of-present invariant-loop-a decreases-loop-a
 same_length c = c.loop-a.invariant.2
