@@ -40,22 +40,22 @@ answer-outcome-requires-6 : tie.Need-answer_outcome-requires-in-Missed
 answer-outcome-requires-6 c κs = search rules
 
 returns : tie.Need-returns-in-Satisfied
-returns c = rw c.enum_told-1.is c.answer_outcome.ensures
+returns c = rw c.in-Satisfied.is c.answer_outcome.ensures
 
 returns-2 : tie.Need-returns-in-Unsatisfied
-returns-2 c = rw c.enum_told-in-Unsatisfied-1.is c.answer_outcome-in-Unsatisfied.ensures
+returns-2 c = rw c.in-Unsatisfied.is c.answer_outcome-in-Unsatisfied.ensures
 
 returns-3 : tie.Need-returns-in-Vacuous
-returns-3 c = rw c.enum_told-in-Vacuous-1.is c.answer_outcome-in-Vacuous.ensures
+returns-3 c = rw c.in-Vacuous.is c.answer_outcome-in-Vacuous.ensures
 
 returns-4 : tie.Need-returns-in-Entailed
-returns-4 c = rw c.enum_told-in-Entailed-1.is c.answer_outcome-in-Entailed.ensures
+returns-4 c = rw c.in-Entailed.is c.answer_outcome-in-Entailed.ensures
 
 returns-5 : tie.Need-returns-in-Unmet
-returns-5 c = rw c.enum_told-in-Unmet-1.is c.answer_outcome-in-Unmet.ensures
+returns-5 c = rw c.in-Unmet.is c.answer_outcome-in-Unmet.ensures
 
 returns-6 : tie.Need-returns-in-Missed
-returns-6 c = rw c.finding-1.given.1 c.answer_outcome-in-Missed.ensures
+returns-6 c = rw c.in-Missed.is c.answer_outcome-in-Missed.ensures
 
 pub outcome_of_spec : {M : Type 1} → statement M
 outcome_of_spec =
