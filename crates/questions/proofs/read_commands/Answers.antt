@@ -24,9 +24,10 @@ returns-in_default c =
 
 pub returns-then-next-bytes : goal.returns-then-next-bytes
 returns-then-next-bytes c =
+    let ends = sym c.is_end.ensures ∙ c.if-is_end.true in
     let G =
     accepted_turn _ _ _ _ _ _ _ c.loop-command.invariant.0 _ c.read_command-r.ensures _ _ c.in-Take.is
-    (sym c.is_end.ensures ∙ c.if-is_end.true) c.read_constants-defined.ensures.value.0 _ c.if-next-bytes.true c.accepted.ensures in
+    ends c.read_constants-defined.ensures.value.0 _ c.if-next-bytes.true c.accepted.ensures in
     record { answer = G.0; clauses = G.1.0; stands = G.1.1.0; first = G.1.1.1 }
 
 pub returns-then-is_end : goal.returns-then-is_end
