@@ -4,7 +4,9 @@ use Rattle.questions.proofs.read.Goals as goal
 
 pub returns-in_default : goal.returns-in_default
 returns-in_default c =
-    let G = refused_head _ _ c.read_head-h.ensures _ _ c.refused.result _ c.in_default.is c.wrong_of.ensures c.refused.ensures in
+    let G =
+    refused_head _ _ c.read_head-h.ensures _ _ c.refused.result _
+    c.in_default.is c.wrong_of.ensures c.refused.ensures in
     record { answer = G.0; clauses = G.1.0; stands = G.1.1.0; first = G.1.1.1 }
 
 pub read_commands-requires-clause-in_bounds : goal.read_commands-requires-clause-in_bounds
@@ -16,5 +18,6 @@ read_commands-requires-clause-own_value c = (head_taken _ _ c.read_head-h.ensure
 pub returns : goal.returns
 returns c =
     let E = c.read_commands.ensures in
-    let G = read_on_lem _ _ c.read_head-h.ensures _ _ _ c.in-Opens.is _ _ _ (E.answer, (E.clauses, (E.stands, E.first))) in
+    let G =
+    read_on_lem _ _ c.read_head-h.ensures _ _ _ c.in-Opens.is _ _ _ (E.answer, (E.clauses, (E.stands, E.first))) in
     record { answer = G.0; clauses = G.1.0; stands = G.1.1.0; first = G.1.1.1 }

@@ -12,21 +12,29 @@ loop-command-init c =
     let a = c.args in
     let led = c.read_constants-defined.ensures.value in
     rw (led.0, led.1)
-    (starts a.bytes.now (λ i. omega (arith, c.type_inv.bytes i)) _ _ _ _ c.requires.clauses_len c.requires.in_bounds c.requires.own_value)
+    (starts a.bytes.now (λ i. omega (arith, c.type_inv.bytes i)) _ _ _ _
+    c.requires.clauses_len c.requires.in_bounds c.requires.own_value)
 
 pub returns-in_default : goal.returns-in_default
 returns-in_default c =
-    let G = refused_turn _ _ _ _ _ _ _ c.loop-command.invariant.0 _ c.read_command-r.ensures _ _ c.refused.result c.in_default.is c.refusal_of.ensures c.refused.ensures in
+    let G =
+    refused_turn _ _ _ _ _ _ _ c.loop-command.invariant.0 _ c.read_command-r.ensures _ _ c.refused.result
+    c.in_default.is c.refusal_of.ensures c.refused.ensures in
     record { answer = G.0; clauses = G.1.0; stands = G.1.1.0; first = G.1.1.1 }
 
 pub returns-then-next-bytes : goal.returns-then-next-bytes
 returns-then-next-bytes c =
-    let G = accepted_turn _ _ _ _ _ _ _ c.loop-command.invariant.0 _ c.read_command-r.ensures _ _ c.in-Take.is (sym c.is_end.ensures ∙ c.if-is_end.true) c.read_constants-defined.ensures.value.0 _ c.if-next-bytes.true c.accepted.ensures in
+    let ends = sym c.is_end.ensures ∙ c.if-is_end.true in
+    let G =
+    accepted_turn _ _ _ _ _ _ _ c.loop-command.invariant.0 _ c.read_command-r.ensures _ _ c.in-Take.is
+    ends c.read_constants-defined.ensures.value.0 _ c.if-next-bytes.true c.accepted.ensures in
     record { answer = G.0; clauses = G.1.0; stands = G.1.1.0; first = G.1.1.1 }
 
 pub returns-then-is_end : goal.returns-then-is_end
 returns-then-is_end c =
-    let G = after_end _ _ _ _ _ _ _ c.loop-command.invariant.0 _ c.read_command-r.ensures _ _ c.in-Take.is (sym c.is_end.ensures ∙ c.if-is_end.true) _ c.if-next-bytes.false c.refused-then-is_end.ensures in
+    let G =
+    after_end _ _ _ _ _ _ _ c.loop-command.invariant.0 _ c.read_command-r.ensures _ _ c.in-Take.is
+    (sym c.is_end.ensures ∙ c.if-is_end.true) _ c.if-next-bytes.false c.refused-then-is_end.ensures in
     record { answer = G.0; clauses = G.1.0; stands = G.1.1.0; first = G.1.1.1 }
 
 pub keep_clause-named-requires-clause-slot : goal.keep_clause-named-requires-clause-slot
@@ -43,7 +51,8 @@ loop-command-smaller c =
 pub loop-command-preserved : goal.loop-command-preserved
 loop-command-preserved c =
     let head = c.loop-command in
-    goes_clause _ _ (stored head.clauses head.counts _ head.named c.args.free c.args.own) _ _ _ _ head.invariant _ c.read_command-r.ensures _ _ c.in-Take.is
+    goes_clause _ _ (stored head.clauses head.counts _ head.named c.args.free c.args.own) _ _ _ _ head.invariant _
+    c.read_command-r.ensures _ _ c.in-Take.is
     (λ i. omega (arith, c.type_inv.bytes i))
     (sym c.is_end.ensures ∙ c.if-is_end.false) _ _ _
     c.keep_clause-named.ensures c.count_clause.ensures

@@ -1,4 +1,5 @@
--- `questions::read_commands`: what is stored stands for a question from which the commands left give the whole reading. Assumes nothing.
+-- `questions::read_commands`: what is stored stands for a question from which the commands left give the whole reading.
+-- Assumes nothing.
 use Prim.Native.Nat.{◌-◌}
 use lib.ListN.{length}
 use Rattle.format.specs.Format.{opened}
@@ -8,7 +9,8 @@ use Rattle.questions.proofs.read_commands.Given as goal
 
 abbrev pub invariant-loop-command : goal.invariant-loop-command
 invariant-loop-command l =
-    State l.bytes l.kind (stored l.clauses l.counts l.constants l.named l.free l.own) l.defined (opened l.kind l.free l.own) l.fn.clauses l.at
+    State l.bytes l.kind (stored l.clauses l.counts l.constants l.named l.free l.own) l.defined
+    (opened l.kind l.free l.own) l.fn.clauses l.at
 
 abbrev pub decreases-loop-command : goal.decreases-loop-command
 decreases-loop-command l = length l.bytes - l.at

@@ -19,11 +19,11 @@ returns-then-bytes-lt4 c = search rules
 pub returns-then-head_fits : goal.returns-then-head_fits
 returns-then-head_fits c =
     rw c.if-head_fits.true at
-    (whole_head c.args.bytes.now _ _ _ c.if-bytes-lt1.false c.if-bytes-ne1.false c.if-bytes-lt4.false c.index-free.ensures.0
-    c.index-own.ensures.0 c.head_fits.ensures)
+    (whole_head c.args.bytes.now _ _ _ c.if-bytes-lt1.false c.if-bytes-ne1.false c.if-bytes-lt4.false
+    c.index-free.ensures.0 c.index-own.ensures.0 c.head_fits.ensures)
 
 pub returns : goal.returns
 returns c =
     rw c.if-head_fits.false at
-    (whole_head c.args.bytes.now _ _ _ c.if-bytes-lt1.false c.if-bytes-ne1.false c.if-bytes-lt4.false c.index-free.ensures.0
-    c.index-own.ensures.0 c.head_fits.ensures)
+    (whole_head c.args.bytes.now _ _ _ c.if-bytes-lt1.false c.if-bytes-ne1.false c.if-bytes-lt4.false
+    c.index-free.ensures.0 c.index-own.ensures.0 c.head_fits.ensures)

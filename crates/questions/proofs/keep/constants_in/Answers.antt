@@ -1,4 +1,5 @@
--- `questions::keep::constants_in` meets its contract: three bits, of which the shift keeps the constants'. Assumes nothing.
+-- `questions::keep::constants_in` meets its contract: three bits, of which the shift keeps the constants'.
+-- Assumes nothing.
 use mathlib.Core.Path.{◌≡◌, ap, ap₂, ◌∙◌}
 use Prim.Native.Nat.{ℕ, ◌*◌, ◌/◌, ◌%◌, ◌^◌, ◌<◌}
 use lib.Bits.{bit_or}
@@ -16,6 +17,8 @@ returns c =
     let small = c.requires in
     ap (λ x. x / 2 ^ 32)
     (ap₂ bit_or
-    (ap₂ bit_or (one_bit c.index.result j.first c.index.ensures.0 small.0) (one_bit c.index-2.result j.second c.index-2.ensures.0 small.1))
+    (ap₂ bit_or
+    (one_bit c.index.result j.first c.index.ensures.0 small.0)
+    (one_bit c.index-2.result j.second c.index-2.ensures.0 small.1))
     (one_bit c.index-3.result j.sum c.index-3.ensures.0 small.2))
     ∙ constants_are j small
