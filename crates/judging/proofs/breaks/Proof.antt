@@ -21,10 +21,10 @@ enum-told-4 : tie.Need-enum_told-in-SecondDisequation
 enum-told-4 c = search rules
 
 returns : tie.Need-returns-in-FirstPositive
-returns c = rw c.enum_told-1.is (ap not c.everywhere-holds.ensures)
+returns c = rw c.in-FirstPositive.is (ap not c.everywhere-holds.ensures)
 
 returns-2 : tie.Need-returns-in-FirstDisequation
-returns-2 c = rw c.enum_told-in-FirstDisequation-1.is c.everywhere-holds.ensures
+returns-2 c = rw c.in-FirstDisequation.is c.everywhere-holds.ensures
 
 returns-3 : tie.Need-returns-in-SecondPositive
 returns-3 c = search rules

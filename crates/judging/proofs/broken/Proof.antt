@@ -8,7 +8,7 @@ enum_told : tie.Need-enum_told-1
 enum_told c = search rules
 
 broken-positive-requires : tie.Need-broken_positive-requires
-broken-positive-requires c κs = rw c.enum_told-1.is at c.requires
+broken-positive-requires c κs = rw c.in-FirstPositive.is at c.requires
 
 enum-told-2 : tie.Need-enum_told-in-FirstDisequation
 enum-told-2 c = search rules
@@ -20,16 +20,16 @@ enum-told-4 : tie.Need-enum_told-in-SecondDisequation
 enum-told-4 c = search rules
 
 returns : tie.Need-returns-in-FirstPositive
-returns c = rw c.enum_told-1.is c.broken_positive.ensures
+returns c = rw c.in-FirstPositive.is c.broken_positive.ensures
 
 returns-2 : tie.Need-returns-in-FirstDisequation
-returns-2 c = rw c.enum_told-in-FirstDisequation-1.is refl
+returns-2 c = rw c.in-FirstDisequation.is refl
 
 returns-3 : tie.Need-returns-in-SecondPositive
-returns-3 c = rw c.enum_told-in-SecondPositive-1.is refl
+returns-3 c = rw c.in-SecondPositive.is refl
 
 returns-4 : tie.Need-returns-in-SecondDisequation
-returns-4 c = rw c.enum_told-in-SecondDisequation-1.is refl
+returns-4 c = rw c.in-SecondDisequation.is refl
 
 pub broken_spec : {M : Type 1} → statement M
 broken_spec =

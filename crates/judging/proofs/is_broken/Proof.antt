@@ -18,27 +18,27 @@ enum-known-shape : tie.Need-enum_known-shape
 enum-known-shape c = search rules
 
 join-at-requires : tie.Need-join_at-requires
-join-at-requires c κs = (rw c.shape-1.given.1 at c.requires).0
+join-at-requires c κs = (rw c.in-Clause.is at c.requires).0
 
 breaks-requires : tie.Need-breaks-requires
 unfolding command_of
-breaks-requires c κs = rw c.join_at.ensures (rw c.shape-1.given.1 at c.requires).1
+breaks-requires c κs = rw c.join_at.ensures (rw c.in-Clause.is at c.requires).1
 
 returns : tie.Need-returns-in-End
 unfolding command_of
-returns c = rw c.enum_told-1.is refl
+returns c = rw c.in-End.is refl
 
 returns-2 : tie.Need-returns-in-Head
 unfolding command_of
-returns-2 c = rw c.enum_told-in-Head-1.is refl
+returns-2 c = rw c.in-Head.is refl
 
 returns-3 : tie.Need-returns-in-Constant
 unfolding command_of
-returns-3 c = rw c.enum_told-in-Constant-1.is refl
+returns-3 c = rw c.in-Constant.is refl
 
 returns-4 : tie.Need-returns-in-Clause
 unfolding command_of
-returns-4 c = rw (c.breaks.ensures, c.join_at.ensures, c.shape-1.given.1) refl
+returns-4 c = rw (c.breaks.ensures, c.join_at.ensures, c.in-Clause.is) refl
 
 pub is_broken_spec : {M : Type 1} → statement M
 is_broken_spec =

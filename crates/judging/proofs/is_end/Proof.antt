@@ -19,19 +19,19 @@ enum-told-4 c = search rules
 
 returns : tie.Need-returns-in-End
 unfolding command_of
-returns c s i = rw c.enum_told-1.is refl
+returns c s i = rw c.in-End.is refl
 
 returns-2 : tie.Need-returns-in-Head
 unfolding command_of
-returns-2 c s i = rw c.enum_told-in-Head-1.is refl
+returns-2 c s i = rw c.in-Head.is refl
 
 returns-3 : tie.Need-returns-in-Constant
 unfolding command_of
-returns-3 c s i = rw c.enum_told-in-Constant-1.is refl
+returns-3 c s i = rw c.in-Constant.is refl
 
 returns-4 : tie.Need-returns-in-Clause
 unfolding command_of
-returns-4 c s i = rw c.enum_told-in-Clause-1.is refl
+returns-4 c s i = rw c.in-Clause.is refl
 
 pub is_end_spec : {M : Type 1} → statement M
 is_end_spec =

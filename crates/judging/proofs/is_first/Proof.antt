@@ -22,19 +22,19 @@ is-second-requires c κs = search rules
 
 returns : tie.Need-returns-in-End
 unfolding command_of
-returns c s i = rw c.enum_told-1.is refl
+returns c s i = rw c.in-End.is refl
 
 returns-2 : tie.Need-returns-in-Head
 unfolding command_of
-returns-2 c s i = rw c.enum_told-in-Head-1.is refl
+returns-2 c s i = rw c.in-Head.is refl
 
 returns-3 : tie.Need-returns-in-Constant
 unfolding command_of
-returns-3 c s i = rw c.enum_told-in-Constant-1.is refl
+returns-3 c s i = rw c.in-Constant.is refl
 
 returns-4 : tie.Need-returns-in-Clause
 unfolding command_of
-returns-4 c s i = rw (c.is_second.ensures, c.shape-1.given.1) refl
+returns-4 c s i = rw (c.is_second.ensures, c.in-Clause.is) refl
 
 pub is_first_spec : {M : Type 1} → statement M
 is_first_spec =

@@ -22,11 +22,11 @@ decreases-loop-at bytes from leaves count₀ at₀ count at = length bytes - at
 took : (c : tie.Else-bytes-first invariant-loop-at decreases-loop-at) → (
     let at = c.loop-at.at in
     let bytes = c.args.bytes.now in
-    read_at bytes at ≡ Take (command_of bytes (at + 1) c.entry-1.given.0.0) (at + 1 + c.operand_count-width.result))
+    read_at bytes at ≡ Take (command_of bytes (at + 1) c.in-Known.shape) (at + 1 + c.operand_count-width.result))
 took c =
     let announced = c in
     rw c.operand_count-width.ensures
-    (read_take _ _ announced.loop-at-test.true _ (sym announced.entry_of-entry.ensures ∙ c.entry-1.given.1)
+    (read_take _ _ announced.loop-at-test.true _ (sym announced.entry_of-entry.ensures ∙ c.in-Known.is)
     (rw c.operand_count-width.ensures at c.if-bytes-first.false))
 
 loop-holds : tie.Need-loop-at-init invariant-loop-at decreases-loop-at
@@ -47,7 +47,7 @@ enum_told c = search rules
 returns : tie.Need-returns-in_default invariant-loop-at decreases-loop-at
 returns c =
     let test = c in
-    first_refused _ _ _ test.loop-at.invariant 3 (read_unknown _ _ test.loop-at-test.true (sym c.entry_of-entry.ensures ∙ c.enum_told-1.is))
+    first_refused _ _ _ test.loop-at.invariant 3 (read_unknown _ _ test.loop-at-test.true (sym c.entry_of-entry.ensures ∙ c.in_default.is))
 
 operand-count-requires : tie.Need-operand_count-width-requires invariant-loop-at decreases-loop-at
 operand-count-requires c κs = search rules
@@ -63,7 +63,7 @@ returns-2 c =
     let announced = c in
     let test = announced in
     first_refused _ _ _ test.loop-at.invariant 2
-    (read_short _ _ test.loop-at-test.true _ (sym announced.entry_of-entry.ensures ∙ c.entry-1.given.1) (rw c.operand_count-width.ensures at c.if-bytes-first.true))
+    (read_short _ _ test.loop-at-test.true _ (sym announced.entry_of-entry.ensures ∙ c.in-Known.is) (rw c.operand_count-width.ensures at c.if-bytes-first.true))
 
 is-end-requires : tie.Need-is_end-requires invariant-loop-at decreases-loop-at
 is-end-requires c κs = search rules

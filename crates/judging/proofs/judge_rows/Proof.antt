@@ -39,13 +39,13 @@ returns : tie.Need-returns-in_default
 returns c q e St =
     let walked = c in
     let start = walked in
-    rows_broken start.args.question _ _ q St _ (walked.judge_first-first.ensures q _ _ _ e (laid start.args.question _ _ q St _ walked.before.before.«unfold».ensures)) (λ a. no_other (rw a at c.in_default.is))
+    rows_broken start.args.question _ _ q St _ (walked.judge_first-first.ensures q _ _ _ e (laid start.args.question _ _ q St _ walked.before.before.«unfold».ensures)) c.in_default.not-Accepted
 
 returns-2 : tie.Need-returns-then-question-eq0
 returns-2 c q e St =
     let walked = c in
     let start = walked in
-    rows_satisfied start.args.question _ _ q St _ (walked.judge_first-first.ensures q _ _ _ e (laid start.args.question _ _ q St _ walked.before.before.«unfold».ensures)) c.enum_told-1.is c.if-question-eq0.true
+    rows_satisfied start.args.question _ _ q St _ (walked.judge_first-first.ensures q _ _ _ e (laid start.args.question _ _ q St _ walked.before.before.«unfold».ensures)) c.in-Accepted.is c.if-question-eq0.true
 
 sizes-of-requires : tie.Need-sizes_of-sizes-requires
 sizes-of-requires c κs =
@@ -64,7 +64,7 @@ returns-3 c q e St =
     let walked = unbroken in
     let start = walked in
     let U = walked.before.before.«unfold».ensures in
-    rows_extending start.args.question _ _ q St _ (walked.judge_first-first.ensures q _ _ _ e (laid start.args.question _ _ q St _ U)) unbroken.enum_told-1.is unbroken.if-question-eq0.false _
+    rows_extending start.args.question _ _ q St _ (walked.judge_first-first.ensures q _ _ _ e (laid start.args.question _ _ q St _ U)) unbroken.in-Accepted.is unbroken.if-question-eq0.false _
     (extends_found start.args.question _ _ q St _ sized.sizes_of-sizes.ensures _ U _ c.extends.ensures) c.if-extends.true
 
 returns-4 : tie.Need-returns
@@ -74,7 +74,7 @@ returns-4 c q e St =
     let walked = unbroken in
     let start = walked in
     let U = walked.before.before.«unfold».ensures in
-    rows_accepted start.args.question _ _ q St _ (walked.judge_first-first.ensures q _ _ _ e (laid start.args.question _ _ q St _ U)) unbroken.enum_told-1.is unbroken.if-question-eq0.false _
+    rows_accepted start.args.question _ _ q St _ (walked.judge_first-first.ensures q _ _ _ e (laid start.args.question _ _ q St _ U)) unbroken.in-Accepted.is unbroken.if-question-eq0.false _
     (extends_found start.args.question _ _ q St _ sized.sizes_of-sizes.ensures _ U _ c.extends.ensures) c.if-extends.false
 
 pub judge_rows_spec : {M : Type 1} → statement M
