@@ -30,16 +30,16 @@ mul-result-3 : tie.Need-overflow_mul-result-in-TooTall
 mul-result-3 c = search rules
 
 returns : tie.Need-returns-in-Constant
-returns c = rw c.read-1.given.1 (omega arith)
+returns c = rw c.in-Constant.is (omega arith)
 
 returns-2 : tie.Need-returns-in-NotTreeText
-returns-2 c = rw c.enum_told-1.is refl
+returns-2 c = rw c.in-NotTreeText.is refl
 
 returns-3 : tie.Need-returns-in-NotFolded
-returns-3 c = rw c.enum_told-in-NotFolded-1.is refl
+returns-3 c = rw c.in-NotFolded.is refl
 
 returns-4 : tie.Need-returns-in-TooTall
-returns-4 c = rw c.enum_told-in-TooTall-1.is refl
+returns-4 c = rw c.in-TooTall.is refl
 
 pub constant_number_spec : {M : Type 1} → statement M
 constant_number_spec =

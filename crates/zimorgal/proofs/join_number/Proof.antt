@@ -14,10 +14,10 @@ enum_told : tie.Need-enum_told-1
 enum_told c = search rules
 
 returns : tie.Need-returns-in-Constant
-returns c = rw c.joined-1.given.1 refl
+returns c = rw c.in-Constant.is refl
 
 returns-2 : tie.Need-returns-in-Undefined
-returns-2 c = rw c.enum_told-1.is refl
+returns-2 c = rw c.in-Undefined.is refl
 
 pub join_number_spec : {M : Type 1} → statement M
 join_number_spec = tie.close (tie.spec enum-known-joined cast-result enum_told returns returns-2)

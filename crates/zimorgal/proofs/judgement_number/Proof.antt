@@ -15,11 +15,11 @@ mul-result : tie.Need-overflow_mul-result
 mul-result c = search rules
 
 mul-result-2 : tie.Need-overflow_mul-result-in-Refused
-mul-result-2 c = let S = rw c.judgement-1.given.1 at c.requires in omega (arith, S.1)
+mul-result-2 c = let S = rw c.in-Refused.is at c.requires in omega (arith, S.1)
 
 add_result : tie.Need-overflow_add-result
 add_result c =
-    let S = rw c.judgement-1.given.1 at c.requires in
+    let S = rw c.in-Refused.is at c.requires in
     omega (arith, S.0, S.1, c.wide.ensures.0)
 
 enum_told : tie.Need-enum_told-1
@@ -29,22 +29,22 @@ enum-known-judgement-2 : tie.Need-enum_known-judgement-in-Broken-1
 enum-known-judgement-2 c = search rules
 
 broken-number-requires : tie.Need-broken_number-requires
-broken-number-requires c κs = rw c.judgement-in-Broken-1.given.1 at c.requires
+broken-number-requires c κs = rw c.in-Broken.is at c.requires
 
 enum-told-2 : tie.Need-enum_told-in-Extending
 enum-told-2 c = search rules
 
 returns : tie.Need-returns-in-Refused
-returns c = rw c.judgement-1.given.1 (omega (arith, c.wide.ensures.0))
+returns c = rw c.in-Refused.is (omega (arith, c.wide.ensures.0))
 
 returns-2 : tie.Need-returns-in-Accepted
-returns-2 c = rw c.enum_told-1.is refl
+returns-2 c = rw c.in-Accepted.is refl
 
 returns-3 : tie.Need-returns-in-Broken
-returns-3 c = rw c.judgement-in-Broken-1.given.1 c.broken_number.ensures
+returns-3 c = rw c.in-Broken.is c.broken_number.ensures
 
 returns-4 : tie.Need-returns-in-Extending
-returns-4 c = rw c.enum_told-in-Extending-1.is refl
+returns-4 c = rw c.in-Extending.is refl
 
 pub judgement_number_spec : {M : Type 1} → statement M
 judgement_number_spec =

@@ -17,10 +17,10 @@ mul-result : tie.Need-overflow_mul-result
 mul-result c = search rules
 
 returns : tie.Need-returns-in-Length
-returns c = text_written _ _ c.written-1.given.1
+returns c = text_written _ _ c.in-Length.is
 
 returns-2 : tie.Need-returns-in-Refused
-returns-2 c = text_refused _ _ _ c.written-in-Refused-1.given.1 c.wide.ensures.0
+returns-2 c = text_refused _ _ _ c.in-Refused.is c.wide.ensures.0
 
 pub text_number_spec : {M : Type 1} → statement M
 text_number_spec =
