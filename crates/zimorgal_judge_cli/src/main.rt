@@ -1,30 +1,33 @@
 // The judging program: reads 1,536 bytes of rows and then one question from standard input, judges the rows, and prints what it finds.
 #![tactic(auto)]
 
-ghost use Rattle.io.specs.Counts.{IsPrefixLen};
+ghost use Rattle.std.specs.Prelude.{◌≡◌, ◌≤◌, length, take};
 
 use judging::Judgement;
 use shares::Way;
-use std::io::Read;
+use std::io;
+use std::io::{ErrorKind, Read};
 
-// Each of these writes to standard output, stops at the first write that fails, and says whether all was written.
-fn say_bytes(rt: &impl Print, bytes: &[u8]) -> bool {
-    rt.write_all(bytes).is_ok()
+// Each of these writes to standard output, and stops at the first write that fails.
+fn say_bytes(rt: &impl Print, bytes: &[u8]) -> io::Result<()> {
+    rt.write_all(bytes)
 }
 
-fn say_number(rt: &impl Print, number: usize) -> bool {
-    rt.print(number).is_ok()
+fn say_number(rt: &impl Print, number: usize) -> io::Result<()> {
+    rt.print(number)
 }
 
 // What is printed of a way in which a clause fails, and of the leaf.
-fn say_failing(rt: &impl Print, way: &[u8], leaf: usize) -> bool {
-    say_bytes(rt, way) && say_bytes(rt, b" at ") && say_number(rt, leaf)
+fn say_failing(rt: &impl Print, way: &[u8], leaf: usize) -> io::Result<()> {
+    say_bytes(rt, way)?;
+    say_bytes(rt, b" at ")?;
+    say_number(rt, leaf)
 }
 
 // Of a disequation there is neither.
-fn say_way(rt: &impl Print, way: Way, leaf: usize) -> bool {
+fn say_way(rt: &impl Print, way: Way, leaf: usize) -> io::Result<()> {
     match way {
-        Way::Holds => true,
+        Way::Holds => Ok(()),
         Way::Overlap => say_failing(rt, b" overlap", leaf),
         Way::Surplus => say_failing(rt, b" surplus", leaf),
         Way::Shortfall => say_failing(rt, b" shortfall", leaf),
@@ -32,18 +35,21 @@ fn say_way(rt: &impl Print, way: Way, leaf: usize) -> bool {
 }
 
 // What is printed for rows.
-fn say(rt: &impl Print, judgement: Judgement) -> bool {
+fn say(rt: &impl Print, judgement: Judgement) -> io::Result<()> {
     match judgement {
         Judgement::Refused { number, place } => {
-            say_bytes(rt, b"refused ")
-                && say_number(rt, number as usize)
-                && say_bytes(rt, b" at ")
-                && say_number(rt, place)
-                && say_bytes(rt, b"\n")
+            say_bytes(rt, b"refused ")?;
+            say_number(rt, number as usize)?;
+            say_bytes(rt, b" at ")?;
+            say_number(rt, place)?;
+            say_bytes(rt, b"\n")
         }
         Judgement::Accepted => say_bytes(rt, b"accepted\n"),
         Judgement::Broken { clause, way, leaf } => {
-            say_bytes(rt, b"broken ") && say_number(rt, clause) && say_way(rt, way, leaf) && say_bytes(rt, b"\n")
+            say_bytes(rt, b"broken ")?;
+            say_number(rt, clause)?;
+            say_way(rt, way, leaf)?;
+            say_bytes(rt, b"\n")
         }
         Judgement::Extending => say_bytes(rt, b"extends\n"),
     }
@@ -51,7 +57,8 @@ fn say(rt: &impl Print, judgement: Judgement) -> bool {
 
 // Reads until the buffer is full, the input ends or a read fails, and gives how many bytes it put at the buffer's start.
 fn read_full<R: Read>(input: &mut R, buffer: &mut [u8]) -> usize
-    ensures { IsPrefixLen result buffer.new }
+    ensures within { result ≤ length buffer.new }
+    ensures prefix { result ≡ length (take result buffer.new) }
 {
     let mut done: usize = 0;
     while done < buffer.len() {
@@ -75,7 +82,8 @@ fn is_all<R: Read>(input: &mut R, read: usize, room: usize) -> bool {
 
 // Reads the question, and gives its length. Where the rows are not all there, input has ended and there is none: on a terminal it could go on.
 fn read_question<R: Read>(input: &mut R, rows: usize, question: &mut [u8]) -> usize
-    ensures { IsPrefixLen result question.new }
+    ensures within { result ≤ length question.new }
+    ensures prefix { result ≡ length (take result question.new) }
 {
     if rows < 1536 {
         return 0;
@@ -93,7 +101,10 @@ fn main(rt: HostRuntime) {
         let _ = rt.eprintln("zimorgal_judge_cli: standard input could not be read");
         return;
     }
-    if !say(&rt, judging::judge(&question[..n], &rows[..m])) {
-        let _ = rt.eprintln("zimorgal_judge_cli: the judgement could not be written");
+    if let Err(error) = say(&rt, judging::judge(&question[..n], &rows[..m])) {
+        // Nothing is said where whoever reads it wants no more, as `head` does.
+        if error.kind() != ErrorKind::BrokenPipe {
+            let _ = rt.eprintln("zimorgal_judge_cli: the judgement could not be written");
+        }
     }
 }
