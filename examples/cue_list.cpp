@@ -1,7 +1,7 @@
 // Two threads of a lighting desk hold parts of a cue list. This program asks what an analyser would ask before it lets
 // a third thread in or lets the next line write, and judges what another prover found.
 //
-//     g++ -std=c++17 -Iinclude examples/cue_list.cpp target/staticlib/libzimorgal.a -o cue_list && ./cue_list
+//     g++ -std=c++17 -Iinclude examples/cue_list.cpp crates/zimorgal/out/libzimorgal.a -o cue_list && ./cue_list
 //
 // It writes examples/cue_list.out.
 #include <cstdlib>

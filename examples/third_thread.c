@@ -1,7 +1,7 @@
 /* Two threads of a lighting desk hold parts of a cue list. This program asks in C what an analyser would ask before it
    lets a third thread in, and judges what another prover found.
 
-       gcc -std=c99 -Iinclude examples/third_thread.c target/staticlib/libzimorgal.a -o third_thread && ./third_thread
+       gcc -std=c99 -Iinclude examples/third_thread.c crates/zimorgal/out/libzimorgal.a -o third_thread && ./third_thread
 
    It writes examples/third_thread.out. */
 #include <stdio.h>

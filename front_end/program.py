@@ -12,14 +12,14 @@ from front_end.judge import read_judgement
 from front_end.question import write_question
 from front_end.rows import write_rows
 
-BUILT = Path(__file__).resolve().parent.parent / "target" / "bin"
+CRATES = Path(__file__).resolve().parent.parent / "crates"
 
 
 class Program(NamedTuple):
     """A program that is run."""
 
     name: str  # in messages
-    file: str  # in the folder of those that are built
+    file: str  # its crate, in whose folder out/ it is built
     variable: str  # of the environment: it can name another
     takes: str
     gives: str
@@ -35,10 +35,10 @@ class ProgramFault(Trouble):
 
 def path(program):
     """Where a program is: where its variable says, or where it was built."""
-    named, built = os.environ.get(program.variable), BUILT / program.file
+    named, built = os.environ.get(program.variable), CRATES / program.file / "out" / program.file
     if not named and not built.exists():
-        raise ProgramFault(f"{program.name} is not built: 'rt check' in the folder that has 'ask' builds target/bin/{program.file} "
-                           f"(${program.variable} can name another)")
+        raise ProgramFault(f"{program.name} is not built: 'rt ci' in the folder that has 'ask' builds "
+                           f"crates/{program.file}/out/{program.file} (${program.variable} can name another)")
     return named or str(built)
 
 

@@ -3,7 +3,7 @@
 // measured too: it must leave a quarter, and judging must take under 16 KB and any other call under 8 KB, that is, a
 // thread that calls more than one that does nothing. By itself, from the repository's top folder:
 //
-//     g++ -std=c++17 -O1 -pthread -Iinclude tests/cpp/stack.cpp target/staticlib/libzimorgal.a -o stack && ./stack
+//     g++ -std=c++17 -O1 -pthread -Iinclude tests/cpp/stack.cpp crates/zimorgal/out/libzimorgal.a -o stack && ./stack
 //
 // The last line is 'N passed, M failed'. A stack that is too small ends the program by a signal.
 #include <pthread.h>

@@ -110,7 +110,8 @@ def test_not_built():
         shutil.copy(TOP / name, bare / name)
     for name in ("front_end", "examples"):
         shutil.copytree(TOP / name, bare / name)
-    what = "the printing program is not built: 'rt check' in the folder that has 'ask' builds target/bin/zimorgal_cli ($ZIMORGAL_CLI can name another)\n"
+    what = ("the printing program is not built: 'rt ci' in the folder that has 'ask' builds crates/zimorgal_cli/out/zimorgal_cli "
+            "($ZIMORGAL_CLI can name another)\n")
     for arguments in (("ask", str(TOP / "examples" / "printed.shares")), ("docs/draw",)):
         status, out, errors = process(str(bare / arguments[0]), *arguments[1:], ZIMORGAL_CLI="")
         check(f"{arguments} before anything is built", (status, out, errors[-len(what):], errors.count("\n")), (2, b"", what, 1))

@@ -1,87 +1,110 @@
 // The judging program: reads 1,536 bytes of rows and then one question from standard input, judges the rows, and prints what it finds.
 #![tactic(auto)]
 
-ghost use Rattle.io.specs.Counts.{IsPrefixLen};
+ghost use Rattle.std.specs.Prelude.{◌≡◌, ◌≤◌, length, take};
 
 use judging::Judgement;
-use libc::{STDERR_FILENO, STDIN_FILENO, STDOUT_FILENO};
 use shares::Way;
+use std::io;
+use std::io::{ErrorKind, Read};
 
-// Each of these writes to standard output, stops at the first write that fails, and says whether all was written.
-fn say_bytes(bytes: &[u8]) -> bool {
-    io::write_all(STDOUT_FILENO, bytes)
+// Each of these writes to standard output, and stops at the first write that fails.
+fn say_bytes(rt: &impl Print, bytes: &[u8]) -> io::Result<()> {
+    rt.write_all(bytes)
 }
 
-fn say_number(number: usize) -> bool {
-    io::print_decimal(STDOUT_FILENO, number as u64)
+fn say_number(rt: &impl Print, number: usize) -> io::Result<()> {
+    rt.print(number)
 }
 
 // What is printed of a way in which a clause fails, and of the leaf.
-fn say_failing(way: &[u8], leaf: usize) -> bool {
-    say_bytes(way) && say_bytes(b" at ") && say_number(leaf)
+fn say_failing(rt: &impl Print, way: &[u8], leaf: usize) -> io::Result<()> {
+    say_bytes(rt, way)?;
+    say_bytes(rt, b" at ")?;
+    say_number(rt, leaf)
 }
 
 // Of a disequation there is neither.
-fn say_way(way: Way, leaf: usize) -> bool {
+fn say_way(rt: &impl Print, way: Way, leaf: usize) -> io::Result<()> {
     match way {
-        Way::Holds => true,
-        Way::Overlap => say_failing(b" overlap", leaf),
-        Way::Surplus => say_failing(b" surplus", leaf),
-        Way::Shortfall => say_failing(b" shortfall", leaf),
+        Way::Holds => Ok(()),
+        Way::Overlap => say_failing(rt, b" overlap", leaf),
+        Way::Surplus => say_failing(rt, b" surplus", leaf),
+        Way::Shortfall => say_failing(rt, b" shortfall", leaf),
     }
 }
 
 // What is printed for rows.
-fn say(judgement: Judgement) -> bool {
+fn say(rt: &impl Print, judgement: Judgement) -> io::Result<()> {
     match judgement {
         Judgement::Refused { number, place } => {
-            say_bytes(b"refused ")
-                && say_number(number as usize)
-                && say_bytes(b" at ")
-                && say_number(place)
-                && say_bytes(b"\n")
+            say_bytes(rt, b"refused ")?;
+            say_number(rt, number as usize)?;
+            say_bytes(rt, b" at ")?;
+            say_number(rt, place)?;
+            say_bytes(rt, b"\n")
         }
-        Judgement::Accepted => say_bytes(b"accepted\n"),
+        Judgement::Accepted => say_bytes(rt, b"accepted\n"),
         Judgement::Broken { clause, way, leaf } => {
-            say_bytes(b"broken ") && say_number(clause) && say_way(way, leaf) && say_bytes(b"\n")
+            say_bytes(rt, b"broken ")?;
+            say_number(rt, clause)?;
+            say_way(rt, way, leaf)?;
+            say_bytes(rt, b"\n")
         }
-        Judgement::Extending => say_bytes(b"extends\n"),
+        Judgement::Extending => say_bytes(rt, b"extends\n"),
     }
 }
 
-// Whether the bytes that were read are all that standard input has, or as many as there is room for. At its end one more read gives
-// 0; after a read that failed it gives -1, or bytes that were not read.
-fn is_all(read: usize, room: usize) -> bool {
+// Reads until the buffer is full, the input ends or a read fails, and gives how many bytes it put at the buffer's start.
+fn read_full<R: Read>(input: &mut R, buffer: &mut [u8]) -> usize
+    ensures within { result ≤ length buffer.new }
+    ensures prefix { result ≡ length (take result buffer.new) }
+{
+    let mut done: usize = 0;
+    while done < buffer.len() {
+        let Ok(n) = input.read(&mut buffer[done..]) else {
+            return done;
+        };
+        if n == 0 {
+            return done;
+        }
+        done += n;
+    }
+    done
+}
+
+// Whether the bytes that were read are all that the input has, or as many as there is room for. At its end one more read gives 0;
+// after a read that failed it fails, or gives bytes that were not read.
+fn is_all<R: Read>(input: &mut R, read: usize, room: usize) -> bool {
     let mut rest = [0u8; 1];
-    read == room || libc::read(STDIN_FILENO, &mut rest) == 0
+    read == room || matches!(input.read(&mut rest), Ok(0))
 }
 
 // Reads the question, and gives its length. Where the rows are not all there, input has ended and there is none: on a terminal it could go on.
-fn read_question(rows: usize, question: &mut [u8]) -> usize
-    ensures { IsPrefixLen result question.new }
+fn read_question<R: Read>(input: &mut R, rows: usize, question: &mut [u8]) -> usize
+    ensures within { result ≤ length question.new }
+    ensures prefix { result ≡ length (take result question.new) }
 {
     if rows < 1536 {
         return 0;
     }
-    io::read_full(STDIN_FILENO, question)
+    read_full(input, question)
 }
 
-fn main() {
+fn main(rt: HostRuntime) {
     let mut rows = [0u8; 1536];
     let mut question = [0u8; 1024];
-    let m = io::read_full(STDIN_FILENO, &mut rows);
-    let n = read_question(m, &mut question);
-    if !is_all(n, 1024) {
-        io::write_all(
-            STDERR_FILENO,
-            b"zimorgal_judge_cli: standard input could not be read\n",
-        );
+    let mut input = rt.stdin();
+    let m = read_full(&mut input, &mut rows);
+    let n = read_question(&mut input, m, &mut question);
+    if !is_all(&mut input, n, 1024) {
+        let _ = rt.eprintln("zimorgal_judge_cli: standard input could not be read");
         return;
     }
-    if !say(judging::judge(&question[..n], &rows[..m])) {
-        io::write_all(
-            STDERR_FILENO,
-            b"zimorgal_judge_cli: the judgement could not be written\n",
-        );
+    if let Err(error) = say(&rt, judging::judge(&question[..n], &rows[..m])) {
+        // Nothing is said where whoever reads it wants no more, as `head` does.
+        if error.kind() != ErrorKind::BrokenPipe {
+            let _ = rt.eprintln("zimorgal_judge_cli: the judgement could not be written");
+        }
     }
 }
