@@ -16,9 +16,8 @@ NAME_DUE = "a name (letters a to z, digits and '_', no digit first)"
 # what is said of them; {} is the character's number.
 HIDING = {
     "\r\v\f\x1c\x1d\x1e\x85\u2028\u2029": "a line break ({}) stands here that is no line feed: end each line with a line feed",
-    "\u061c\u200e\u200f\u202a-\u202e\u2066-\u2069":
-        "a character ({}) stands here that turns the order of what is shown: remove it",
-    "\0": "a byte 00 stands here, as texts in UTF-16 have: save the text as UTF-8",
+    "\u202a\u202b\u202c\u202d\u202e\u2066\u2067\u2068\u2069": "a character ({}) stands here that turns the order of what is shown: remove it",
+    "\0": "a byte 00 stands here, so this is no UTF-8: save the text as UTF-8",
     "\x01-\x08\x0e-\x1b\x1f\x7f-\x84\x86-\x9f": "a control character ({}) stands here: remove it",
 }
 STRANGE = {"\ufeff": "a byte order mark stands here: it may only be the start of the file, so remove it"}

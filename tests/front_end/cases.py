@@ -104,7 +104,6 @@ TWICE = "two negations: write"
 TOO_LONG = "no tree text: it is too long: a folded tree with at most 5 pairs one in the other has at most 94 characters"
 NO_SECOND = "'entails' needs a second system: write a line 'then', and below it the clauses that are to follow from " \
     "those above"
-TURNING = "a character (U+{}) stands here that turns the order of what is shown: remove it"
 CONTROL = "a control character (U+{}) stands here: remove it"
 VERBS = "'join', 'is', 'may' or 'with'"
 CLAUSE = "satisfiable\nfree a b c\n"
@@ -328,10 +327,7 @@ FAULTS = [
     ("satisfiable\nfree a\n# so\x85a is not o", "3:5: a line break (U+0085) stands here that is no line feed: end each line with a line feed"),
     ("satisfiable\nfree a\u2028a is not o", "2:7: a line break (U+2028) stands here that is no line feed: end each line with a line feed"),
     ("satisfiable\x0cfree a", "1:12: a line break (U+000C) stands here that is no line feed: end each line with a line feed"),
-    ("satisfiable\nfree a\na is o #\u202e", f"3:9: {TURNING.format('202E')}"),
-    ("satisfiable\n# \u200f", f"2:3: {TURNING.format('200F')}"),
-    ("satisfiable\n# \u200e", f"2:3: {TURNING.format('200E')}"),
-    ("satisfiable\n# \u061c", f"2:3: {TURNING.format('061C')}"),
+    ("satisfiable\nfree a\na is o #\u202e", "3:9: a character (U+202E) stands here that turns the order of what is shown: remove it"),
     # Control characters, in comments too: a terminal obeys some of them. A tab is none of these.
     ("satisfiable\nfree a\t#\ta\na is o # \x1b[1A\x1b[2K", f"3:10: {CONTROL.format('001B')}"),
     ("satisfiable\nfree a\na is o # not \b\b\b\b", f"3:14: {CONTROL.format('0008')}"),
@@ -339,18 +335,19 @@ FAULTS = [
     ("satisfiable\n# \x7f", f"2:3: {CONTROL.format('007F')}"),
     ("satisfiable\n# \x9b1A", f"2:3: {CONTROL.format('009B')}"),
     ("satisfiable\nfree \x1b", f"2:6: {CONTROL.format('001B')}"),
-    ("satisfiable # \0", "1:15: a byte 00 stands here, as texts in UTF-16 have: save the text as UTF-8"),
+    ("satisfiable # \0", "1:15: a byte 00 stands here, so this is no UTF-8: save the text as UTF-8"),
     # Of several the first.
-    ("satisfiable # \u202e \x1b \r \0", f"1:15: {TURNING.format('202E')}"),
+    ("satisfiable # \u202e \x1b \r \0",
+     "1:15: a character (U+202E) stands here that turns the order of what is shown: remove it"),
     ("satisfiable # \x1b \u202e", f"1:15: {CONTROL.format('001B')}"),
-    ("satisfiable # \u2066\nfree 7", f"1:15: {TURNING.format('2066')}"),
+    ("satisfiable # \u2066\nfree 7", "1:15: a character (U+2066) stands here that turns the order of what is shown: remove it"),
     # No text.
     ("\ufeffsatisfiable\nfree 7", "2:6: '7' starts with a digit, and a name does not: write '_7', for example"),
     ("\ufeffsatisfiable 7", "1:13: the end of the line is due here, not '7'"),
     ("satisfiable\n\ufefffree a", "2:1: a byte order mark stands here: it may only be the start of the file, so remove it"),
     ("\ufeff\ufeffsatisfiable", "1:1: a byte order mark stands here: it may only be the start of the file, so remove it"),
-    ("s\0a\0t\0", "1:2: a byte 00 stands here, as texts in UTF-16 have: save the text as UTF-8"),
-    ("satisfiable\nfree a\0", "2:7: a byte 00 stands here, as texts in UTF-16 have: save the text as UTF-8"),
+    ("s\0a\0t\0", "1:2: a byte 00 stands here, so this is no UTF-8: save the text as UTF-8"),
+    ("satisfiable\nfree a\0", "2:7: a byte 00 stands here, so this is no UTF-8: save the text as UTF-8"),
     (b"\xff\xfes\0a\0", "1:1: the text is in UTF-16: save it as UTF-8"),
     (b"\xfe\xff\0s", "1:1: the text is in UTF-16: save it as UTF-8"),
     (b"\x01\0\0\0\0", "1:1: this is a question in bytes, and no text: './explain' makes a text of it"),
