@@ -175,7 +175,7 @@ fn extra_of(search: Search) -> usize
     }
 }
 
-// How many sub_leaves a leaf has room for, where the first system has d disequations.
+// How many sub-leaves a leaf has room for, where the first system has d disequations.
 fn room_of(search: Search, d: usize) -> usize
     requires { d ≤ 31 }
     ensures { result ≡ room_of search d }

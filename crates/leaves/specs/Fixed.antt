@@ -12,7 +12,7 @@ module _ {X : Type 0} (C : Picker X) (h : ℕ) (P : Problem X) where
   unfoldable pub leaf_of : ℕ → ℕ
   leaf_of j = first_below (2 ^ h) (special_at C P j)
 
-  -- from the left, the sub_leaves of a leaf hold its disequations in question order: so many of them stand before disequation j
+  -- from the left, the sub-leaves of a leaf hold its disequations in question order: so many of them stand before disequation j
   unfoldable pub rank_of : ℕ → ℕ
   rank_of j = count_below j (λ i. eqb (leaf_of i) (leaf_of j))
 
@@ -24,7 +24,7 @@ module _ {X : Type 0} (C : Picker X) (h : ℕ) (P : Problem X) where
   unfoldable pub carried_at : ℕ → ℕ → X
   carried_at b r = cond (ltb (held_at b r) P.count) (C.pick (λ x. P.pos b x && P.dis (held_at b r) b x)) (C.pick (P.pos b))
 
-  -- below a leaf stand 2 ^ (W - h) sub_leaves, W being the height given: the choice at number i of all 2 ^ W
+  -- below a leaf stand 2 ^ (W - h) sub-leaves, W being the height given: the choice at number i of all 2 ^ W
   unfoldable pub fixed_at : ℕ → ℕ → X
   fixed_at W i = carried_at (i / 2 ^ (W - h)) (i % 2 ^ (W - h))
 

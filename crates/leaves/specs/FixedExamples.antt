@@ -38,7 +38,7 @@ first = record {
 abbrev second : Second (Row Bool 2) (Row Bool 1)
 second = record { pos = λ b x y. at false y 0 && not (at false x 1); count = 1; dis = λ j b x y. not (at false x 0) }
 
--- the choices at all 8 sub_leaves
+-- the choices at all 8 sub-leaves
 abbrev shown : Problem (Row Bool 2) → Row (Row Bool 2) 8
 shown P = table 8 (fixed_at (least 2) 1 P 3)
 
@@ -60,7 +60,7 @@ unmet_shown = refl
 before_counted : (one_before 0 0 ≡ 1) × (one_before 0 1 ≡ 0) × (none_before 0 ≡ 0)
 before_counted = (refl, refl, refl)
 
--- reason 3: where neither is full the second's disequation can be met, so that choice does not count, and the idle sub_leaves of leaf 0 carry v1
+-- reason 3: where neither is full the second's disequation can be met, so that choice does not count, and the idle sub-leaves of leaf 0 carry v1
 missed_shown : shown (with_missed (least 1) second first 0) ≡ four v1 v0 v1 v1 (four both v1 v1 v1 nil)
 unfolding first_below count_below some_choice at pick_row table special_at leaf_of rank_of held_at carried_at fixed_at meets_with
 missed_shown = refl

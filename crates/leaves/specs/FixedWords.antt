@@ -1,4 +1,4 @@
--- The words that fix the solution that is shown, those of SPEC 4.5, about any choices at the sub_leaves.
+-- The words that fix the solution that is shown, those of SPEC 4.5, about any choices at the sub-leaves.
 -- Assumes nothing.
 use Rattle.std.specs.Prelude.{◌≡◌, Bool, true, false, ℕ, ◌+◌, ◌-◌, ◌*◌, ◌^◌, ◌≤◌, ◌<◌, T, eqb}
 use Rattle.shares.specs.Below.{one}
@@ -46,17 +46,17 @@ Unmet {Y = Y} P Q b x = Positive P b x × ((y : Y) → ¬ T (Q.pos b x y))
 abbrev pub Together : {X : Type 0} → Problem X → (ℕ → X → Type 0) → ℕ → ℕ → X → Type 0
 Together P counts j b x = counts b x × T (P.dis j b x)
 
--- how many sub_leaves of leaf b stand before those of its disequations: none, or one if it is leaf a
+-- how many sub-leaves of leaf b stand before those of its disequations: none, or one if it is leaf a
 abbrev pub none_before : ℕ → ℕ
 none_before b = 0
 
 abbrev pub one_before : ℕ → ℕ → ℕ
 one_before a b = one (eqb a b)
 
--- The words are about the choices s at the 2 ^ W sub_leaves, W being the height given.
+-- The words are about the choices s at the 2 ^ W sub-leaves, W being the height given.
 -- Below a leaf stand 2 ^ (W - h) of them: sub-leaf r of leaf b is number b * 2 ^ (W - h) + r.
 module _ {n : ℕ} (h : ℕ) (P : Problem (Row Bool n)) (W : ℕ) (s : ℕ → Row Bool n) where
-  -- where counts says which choices count at a leaf, and before how many sub_leaves of it stand before its disequations
+  -- where counts says which choices count at a leaf, and before how many sub-leaves of it stand before its disequations
   pub record Words (counts : ℕ → Row Bool n → Type 0) (before : ℕ → ℕ) : Type 0 where
     -- the leaf that each disequation goes to, and the sub-leaf there that holds it
     pub leaf : ℕ → ℕ
@@ -64,7 +64,7 @@ module _ {n : ℕ} (h : ℕ) (P : Problem (Row Bool n)) (W : ℕ) (s : ℕ → R
     pub room : (j : ℕ) → j < P.count → rank j < 2 ^ (W - h)
     -- each disequation goes to the leftmost leaf where a choice that counts meets it
     pub leftmost : (j : ℕ) → j < P.count → Leftmost h (Together P counts j) (leaf j)
-    -- the sub_leaves of a leaf hold its disequations in question order
+    -- the sub-leaves of a leaf hold its disequations in question order
     pub in_order : (i j : ℕ) → i < j → j < P.count → leaf i ≡ leaf j → rank i < rank j
     -- from the left, behind what stands before them: each sub-leaf from there to a disequation's holds an earlier one
     pub behind : (j : ℕ) → j < P.count → before (leaf j) ≤ rank j

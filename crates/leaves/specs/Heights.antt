@@ -2,7 +2,7 @@
 use Rattle.std.specs.Prelude.{◌≡◌, ℕ, ◌^◌, ◌≤◌, leb}
 use Rattle.shares.specs.Below.{first_below}
 
--- c n: the least k with n ≤ 2 ^ k, so that a leaf split k times has n sub_leaves or more
+-- c n: the least k with n ≤ 2 ^ k, so that a leaf split k times has n sub-leaves or more
 unfoldable pub c : ℕ → ℕ
 c n = first_below n (λ k. leb n (2 ^ k))
 

@@ -125,7 +125,7 @@ module _ {X : Type 0} (C : Picker X) (h : ℕ) (P : Problem X) where
   unfolding rank_of
   rank_lt k j e l = le_trans (suc-le-suc (count_le j (λ i. eqb (leaf_of C h P i) (leaf_of C h P j)))) (le_trans l e)
 
-  -- at height h + k each leaf has 2 ^ k sub_leaves
+  -- at height h + k each leaf has 2 ^ k sub-leaves
   pub fixed_split : (k i : ℕ) → fixed_at C h P (h + k) i ≡ carried_at C h P (i / 2 ^ k) (i % 2 ^ k)
   unfolding fixed_at
   fixed_split k i = let e : h + k - h ≡ k = omega arith in ap (λ d. carried_at C h P (i / 2 ^ d) (i % 2 ^ d)) e

@@ -1,4 +1,4 @@
--- Laws of pairs: how wide a leaf is, where a pair stands, and the plan once some disequations have their sub_leaves. Assumes nothing.
+-- Laws of pairs: how wide a leaf is, where a pair stands, and the plan once some disequations have their sub-leaves. Assumes nothing.
 use Rattle.std.specs.Prelude.{◌≡◌, refl, ◌&&◌, List, ℕ, suc, ◌+◌, ◌-◌, ◌*◌, ◌/◌, ◌%◌, ◌^◌, ◌≤◌, ◌<◌, T, eqb, length, get_or, set, replicate}
 use Rattle.std.proofs.Math.Path.{sym, ap}
 use Rattle.std.proofs.Common.{ap₂, ◌∙◌, le_trans, div-add-mod', div-lt_iff_lt-mul, mul_left_comm, arith, eqb→eq, pow-add, pow_mono, pow_pos, lt-ltb, le-ltb, eq-eqb, ne_eqb}
@@ -97,7 +97,7 @@ module _ (o : Outline) (firsts : List ℕ) where
   abbrev pub leaf_count : ℕ → ℕ → ℕ
   leaf_count e b = count_below e (λ i. eqb (pair_leaf o firsts i) b)
 
-  -- the sub_leaves that the first e disequations take of each leaf
+  -- the sub-leaves that the first e disequations take of each leaf
   abbrev pub Taken : ℕ → List ℕ → Type 0
   Taken e taken = (b : ℕ) → b < 64 → get_or taken b 0 ≡ leaf_count e b
 

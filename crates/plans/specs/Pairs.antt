@@ -40,7 +40,7 @@ pub record PairsOf (n h : ℕ) (R : Problem ℕ) (extra : ℕ) (firsts leaves : 
 abbrev pub pair_leaf : Outline → List ℕ → ℕ → ℕ
 pair_leaf o firsts e = number_at firsts (slot_of o.extra e) / leaf_width o.free
 
--- the first e disequations have their sub_leaves and choices
+-- the first e disequations have their sub-leaves and choices
 pub record Filled (o : Outline) (firsts : List ℕ) (e : ℕ) (subleaf choice : List ℕ) : Type 0 where
   pub sub_leaves : (i : ℕ) → i < e
       → get_or subleaf i 0 ≡ pair_leaf o firsts i * 2 ^ o.splits + count_below i (λ j. eqb (pair_leaf o firsts j) (pair_leaf o firsts i))

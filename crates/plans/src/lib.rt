@@ -21,7 +21,7 @@ pub struct Plan {
     pub high: usize,
     // the choice at each leaf, of 2^low, wherever no other stands
     pub plain: [u16; 64],
-    // how many sub_leaves hold another choice
+    // how many sub-leaves hold another choice
     pub count: usize,
     // which sub-leaf, of 2^high
     pub subleaf: [u16; 32],
@@ -40,7 +40,7 @@ pub struct Outline {
     pub count: usize,
 }
 
-// How often leaves are split so that each has room for n sub_leaves.
+// How often leaves are split so that each has room for n sub-leaves.
 pub fn splits(n: usize) -> usize
     requires { n ≤ 32 }
     ensures { result ≡ c n }

@@ -7,7 +7,7 @@ use Rattle.rows.specs.declared.Range.{Range}
 -- ---- the numbers
 
 -- where the constants of a question have so many levels, a row of the answer is unfolded to this height, 10 at 5 levels: its 31 disequations and one choice
--- more take 2 ^ 5 sub_leaves below a leaf
+-- more take 2 ^ 5 sub-leaves below a leaf
 abbrev pub row_levels : ℕ → ℕ
 row_levels levels = levels + 5
 

@@ -35,7 +35,7 @@ fn write_leaves(row: &mut [u8], plain: &[u16; 64], low: usize, p: usize)
     }
 }
 
-// Sets the sub_leaves that hold another choice, in order.
+// Sets the sub-leaves that hold another choice, in order.
 fn write_sub_leaves(row: &mut [u8], plan: Plan, p: usize)
     requires showable { Showable (row_levels constant_levels) plan }
     requires row_len { (length row.old ≡ row_bytes constant_levels) × (p < 16) × Shows (row_levels constant_levels) plan 0 p row.old }

@@ -37,7 +37,7 @@ extra_of First = 0
 extra_of Unmet = 1
 extra_of (Missed j) = 0
 
--- how many sub_leaves a leaf has room for, where the first system has d disequations: `needed` of the kind of question that it serves
+-- how many sub-leaves a leaf has room for, where the first system has d disequations: `needed` of the kind of question that it serves
 abbrev pub room_of : Search → ℕ → ℕ
 room_of First d = d
 room_of Unmet d = d + 1

@@ -77,7 +77,7 @@ Yes A entailment q = Entails A q
 
 -- ---- heights
 
--- how many sub_leaves a leaf may have to hold: the first system's d disequations, and for entailment one more
+-- how many sub-leaves a leaf may have to hold: the first system's d disequations, and for entailment one more
 abbrev pub needed : Kind → ℕ → ℕ
 needed satisfiability d = d
 needed entailment d = d + 1

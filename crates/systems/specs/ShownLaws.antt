@@ -28,7 +28,7 @@ use Rattle.systems.specs.AtLeaves.{first_at, second_at}
 use Rattle.systems.specs.Decide.{can_solve, some_unmet, lowest_missed, decide_kind, decide_at, shares_of, asked_for, shown_with, shown_at}
 use Rattle.systems.specs.ShownWords.{WordsWith, ShownFixed}
 
--- ---- an example, computed: with two disequations and h = 2, each leaf has two sub_leaves for a solution, and four for a no
+-- ---- an example, computed: with two disequations and h = 2, each leaf has two sub-leaves for a solution, and four for a no
 
 abbrev two : Question
 two = record {

@@ -8,7 +8,7 @@ use Rattle.systems.specs.Questions.{Question}
 use Rattle.systems.specs.Answers.{Answer, satisfied, unsatisfied, vacuous, entailed, unmet, missed, height_given}
 use Rattle.systems.specs.AtLeaves.{first_at, second_at}
 
--- the words with each answer, about the choices s at the 2 ^ W sub_leaves
+-- the words with each answer, about the choices s at the 2 ^ W sub-leaves
 -- (with those that show no solution: nothing that a claim rests on)
 abbrev pub WordsWith : (h : ℕ) (q : Question) → Answer → (W : ℕ) → (ℕ → Row Bool q.free) → Type 0
 WordsWith h q satisfied W s = PlainWords h (first_at h q) W s

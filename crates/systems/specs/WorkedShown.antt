@@ -1,4 +1,4 @@
--- Two solutions that are shown, computed: the printed example of docs/SPEC.md, 12.13, and the order of sub_leaves for reason 2. Assumes nothing.
+-- Two solutions that are shown, computed: the printed example of docs/SPEC.md, 12.13, and the order of sub-leaves for reason 2. Assumes nothing.
 use Rattle.std.specs.Prelude.{◌≡◌, refl, true, false, [], ◌∷◌}
 use Rattle.shares.specs.Below.{every_below, some_below, first_below, count_below}
 use Rattle.shares.specs.Tree.{leaf, pair, twins, fold, height, tree_of, join_leaf, leaf_test}

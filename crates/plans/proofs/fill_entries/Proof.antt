@@ -1,4 +1,4 @@
--- `plans::fill_entries` meets its contract. The loop's invariant: the first e disequations have their sub_leaves and choices. Assumes nothing.
+-- `plans::fill_entries` meets its contract. The loop's invariant: the first e disequations have their sub-leaves and choices. Assumes nothing.
 use mathlib.Core.Path.{◌≡◌, refl, ap, ◌∙◌}
 use Prim.Native.Nat.{◌+◌, ◌-◌, ◌*◌, ◌/◌, ◌%◌, ◌^◌, ◌≤◌, ◌<◌}
 use native.Mathlib.Omega.{arith}

@@ -1,4 +1,4 @@
--- `search::all_found_lem` meets its contract. Assumes nothing.
+-- `search::all_found` meets its contract. Assumes nothing.
 use mathlib.Core.Path.{sym, ◌∙◌}
 use borrow.Author.Rules.{rules}
 use Rattle.search.proofs.all_found.Statement.{statement}
