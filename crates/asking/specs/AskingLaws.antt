@@ -12,7 +12,6 @@ use Rattle.format.specs.FormatLaws.{Limited}
 use Rattle.format.specs.declared.Section.TheVariants.{FirstDisequation}
 use Rattle.rows.specs.Rows.{row_levels, answer_bytes, zeros}
 use Rattle.asking.specs.Asking.{work_bytes, turned_away, answered, lent_to, asked}
-use Rattle.asking.specs.Worked
 
 -- ---- the cases
 

@@ -19,7 +19,6 @@ use Rattle.format.specs.Format.{entry_of, term_count, operands, term_byte, comma
 use Rattle.format.specs.FormatLaws.{term_small, branch, size}
 use Rattle.format.specs.KeepingLaws.{Bytes, take_bytes, command_proper}
 use Rattle.encoding.specs.Encode.{clause_byte, command_byte, lowest_bytes, constant_bytes, shape_of, operand_bytes, encode_command}
-use Rattle.encoding.specs.Worked
 
 -- ---- a number's bytes
 

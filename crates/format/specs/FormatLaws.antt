@@ -20,7 +20,6 @@ use Rattle.format.specs.declared.Step.{Step}
 use Rattle.format.specs.declared.Step.TheVariants.{Take, Refused}
 use Rattle.format.specs.SectionLaws.{both_counts, added, Alike, same, other, alike, constant_sections, clause_keeps}
 use Rattle.format.specs.Format.{Result, refused, accepted, most_variables, most_constants, most_positive, most_disequations, entry_of, term_count, operands, command_of, whole_at, read_at, is_second, most_of, in_section, term_of, names, variables_for, term_named, all_named, atom_of, is_foreign, clause_fault, constant_fault, fault, judged, begun, with_first, with_second, with_clause, with_constant, taken, ended, Turn, go, stop, onward, turn, following, run, head_fits, opened, head_of, after_head, read}
-use Rattle.format.specs.Worked
 
 -- ---- the statements
 

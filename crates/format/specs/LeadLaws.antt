@@ -19,7 +19,6 @@ use Rattle.format.specs.declared.Leading.TheVariants.{Other}
 use Rattle.format.specs.Format.{most_constants, entry_of, term_count, clause_at, command_of, whole_at, read_at}
 use Rattle.format.specs.Stored.{constant_size, leading_of, is_leading, constant_at, place_of, leading}
 use Rattle.format.specs.Keeping.{lead_into, fault_of, judged_of}
-use Rattle.format.specs.Worked
 
 -- ---- where a constant stands
 

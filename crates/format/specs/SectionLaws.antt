@@ -8,7 +8,6 @@ use Rattle.format.specs.declared.Section.TheVariants.{FirstPositive, FirstDisequ
 use Rattle.format.specs.Format.{most_of, in_section, variables_for, with_clause, with_constant}
 use Rattle.format.specs.Stored.{section_number, clause_bytes, section_start, count_of}
 use Rattle.format.specs.Keeping.{next_slot}
-use Rattle.format.specs.Worked
 
 -- ---- lists
 

@@ -9,7 +9,6 @@ use Rattle.format.specs.Format.{Result, refused, accepted, read}
 use Rattle.format.specs.FormatLaws.{longest, refusal_number, refusal_place}
 use Rattle.rows.specs.Rows.{row_bytes, answer_bytes}
 use Rattle.judging.specs.Judging.{turned_away, judged, is_zero, handed_to, judged_with}
-use Rattle.judging.specs.Worked
 
 -- ---- parts whose bytes are 0
 

@@ -31,7 +31,6 @@ use Rattle.rows.specs.Rows.{row_levels, row_leaf, row_part}
 use Rattle.asking.specs.Demand3.{row_shares}
 use Rattle.judging.specs.Judging.{judged, row_at, row_way, everywhere, failing_leaf, clause_met, no_clause, clause_of, lowest_broken, choices, extends_at, broken_as, unbroken, judgement_of}
 use Rattle.judging.specs.Exactly.{FailsAt, SaidOf, BrokenAt, ExtendsToo, Exactly}
-use Rattle.judging.specs.Worked
 use Rattle.judging.specs.declared.Judgement.{Judgement}
 use Rattle.judging.specs.declared.Judgement.TheVariants.{Refused, Accepted, Broken, Extending}
 

@@ -19,7 +19,6 @@ use Rattle.leaves.specs.Choices.{Picker}
 use Rattle.leaves.specs.ChoiceLaws.{choice_intro, choice_found, both_intro}
 use Rattle.leaves.specs.Problem.{Problem, plain_at, special_at, solvable}
 use Rattle.leaves.specs.Fixed.{leaf_of, rank_of, held_at, carried_at, fixed_at}
-use Rattle.leaves.specs.FixedExamples
 use Rattle.leaves.specs.LeafSolutions.{SolvesLeaves, LeafSolution, Leafwise}
 
 -- ---- cut: a solution of any height has what each leaf needs

@@ -14,7 +14,6 @@ use Rattle.shares.specs.JoinLaws.{join_iff, join_none_iff}
 use Rattle.shares.specs.Constant.{bit, set_in_both, number_tree, tree_number}
 use Rattle.shares.specs.BitLaws.{bit_of_and, bit_of_or, bit_zero, bits_same, bits_zero, number_lt, bit_number}
 use Rattle.shares.specs.BitParts.{bit_ones}
-use Rattle.shares.specs.Examples
 
 -- ---- a number is its tree's, and a tree its number's
 

@@ -6,7 +6,6 @@ use Rattle.std.proofs.Math.Dec.{eqb_refl}
 use Rattle.shares.specs.Tree.{join_leaf, way_number, is_way, compared, leaf_test}
 use Rattle.shares.specs.declared.Way.{Way}
 use Rattle.shares.specs.declared.Way.TheVariants.{Holds, Overlap, Surplus, Shortfall}
-use Rattle.shares.specs.Examples
 
 -- what each way says of two parts and their sum
 abbrev pub Says : Way → Bool → Bool → Bool → Type 0

@@ -25,7 +25,6 @@ use Rattle.systems.specs.SystemLaws.{parts}
 use Rattle.systems.specs.AtLeaves.{first_at, second_at}
 use Rattle.systems.specs.AtomLaws.{Reads}
 use Rattle.systems.specs.Link.{rows_at, rows_read, shares_read, shares_low, Read, read_any, first_iff, extension_iff, meets_iff, with_iff}
-use Rattle.systems.specs.DecideExamples
 use Rattle.systems.specs.Decide.{can_solve, some_unmet, lowest_missed, decide_kind, decide_at, shares_of}
 
 -- what extends can meet the positive clauses, and have each disequation beside them

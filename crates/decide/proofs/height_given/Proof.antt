@@ -4,7 +4,6 @@ use Prim.Native.Nat.{◌+◌}
 use native.Mathlib.Omega.{arith}
 use borrow.Author.Rules.{rules}
 use Rattle.decide.specs.OutlineLaws.{heights_low, shown_height, no_height}
-use Rattle.decide.specs.DecideLaws.{flip}
 use Rattle.decide.specs.Decision.{outline_of}
 use Rattle.decide.proofs.height_given.Statement.{statement}
 use Rattle.decide.proofs.height_given.Tie as tie

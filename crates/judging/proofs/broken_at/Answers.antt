@@ -3,7 +3,6 @@ use Rattle.std.proofs.Common.{◌≡◌, List, ℕ, refl}
 use Rattle.shares.specs.Constant.{constant_levels}
 use Rattle.format.specs.declared.Section.{Section}
 use Rattle.format.specs.declared.Shape.{Shape}
-use Rattle.format.specs.declared.Shape.TheVariants as Shape
 use Rattle.format.specs.declared.Test.{Test}
 use Rattle.format.specs.Format.{command_of}
 use Rattle.judging.specs.declared.Judgement.TheVariants.{Accepted}

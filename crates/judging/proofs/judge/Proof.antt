@@ -10,7 +10,6 @@ use lib.Dec.{T}
 use lib.ListN.{length, drop}
 use Rattle.rows.specs.Rows.{row_bytes, answer_bytes}
 use Rattle.format.specs.Callers.{Taken, answer_taken, answer_refused, levels_are}
-use Rattle.decide.specs.DecideLaws.{flip}
 use Rattle.unfolded.specs.Unfolded.{ZeroBytes}
 use Rattle.judging.specs.Judging.{is_zero}
 use Rattle.judging.specs.CaseLaws.{judged_refused, judged_18, judged_19, judged_on}

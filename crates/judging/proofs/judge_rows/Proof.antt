@@ -7,7 +7,6 @@ use Rattle.shares.specs.NumberLaws.{zero_at}
 use Rattle.format.specs.Stored.{place_of}
 use Rattle.format.specs.LeadLaws.{leading_few}
 use Rattle.decide.specs.NamedLaws.{named_lt}
-use Rattle.judging.specs.WalkLaws.{no_other}
 use Rattle.judging.specs.JudgeLaws.{laid, sizes_readable, extends_found, rows_broken, rows_satisfied, rows_extending, rows_accepted}
 use Rattle.judging.proofs.judge_rows.Statement.{statement}
 use Rattle.judging.proofs.judge_rows.Tie as tie

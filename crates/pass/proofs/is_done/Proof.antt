@@ -2,7 +2,6 @@
 use mathlib.Core.Path.{sym, ◌∙◌}
 use mathlib.Core.Bool.{true≢false}
 use borrow.Author.Rules.{rules}
-use borrow.Author.Tests.{not-false}
 use Rattle.entries.specs.BitLaws.{all_set}
 use Rattle.steps.specs.TestLaws.{first_not_unmet, missed_not_unmet}
 use Rattle.pass.proofs.is_done.Statement.{statement}

@@ -5,7 +5,6 @@ use native.Mathlib.Omega.{arith}
 use lib.ListN.{length, get_or, length-set, get_or-replicate}
 use lib.Pow.{pow_mono, pow_pos}
 use borrow.Author.Rules.{rules}
-use borrow.Author.Tests.{not-true, not-false}
 use Rattle.steps.specs.Steps.{stored_by, PlacedWithin}
 use Rattle.pass.specs.Pass.{After}
 use Rattle.pass.specs.PassLaws.{values_within, keys_more, after_none, passed_all, passed_none}

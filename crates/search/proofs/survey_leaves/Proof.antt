@@ -1,6 +1,5 @@
 -- `search::survey_leaves` meets its contract, in each of its three outcomes. Assumes nothing.
 use mathlib.Core.Path.{sym, ◌∙◌}
-use borrow.Author.Tests.{not-true, not-false}
 use Rattle.search.specs.WordLaws.{replicate_at}
 use Rattle.search.specs.FoundLaws.{surveyed_none, surveyed_unmet, surveyed_missed}
 use borrow.Author.Rules.{rules}
