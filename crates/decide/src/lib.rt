@@ -117,6 +117,8 @@ fn decide_entailment(
 }
 
 // Decides a question that was read, whose numbers, clauses and constants are lent with a table for the first words of the solution to show.
+// In the compiled code it stays apart from its caller: its tables are not on the stack while the question is read.
+#[inline(never)]
 pub fn decide(
     question: Question,
     sizes: Sizes,
