@@ -3,12 +3,12 @@ use Rattle.std.specs.Prelude.{◌≡◌, refl, Bool, true, false, List, ◌++◌
 use Rattle.std.proofs.Common.{ap, ◌∙◌, arith}
 use borrow.Author.Tests.{lt-ltb, le-ltb, ltb-false}
 use Rattle.leaves.specs.Heights.{c}
-use Rattle.leaves.specs.HeightLaws.{c_most}
+use Rattle.leaves.proofs.HeightLaws.{c_most}
 use Rattle.systems.specs.Questions.{Question, WellFormed, question_height, first_count}
 use Rattle.systems.specs.Answers.{Answer, satisfied, unsatisfied, vacuous, entailed, unmet, missed, height_given}
-use Rattle.systems.specs.Heights.{question_bounds}
+use Rattle.systems.proofs.Heights.{question_bounds}
 use Rattle.format.specs.Format.{Result, refused, accepted, read}
-use Rattle.format.specs.FormatLaws.{Limited}
+use Rattle.format.specs.Limits.{Limited}
 use Rattle.format.specs.declared.Section.TheVariants.{FirstDisequation}
 use Rattle.rows.specs.Rows.{row_levels, answer_bytes, zeros}
 use Rattle.asking.specs.Asking.{work_bytes, turned_away, answered, lent_to, asked}

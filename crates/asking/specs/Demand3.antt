@@ -1,7 +1,7 @@
 -- The rule of heights and the solution that is shown: one claim over every accepted question, of the model and of what asking gives. Assumes nothing.
 use Rattle.std.specs.Prelude.{◌≡◌, List, ℕ, ◌≤◌, ◌<◌, T}
 use Rattle.shares.specs.Tree as tree
-use Rattle.shares.specs.TreeLaws.{tree_of_folded}
+use Rattle.shares.proofs.TreeLaws.{tree_of_folded}
 use Rattle.leaves.specs.Heights.{any_height}
 use Rattle.systems.specs.Clauses.{Assignment}
 use Rattle.systems.specs.Questions.{Question, question_height}

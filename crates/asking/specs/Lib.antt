@@ -4,5 +4,3 @@ pub mod Exact
 pub mod Demand3
 pub mod Given
 pub mod AskingLaws
-pub mod AskedRight
-pub mod DecidedLaws

@@ -4,11 +4,11 @@ use Rattle.std.proofs.Math.Path.{refl, sym, ap}
 use Rattle.std.proofs.Common.{◌∙◌, arith, lt-ltb, le-ltb, ltb-false, pow_pos}
 use Rattle.std.proofs.Math.Bool.{true, false, cond}
 use Rattle.shares.specs.Tree.{Tree, Folded, height}
-use Rattle.shares.specs.TreeLaws.{tree_of_folded, tree_of_height}
+use Rattle.shares.proofs.TreeLaws.{tree_of_folded, tree_of_height}
 use Rattle.shares.specs.Constant.{bit, number_tree, tree_number}
-use Rattle.shares.specs.ConstantLaws.{tree_number_lt, number_tree_number, tree_number_tree}
+use Rattle.shares.proofs.ConstantLaws.{tree_number_lt, number_tree_number, tree_number_tree}
 use Rattle.shares.specs.Text.{text, TreeText, longest_text}
-use Rattle.shares.specs.TextLaws.{text_length_lem}
+use Rattle.shares.proofs.TextLaws.{text_length_lem}
 use Rattle.constants.specs.StackLaws.{one_tree, is_tree_text}
 use Rattle.constants.specs.FromText.{constant_refusal, constant_given, of_folding, from_tree, of_text, from_text}
 use Rattle.constants.specs.FoldLaws.{dec_folded}

@@ -7,11 +7,11 @@ use native.Mathlib.Omega.{arith}
 use Rattle.std.proofs.Math.Arith.{digits_lt}
 use Rattle.std.proofs.Math.Pow.{pow-lt}
 use Rattle.shares.specs.Tree.{Tree, pair, half, full, leaf_at}
-use Rattle.shares.specs.TreeLaws.{halves, leaf_left, leaf_right}
+use Rattle.shares.proofs.TreeLaws.{halves, leaf_left, leaf_right}
 use Rattle.shares.specs.Constant.{bit, number_of, tree_number}
 use Rattle.shares.specs.BitLaws.{bits_same}
 use Rattle.shares.specs.BitParts.{bit_low, bit_high}
-use Rattle.shares.specs.ConstantLaws.{tree_number_lt, bit_tree_number}
+use Rattle.shares.proofs.ConstantLaws.{tree_number_lt, bit_tree_number}
 use Rattle.constants.specs.Stacks.{pair_number}
 
 squared : (k : ℕ) → 2 ^ (2 ^ suc k) ≡ 2 ^ (2 ^ k) * 2 ^ (2 ^ k)

@@ -16,7 +16,7 @@ use Rattle.std.proofs.Math.ListN.{length, get_or}
 use Rattle.std.proofs.Math.Pow.{pow_pos, pow_mono}
 use Rattle.shares.specs.Tree.{Tree, leaf, pair, twins, height}
 use Rattle.shares.specs.Constant.{tree_number}
-use Rattle.shares.specs.ConstantLaws.{tree_number_lt, leaf_tree_number}
+use Rattle.shares.proofs.ConstantLaws.{tree_number_lt, leaf_tree_number}
 use Rattle.constants.specs.FoldLaws.{is_folded}
 use Rattle.shares.specs.Text.{sign}
 use Rattle.constants.specs.StackLaws.{onto_leaf, closed_law}

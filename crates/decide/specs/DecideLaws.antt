@@ -12,13 +12,13 @@ use Rattle.leaves.specs.Choices.{Row, least}
 use Rattle.leaves.specs.Problem.{Problem, plain_at, special_at, solvable}
 use Rattle.leaves.specs.Fixed.{with_unmet}
 use Rattle.leaves.specs.Entailment.{can_be_unmet, can_be_missed, first_missed}
-use Rattle.leaves.specs.SecondLaws.{unmet_solvable}
+use Rattle.leaves.proofs.SecondLaws.{unmet_solvable}
 use Rattle.systems.specs.Questions.{satisfiability, entailment, Question, question_height, second_count}
 use Rattle.systems.specs.Answers.{satisfied, unsatisfied, vacuous, entailed, unmet, missed, shows}
 use Rattle.systems.specs.AtLeaves.{first_at, second_at}
 use Rattle.systems.specs.Decide.{can_solve, some_unmet, lowest_missed, decide_kind, decide}
 use Rattle.format.specs.Stored.{Stored, Stands}
-use Rattle.format.specs.KeepingLaws.{section_count}
+use Rattle.format.proofs.KeepingLaws.{section_count}
 use Rattle.format.specs.declared.Section.TheVariants.{SecondDisequation}
 use Rattle.steps.specs.Tests.{tests_of}
 use Rattle.steps.specs.declared.Search.{Search}

@@ -3,7 +3,7 @@ use Rattle.std.specs.Prelude.{◌≡◌, ℕ, ◌+◌, ◌*◌, ◌^◌, ◌≤�
 use Rattle.std.proofs.Common.{sym, ap, ◌∙◌, subst, arith, get_or-take}
 use Rattle.std.proofs.Math.Decide.{dec_lt}
 use Rattle.std.proofs.Math.ListN.{get_or-map}
-use Rattle.shares.specs.TreeLaws.{tree_of_height}
+use Rattle.shares.proofs.TreeLaws.{tree_of_height}
 use Rattle.shares.specs.Constant.{number_tree, bit}
 use Rattle.shares.specs.BitLaws.{number_lt, bit_number}
 use Rattle.shares.specs.BitParts.{bit_beyond}
@@ -12,11 +12,11 @@ use Rattle.systems.specs.Questions.{Question, InSystem, named_in, named_by, is_a
 use Rattle.systems.specs.SystemLaws.{InAtoms, in_positives, in_disequations, in_at}
 use Rattle.systems.specs.NamedLaws.{among_left, among_right, among_low, among_least, system_named}
 use Rattle.systems.specs.AtLeaves.{read_as}
-use Rattle.systems.specs.AtomLaws.{InReading, in_reading}
+use Rattle.systems.proofs.AtomLaws.{InReading, in_reading}
 use Rattle.format.specs.Format.{most_constants, in_section}
 use Rattle.format.specs.Stored.{reading_from, section_start, four_at, Stored, count_of, defined_by, named_word, Stands}
-use Rattle.format.specs.KeepingLaws.{section_count}
-use Rattle.format.specs.Callers.{levels_are, readings_at_lem}
+use Rattle.format.proofs.KeepingLaws.{section_count}
+use Rattle.format.proofs.Callers.{levels_are, readings_at_lem}
 use Rattle.format.specs.declared.Section.{Section}
 use Rattle.format.specs.declared.Section.TheVariants.{FirstPositive, FirstDisequation, SecondPositive, SecondDisequation}
 use Rattle.decide.specs.Decision.{tallest_of}

@@ -2,11 +2,11 @@
 use Rattle.std.specs.Prelude.{◌≡◌, refl, true, false, ℕ, ◌+◌, ◌≤◌, get_or}
 use Rattle.std.proofs.Common.{sym, ◌∙◌, true≢false, arith}
 use Rattle.leaves.specs.Heights.{c}
-use Rattle.leaves.specs.HeightLaws.{c_most}
+use Rattle.leaves.proofs.HeightLaws.{c_most}
 use Rattle.systems.specs.Questions.{Question, question_height, first_count}
 use Rattle.systems.specs.Answers.{shows, height_given}
 use Rattle.format.specs.Stored.{Stored, Stands}
-use Rattle.format.specs.KeepingLaws.{section_count}
+use Rattle.format.proofs.KeepingLaws.{section_count}
 use Rattle.format.specs.declared.Section.TheVariants.{FirstDisequation}
 use Rattle.steps.specs.Tests.{extra_of, room_of}
 use Rattle.steps.specs.declared.Search.{Search}

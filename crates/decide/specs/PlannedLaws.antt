@@ -9,14 +9,14 @@ use Rattle.shares.specs.Below.{some_below}
 use Rattle.shares.specs.BelowLaws.{some_found, first_passes}
 use Rattle.shares.specs.BlockLaws.{leaf_lt}
 use Rattle.shares.specs.Tree.{tree_of}
-use Rattle.shares.specs.TreeLaws.{tree_of_ext}
+use Rattle.shares.proofs.TreeLaws.{tree_of_ext}
 use Rattle.leaves.specs.Heights.{c}
-use Rattle.leaves.specs.HeightLaws.{c_enough}
+use Rattle.leaves.proofs.HeightLaws.{c_enough}
 use Rattle.leaves.specs.Choices.{Row, least}
 use Rattle.leaves.specs.RowNumbers.{value}
 use Rattle.leaves.specs.Problem.{Problem}
 use Rattle.leaves.specs.Fixed.{fixed_at}
-use Rattle.leaves.specs.ProblemLaws.{plain_passes, leaf_passes, rank_lt}
+use Rattle.leaves.proofs.ProblemLaws.{plain_passes, leaf_passes, rank_lt}
 use Rattle.leaves.specs.Numbers.{numbered, leaf_for, plain_choice, special_choice}
 use Rattle.plans.specs.NumberLaws.{plain_is}
 use Rattle.systems.specs.Clauses.{Assignment}
@@ -25,8 +25,8 @@ use Rattle.systems.specs.Answers.{Answer, satisfied, unsatisfied, vacuous, entai
 use Rattle.systems.specs.AtLeaves.{first_at}
 use Rattle.systems.specs.Decide.{can_solve, some_unmet, lowest_missed, decide_kind, decide, shares_of, fixed, shown_with}
 use Rattle.format.specs.Stored.{Stored, Stands}
-use Rattle.format.specs.KeepingLaws.{section_count}
-use Rattle.format.specs.Callers.{levels_are}
+use Rattle.format.proofs.KeepingLaws.{section_count}
+use Rattle.format.proofs.Callers.{levels_are}
 use Rattle.format.specs.declared.Section.TheVariants.{SecondDisequation}
 use Rattle.plans.specs.declared.Plan.{Plan}
 use Rattle.plans.specs.Shown as shown

@@ -11,7 +11,7 @@ use Rattle.systems.specs.Questions.{Question}
 use Rattle.words.specs.Clause.{clause_test, Clauses}
 use Rattle.format.specs.Format.{names}
 use Rattle.format.specs.Stored.{section_start, four_at, Stored, count_of, part_named, StoredClause, defined_by, Stands}
-use Rattle.format.specs.KeepingLaws.{part_cases, parts_small}
+use Rattle.format.proofs.KeepingLaws.{part_cases, parts_small}
 use Rattle.format.specs.SectionLaws.{section_room, variables_le}
 use Rattle.format.specs.declared.Section.{Section}
 use Rattle.format.specs.declared.Section.TheVariants.{FirstPositive, FirstDisequation, SecondPositive, SecondDisequation}

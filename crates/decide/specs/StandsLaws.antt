@@ -23,12 +23,12 @@ use Rattle.words.specs.TermLaws.{position_free, value_variable, value_free, valu
 use Rattle.format.specs.Format.{in_section, variables_for}
 use Rattle.format.specs.Stored.{section_start, four_at, Stored, count_of, StoredClause, defined_by, Stands}
 use Rattle.format.specs.SectionLaws.{variables_le}
-use Rattle.format.specs.KeepingLaws.{section_count}
-use Rattle.format.specs.Callers.{readings_at_lem}
+use Rattle.format.proofs.KeepingLaws.{section_count}
+use Rattle.format.proofs.Callers.{readings_at_lem}
 use Rattle.format.specs.declared.Section.{Section}
 use Rattle.format.specs.declared.Section.TheVariants.{FirstPositive, FirstDisequation, SecondPositive, SecondDisequation}
 use Rattle.leaves.specs.Numbers.{numbered}
-use Rattle.leaves.specs.SameLaws.{solvable_same, fixed_same}
+use Rattle.leaves.proofs.SameLaws.{solvable_same, fixed_same}
 use Rattle.steps.specs.Tests.{leaf_values, first_meets, first_differs, second_meets, second_differs, special_in, tests_of}
 use Rattle.decide.specs.StoredLaws.{reading_at, row_digit, all_readings, all_read, reading_same, section_same}
 use Rattle.decide.specs.NamedLaws.{reading_kept}

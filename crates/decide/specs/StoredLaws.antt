@@ -19,7 +19,7 @@ use Rattle.leaves.specs.RowNumbers.{value}
 use Rattle.leaves.specs.ChoiceLaws.{value_lt}
 use Rattle.systems.specs.Clauses.{Term, variable, constant, Atom, Constants}
 use Rattle.systems.specs.AtLeaves.{LeafReading, joins_to, apart, read_as, reading_way, term_at, part_at, atom_at, all_at}
-use Rattle.systems.specs.AtomLaws.{InPart, InReading}
+use Rattle.systems.proofs.AtomLaws.{InPart, InReading}
 use Rattle.words.specs.Clause.{test_way, clause_test, all_clauses, term_value}
 use Rattle.words.specs.Choices.{values_at}
 use Rattle.shares.specs.BitParts.{bit_low, bit_high}
@@ -28,7 +28,7 @@ use Rattle.words.specs.TermLaws.{value_constant, value_none}
 use Rattle.format.specs.Format.{term_of, names}
 use Rattle.format.specs.declared.LeafJoin.{LeafJoin}
 use Rattle.format.specs.Stored.{part_of, reading_from, four_at, readings_at, Stored, part_named, StoredClause}
-use Rattle.format.specs.KeepingLaws.{part_of_lem, empty_part_lem, full_part_lem, part_cases}
+use Rattle.format.proofs.KeepingLaws.{part_of_lem, empty_part_lem, full_part_lem, part_cases}
 use Rattle.steps.specs.Tests.{leaf_values}
 
 -- ---- a row's values are the digits of its number

@@ -12,7 +12,7 @@ use Rattle.format.specs.declared.Shape.{Shape}
 use Rattle.format.specs.declared.Command.{Command}
 use Rattle.format.specs.Format.{term_count}
 use Rattle.format.specs.Stored.{kind_number, part_byte}
-use Rattle.format.specs.FormatLaws.{Limited}
+use Rattle.format.specs.Limits.{Limited}
 
 -- ---- the bytes of a command
 

@@ -6,10 +6,5 @@ pub mod Stored
 pub mod Worked
 pub mod Keeping
 pub mod SectionLaws
-pub mod FormatLaws
+pub mod Limits
 pub mod NameLaws
-pub mod KeepingLaws
-pub mod LeadLaws
-pub mod PrefixLaws
-pub mod FaultLaws
-pub mod Callers

@@ -6,7 +6,8 @@ use Rattle.shares.specs.Test.{is_true, of_true, and_left, and_right}
 use Rattle.shares.specs.Constant.{constant_levels}
 use Rattle.systems.specs.Questions.{Question}
 use Rattle.format.specs.Format.{Result, refused, accepted, read}
-use Rattle.format.specs.FormatLaws.{longest, refusal_number, refusal_place}
+use Rattle.format.specs.Limits.{longest}
+use Rattle.format.proofs.FormatLaws.{refusal_number, refusal_place}
 use Rattle.rows.specs.Rows.{row_bytes, answer_bytes}
 use Rattle.judging.specs.Judging.{turned_away, judged, is_zero, handed_to, judged_with}
 

@@ -14,8 +14,8 @@ use Rattle.systems.specs.Questions.{Question, second_count}
 use Rattle.systems.specs.AtLeaves.{second_at}
 use Rattle.format.specs.declared.Section.TheVariants.{SecondDisequation}
 use Rattle.format.specs.Stored.{Stored, Stands}
-use Rattle.format.specs.KeepingLaws.{section_count}
-use Rattle.format.specs.Callers.{levels_are}
+use Rattle.format.proofs.KeepingLaws.{section_count}
+use Rattle.format.proofs.Callers.{levels_are}
 use Rattle.steps.specs.Tests.{second_meets, second_differs}
 use Rattle.decide.specs.StandsLaws.{with_variables, second_meets_lem, second_with}
 use Rattle.rows.specs.Rows.{row_levels}

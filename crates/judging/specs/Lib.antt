@@ -3,9 +3,5 @@ pub mod Exactly
 pub mod Worked
 pub mod Walk
 pub mod CaseLaws
-pub mod ModelLaws
-pub mod ShownAccepted
 pub mod TableLaws
-pub mod WalkLaws
 pub mod ExtendLaws
-pub mod JudgeLaws

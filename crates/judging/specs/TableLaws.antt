@@ -13,7 +13,7 @@ use Rattle.shares.specs.declared.Way.TheVariants.{Holds}
 use Rattle.systems.specs.Clauses.{Term, variable, constant, Constants, Atom}
 use Rattle.systems.specs.Questions.{Defined, InAtom}
 use Rattle.systems.specs.AtLeaves.{Part, of, always, LeafReading, joins_to, apart, read_as, reading_way, term_at, part_at}
-use Rattle.systems.specs.AtomLaws.{InPart, InReading, in_reading}
+use Rattle.systems.proofs.AtomLaws.{InPart, InReading, in_reading}
 use Rattle.format.specs.Stored.{part_byte, four_of}
 use Rattle.words.specs.Clause.{test_way}
 use Rattle.decide.specs.StoredLaws.{Kept}

@@ -1,6 +1,5 @@
 pub mod Heights
 pub mod Room
-pub mod HeightLaws
 pub mod Choices
 pub mod RowNumbers
 pub mod ChoiceLaws
@@ -11,12 +10,7 @@ pub mod FixedExamples
 pub mod FixedWords
 pub mod Entailment
 pub mod LeafSolutions
-pub mod ProblemLaws
-pub mod FixedLaws
-pub mod ReasonLaws
 pub mod Numbers
-pub mod SameLaws
 pub mod LeafExtensions
-pub mod SecondLaws
 pub mod AtHeight
 pub mod AtHeightLaws

@@ -15,7 +15,7 @@ use Rattle.leaves.specs.Choices.{least}
 use Rattle.leaves.specs.RowNumbers.{value}
 use Rattle.leaves.specs.Problem.{Problem, solvable}
 use Rattle.leaves.specs.Fixed.{held_at, carried_at, fixed_at}
-use Rattle.leaves.specs.ProblemLaws.{held_there, at_rank, rank_lt, plain_passes, leaf_passes, fixed_split}
+use Rattle.leaves.proofs.ProblemLaws.{held_there, at_rank, rank_lt, plain_passes, leaf_passes, fixed_split}
 use Rattle.plans.specs.declared.Plan.{Plan}
 use Rattle.plans.specs.Shown.{plan_choice_after, plan_choice}
 use Rattle.leaves.specs.Numbers.{numbered, leaf_for, rank_for, plain_choice, special_choice}

@@ -23,11 +23,11 @@ use Rattle.format.specs.declared.Reading.{Reading}
 use Rattle.format.specs.Format.{most_constants, Result, refused, accepted, read_at, atom_of, fault, judged, taken, ended, go, stop, onward, turn, following, run, head_fits, kind_from, most_of, in_section, opened, head_of, read}
 use Rattle.format.specs.Stored.{kind_number, clause_bytes, section_start, readings_at, Stored, stored, stored_of, count_of, defined_by, named_word, Stands, reading_of, written_onward, command_written, written_by, clauses_after, leading_of, is_leading, constant_at, place_of, leading}
 use Rattle.format.specs.Keeping.{lead_into, kept_constants, constant_count, kept_clauses, kept_names, clause_counts, judged_of, refusal_of, is_end, wrong_of}
-use Rattle.format.specs.FormatLaws.{constant_fits, judged_take, size_some, Whole, read_whole, branch, Sound, Stay, Kept, turn_kept, head_fits_lem, opened_sound, HeadRight, head_right}
-use Rattle.format.specs.Callers.{levels_are}
-use Rattle.format.specs.LeadLaws.{constant_taken, leading_stops}
+use Rattle.format.proofs.FormatLaws.{constant_fits, judged_take, size_some, Whole, read_whole, branch, Sound, Stay, Kept, turn_kept, head_fits_lem, opened_sound, HeadRight, head_right}
+use Rattle.format.proofs.Callers.{levels_are}
+use Rattle.format.proofs.LeadLaws.{constant_taken, leading_stops}
 use Rattle.format.specs.SectionLaws.{clause_keeps}
-use Rattle.format.specs.KeepingLaws.{Bytes, ProperStep, read_proper, judged_same, kept, ZerosPast, zeros_kept, defined_kept, written_same, stands_taken, held_as_lem}
+use Rattle.format.proofs.KeepingLaws.{Bytes, ProperStep, read_proper, judged_same, kept, ZerosPast, zeros_kept, defined_kept, written_same, stands_taken, held_as_lem}
 
 -- ---- where the reading stands: some turns from here give what the whole reading gives
 

@@ -12,7 +12,7 @@ use Rattle.shares.specs.Test.{of_true}
 use Rattle.shares.specs.Constant.{bit}
 use Rattle.shares.specs.BitLaws.{bit_of_and, bit_of_xor, bit_zero, bits_zero}
 use Rattle.rows.specs.Blocks.{whole_byte}
-use Rattle.rows.specs.BlockLaws.{whole_bit}
+use Rattle.rows.proofs.BlockLaws.{whole_bit}
 
 replaced : (b v m : Bool) → xor b (xor b v && m) ≡ cond m v b
 unfolding xor

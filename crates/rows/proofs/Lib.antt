@@ -1,3 +1,5 @@
 pub mod Masks
 pub mod Bytes
 pub mod Parts
+pub mod RowLaws
+pub mod BlockLaws

@@ -11,7 +11,7 @@ use lib.ListN.{length, get_or, set, take, drop, replicate, length-take, length-d
 use lib.Pow.{pow_pos}
 use Rattle.shares.specs.Constant.{bit}
 use Rattle.rows.specs.Blocks.{Inside, AllLeaves, BlockSet, whole_byte}
-use Rattle.rows.specs.BlockLaws.{byte_inside, set_byte, byte_constant, bytes_inside, set_bytes, bytes_constant}
+use Rattle.rows.proofs.BlockLaws.{byte_inside, set_byte, byte_constant, bytes_inside, set_bytes, bytes_constant}
 
 module _ (row : List ℕ) (h q : ℕ) (inside : Inside h q (length row)) where
   pub first_at_lem : (s : ℕ) → s ≡ 2 ^ h → q * s < 8 * length row

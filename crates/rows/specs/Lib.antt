@@ -1,5 +1,3 @@
 pub mod Rows
 pub mod Emptied
-pub mod RowLaws
 pub mod Blocks
-pub mod BlockLaws

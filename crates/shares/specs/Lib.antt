@@ -9,14 +9,8 @@ pub mod Test
 pub mod BelowLaws
 pub mod Blocks
 pub mod BlockLaws
-pub mod TreeLaws
-pub mod WayLaws
-pub mod JoinLaws
 pub mod BitLaws
 pub mod BitParts
 pub mod Shifts
-pub mod ConstantLaws
 pub mod Unlike
-pub mod UnlikeLaws
-pub mod TextLaws
 pub mod NumberLaws

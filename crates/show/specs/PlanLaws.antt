@@ -6,16 +6,16 @@ use Rattle.std.proofs.Math.Bool.{Bool}
 use Prim.Native.Nat.{ℕ, ◌+◌, ◌-◌, ◌/◌, ◌^◌, ◌≤◌, ◌<◌}
 use Rattle.std.proofs.Math.Numerals.{add-one}
 use Rattle.shares.specs.Tree.{leaf_at, tree_of}
-use Rattle.shares.specs.TreeLaws.{tree_of_height, leaf_at_tree_of, blocks}
+use Rattle.shares.proofs.TreeLaws.{tree_of_height, leaf_at_tree_of, blocks}
 use Rattle.shares.specs.Constant.{bit, bytes_at}
 use Rattle.shares.specs.Blocks.{block_of, first_of}
 use Rattle.shares.specs.BlockLaws.{block_lt, first_lt, block_first, block_block}
 use Rattle.plans.specs.declared.Plan.{Plan}
 use Rattle.plans.specs.Shown.{Showable, plan_choice_after, plan_choice, plan_tree}
 use Rattle.rows.specs.Rows.{row_leaf, row_of}
-use Rattle.rows.specs.RowLaws.{row_is}
+use Rattle.rows.proofs.RowLaws.{row_is}
 use Rattle.rows.specs.Blocks.{Inside, AllLeaves, BlockSet}
-use Rattle.rows.specs.BlockLaws.{leaf_inside}
+use Rattle.rows.proofs.BlockLaws.{leaf_inside}
 use Rattle.show.specs.Plans.{Shows}
 
 bit_cond : (t : Bool) (a b p : ℕ) → bit (cond t a b) p ≡ cond t (bit a p) (bit b p)

@@ -1,7 +1,7 @@
 -- The decision of a question by its problems at the leaves, and the fixed solution that is shown. Assumes nothing.
 use Rattle.std.specs.Prelude.{Bool, false, cond, ℕ, ltb}
 use Rattle.shares.specs.Tree.{tree_of}
-use Rattle.shares.specs.TreeLaws.{tree_of_folded}
+use Rattle.shares.proofs.TreeLaws.{tree_of_folded}
 use Rattle.leaves.specs.Choices.{Row, at, least}
 use Rattle.leaves.specs.Problem.{Problem, solvable}
 use Rattle.leaves.specs.Fixed.{fixed_at, with_unmet, with_missed}

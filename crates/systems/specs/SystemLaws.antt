@@ -2,7 +2,7 @@
 use Rattle.std.specs.Prelude.{List, [], ◌∷◌, ℕ, zero, suc, ◌<◌, length, get_or}
 use Rattle.std.proofs.Common.{suc-le-suc, zero-le, not-suc-le-zero, le_of_suc-le-suc}
 use Rattle.shares.specs.Tree.{Folded}
-use Rattle.shares.specs.TreeLaws.{tree_of_folded}
+use Rattle.shares.proofs.TreeLaws.{tree_of_folded}
 use Rattle.systems.specs.Clauses.{Term, variable, constant, Atom, joined, equal, is_full, is_empty, together, positive, negated, System, positives, disequations, disequation, Constants, Assignment, value_of, Holds, SystemHolds, AllHold}
 use Rattle.systems.specs.Questions.{InAtom, InSystem}
 

@@ -11,7 +11,7 @@ use lib.Pow.{pow_pos}
 use Rattle.shares.specs.Constant.{bytes_at}
 use Rattle.shares.specs.Text.{text}
 use Rattle.rows.specs.Blocks.{Inside, block_tree}
-use Rattle.rows.specs.BlockLaws.{leaf_inside, block_row}
+use Rattle.rows.proofs.BlockLaws.{leaf_inside, block_row}
 use Rattle.text.specs.Texts.{row_text, text_answer, text_after}
 use Rattle.text.specs.Put.{Put}
 use Rattle.text.specs.declared.Written.TheVariants.{Length, Refused}

@@ -16,7 +16,7 @@ use Rattle.shares.specs.NumberLaws.{halved}
 use Rattle.shares.specs.Tree.{Tree, leaf, pair}
 use Rattle.shares.specs.Text.{sign, text}
 use Rattle.rows.specs.Blocks.{Inside, block_tree, AllLeaves}
-use Rattle.rows.specs.BlockLaws.{halves_inside, block_leaf_iff, block_pair}
+use Rattle.rows.proofs.BlockLaws.{halves_inside, block_leaf_iff, block_pair}
 use Rattle.text.specs.Put.{Put}
 
 -- ---- texts

@@ -1,9 +1,9 @@
 -- The length of the text of a row, and of what is answered, for every height. Assumes nothing.
 use Rattle.std.specs.Prelude.{Bool, true, false, cond, List, ℕ, ◌≤◌, eqb, leb, length}
 use Rattle.std.proofs.Common.{zero-le}
-use Rattle.shares.specs.TreeLaws.{tree_of_height}
+use Rattle.shares.proofs.TreeLaws.{tree_of_height}
 use Rattle.shares.specs.Text.{longest_text}
-use Rattle.shares.specs.TextLaws.{text_length_lem}
+use Rattle.shares.proofs.TextLaws.{text_length_lem}
 use Rattle.shares.specs.Constant.{bytes_at}
 use Rattle.rows.specs.Rows.{row_leaf, row_tree}
 use Rattle.text.specs.Texts.{text_length, row_text, text_answer}

@@ -20,7 +20,7 @@ use Rattle.words.specs.Clause.{test_way}
 use Rattle.words.specs.ClauseLaws.{not_bits}
 use Rattle.words.specs.LowestLaws.{lowest_lt}
 use Rattle.rows.specs.Rows.{row_levels, row_count, row_leaf, row_part, answer_bytes}
-use Rattle.rows.specs.RowLaws.{eight, part_some}
+use Rattle.rows.proofs.RowLaws.{eight, part_some}
 use Rattle.unfolded.specs.Unfolded.{row_words, leaf_of, Unfolded, join_way, WordsOf, ZeroBytes}
 use Rattle.unfolded.specs.declared.PartWords.{PartWords}
 use Rattle.unfolded.specs.Filling.{WordOf, Filled, constant_leaf, ConstantParts}

@@ -12,7 +12,7 @@ use Rattle.shares.specs.BitLaws.{bit_zero, bit_of_and, bit_of_or, bit_of_xor}
 use Rattle.shares.specs.BitParts.{bit_not}
 use Rattle.shares.specs.Test.{of_true, holds}
 use Rattle.shares.specs.Tree.{join_leaf, is_way, leaf_test}
-use Rattle.shares.specs.WayLaws.{is_way_iff, apart_test}
+use Rattle.shares.proofs.WayLaws.{is_way_iff, apart_test}
 use Rattle.shares.specs.declared.Way.{Way}
 use Rattle.shares.specs.declared.Way.TheVariants.{Holds, Overlap, Surplus, Shortfall}
 use Rattle.words.specs.declared.Ways.{Ways}

@@ -7,14 +7,15 @@ use Rattle.leaves.specs.Heights.{any_height}
 use Rattle.systems.specs.Questions.{Question, WellFormed}
 use Rattle.systems.specs.Answers.{Answer, satisfied, unsatisfied, vacuous, entailed, unmet, missed, Says, verdict, reason, disequation_number}
 use Rattle.systems.specs.Decide.{decide}
-use Rattle.systems.specs.Heights.{exact}
+use Rattle.systems.proofs.Heights.{exact}
 use Rattle.format.specs.Format.{Result, refused, accepted, read}
-use Rattle.format.specs.FormatLaws.{longest, Limited, accepted_formed, accepted_limited, refusal_number, refusal_place}
+use Rattle.format.specs.Limits.{longest, Limited}
+use Rattle.format.proofs.FormatLaws.{accepted_formed, accepted_limited, refusal_number, refusal_place}
 use Rattle.format.specs.declared.Section.TheVariants.{SecondDisequation}
 use Rattle.rows.specs.Rows.{answer_bytes}
 use Rattle.asking.specs.Asking.{work_bytes, Asked, turned_away, answered, lent_to, asked, outcome_of}
 use Rattle.asking.specs.AskingLaws.{height_low}
-use Rattle.zimorgal.specs.PackingLaws.{InBytes}
+use Rattle.zimorgal.specs.Packing.{InBytes}
 
 module _ (q : Question) (L : Limited q) where
   number_low : (a : Answer) → Says any_height q a → disequation_number a < 31

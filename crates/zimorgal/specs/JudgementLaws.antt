@@ -4,18 +4,18 @@ use Rattle.std.specs.Prelude.{◌≡◌, refl, Bool, true, false, cond, List, �
 use Rattle.std.proofs.Common.{sym, ap, ap₂, ◌∙◌, subst, lt_of_le_of_lt, arith, ltb-true, lit<}
 use Rattle.shares.specs.Constant.{constant_levels}
 use Rattle.shares.specs.Tree.{way_number}
-use Rattle.shares.specs.WayLaws.{number_lt, same_way}
+use Rattle.shares.proofs.WayLaws.{number_lt, same_way}
 use Rattle.shares.specs.declared.Way.{Way}
 use Rattle.systems.specs.Clauses.{Constants, Assignment, Clause, positive, negated}
 use Rattle.systems.specs.Questions.{Kind, satisfiability, entailment, Question}
 use Rattle.format.specs.Format.{accepted, read}
-use Rattle.format.specs.FormatLaws.{accepted_limited}
+use Rattle.format.proofs.FormatLaws.{accepted_limited}
 use Rattle.asking.specs.Demand3.{row_shares}
 use Rattle.judging.specs.Judging.{Judged, turned_away, judged, judged_with, clause_of, lowest_broken, extends_at, broken_as, unbroken, judgement_of}
 use Rattle.judging.specs.Exactly.{Exactly, AskingShows}
-use Rattle.judging.specs.WalkLaws.{failing_le, first_few}
+use Rattle.judging.proofs.WalkLaws.{failing_le, first_few}
 use Rattle.judging.specs.CaseLaws.{judged_read, turned_away_small}
-use Rattle.judging.specs.JudgeLaws.{Judges}
+use Rattle.judging.proofs.JudgeLaws.{Judges}
 use Rattle.judging.specs.declared.Judgement.{Judgement}
 use Rattle.judging.specs.declared.Judgement.TheVariants.{Refused, Accepted, Broken, Extending}
 use Rattle.zimorgal.specs.Calls.{judgement_number, Small}

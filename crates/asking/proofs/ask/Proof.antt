@@ -1,10 +1,10 @@
 -- `asking::ask` meets its contract: each refusal by what was read and the lengths, an answer by what was decided. Assumes nothing.
 use mathlib.Core.Path.{refl}
 use lib.ListN.{length}
-use Rattle.format.specs.Callers.{Taken, answer_taken, answer_refused, levels_are}
+use Rattle.format.proofs.Callers.{Taken, answer_taken, answer_refused, levels_are}
 use Rattle.asking.specs.AskingLaws.{asked_refused, asked_11, asked_12}
-use Rattle.asking.specs.AskedRight.{given_refused}
-use Rattle.asking.specs.DecidedLaws.{given_answer}
+use Rattle.asking.proofs.AskedRight.{given_refused}
+use Rattle.asking.proofs.DecidedLaws.{given_answer}
 use borrow.Author.Rules.{rules}
 use Rattle.asking.proofs.ask.Statement.{statement}
 use Rattle.asking.proofs.ask.Tie as tie

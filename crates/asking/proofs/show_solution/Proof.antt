@@ -3,8 +3,8 @@ use mathlib.Core.Path.{sym, ap, ◌∙◌}
 use native.Mathlib.Omega.{arith}
 use borrow.Author.Rules.{rules}
 use Rattle.shares.specs.Test.{of_true}
-use Rattle.format.specs.Callers.{levels_are}
-use Rattle.asking.specs.DecidedLaws.{answer_shown, answer_kept}
+use Rattle.format.proofs.Callers.{levels_are}
+use Rattle.asking.proofs.DecidedLaws.{answer_shown, answer_kept}
 use Rattle.asking.proofs.show_solution.Statement.{statement}
 use Rattle.asking.proofs.show_solution.Tie as tie
 

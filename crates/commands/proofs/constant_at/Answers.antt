@@ -1,7 +1,7 @@
 -- `commands::constant_at` meets its contract: test by test. Assumes nothing.
 use borrow.Author.Rules.{rules}
 use borrow.Author.Tests.{lt-ltb}
-use Rattle.format.specs.LeadLaws.{other_stands}
+use Rattle.format.proofs.LeadLaws.{other_stands}
 use Rattle.format.specs.Format.{read_at, whole_at, command_of}
 use Rattle.commands.proofs.constant_at.Goals as goal
 

@@ -1,7 +1,7 @@
 -- `decide::decide` meets its contract: the kind of the question says what is decided. Assumes nothing.
 use Prim.Native.Nat.{◌^◌, ◌≤◌, ◌<◌}
 use native.Mathlib.Omega.{arith}
-use Rattle.format.specs.Callers.{kind_satisfiability, kind_entailment}
+use Rattle.format.proofs.Callers.{kind_satisfiability, kind_entailment}
 use Rattle.beside.specs.Beside.{Readable}
 use Rattle.decide.specs.ReadableLaws.{readable}
 use Rattle.decide.specs.NamedLaws.{named_lt, height_is, question_low}

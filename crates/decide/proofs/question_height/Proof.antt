@@ -9,7 +9,7 @@ use borrow.Author.Rules.{rules}
 use Rattle.shares.specs.Test.{and_left}
 use Rattle.shares.specs.Constant.{constant_levels, bit}
 use Rattle.shares.specs.Unlike.{unlike, raised}
-use Rattle.shares.specs.UnlikeLaws.{unlike_height, raised_none, raised_or}
+use Rattle.shares.proofs.UnlikeLaws.{unlike_height, raised_none, raised_or}
 use Rattle.words.specs.LowestLaws.{nonzero, set_below, lowest_below, without_less}
 use Rattle.decide.specs.TallestLaws.{Found, found_none, found_more, found_all}
 use Rattle.decide.proofs.question_height.Statement.{statement}

@@ -3,7 +3,7 @@ use mathlib.Core.Path.{ap, ◌∙◌}
 use borrow.Author.Rules.{rules}
 use Rattle.shares.specs.BelowLaws.{first_le}
 use Rattle.unfolded.specs.Unfolded.{join_way}
-use Rattle.judging.specs.WalkLaws.{leaf_lt}
+use Rattle.judging.proofs.WalkLaws.{leaf_lt}
 use Rattle.judging.specs.declared.Judgement.TheVariants.{Broken}
 use Rattle.judging.proofs.broken_positive.Statement.{statement}
 use Rattle.judging.proofs.broken_positive.Tie as tie

@@ -9,11 +9,11 @@ use borrow.Author.Tests.{ne_eqb}
 use lib.Dec.{T}
 use lib.ListN.{length, drop}
 use Rattle.rows.specs.Rows.{row_bytes, answer_bytes}
-use Rattle.format.specs.Callers.{Taken, answer_taken, answer_refused, levels_are}
+use Rattle.format.proofs.Callers.{Taken, answer_taken, answer_refused, levels_are}
 use Rattle.unfolded.specs.Unfolded.{ZeroBytes}
 use Rattle.judging.specs.Judging.{is_zero}
 use Rattle.judging.specs.CaseLaws.{judged_refused, judged_18, judged_19, judged_on}
-use Rattle.judging.specs.JudgeLaws.{others_are, judges_refused, judges_rows}
+use Rattle.judging.proofs.JudgeLaws.{others_are, judges_refused, judges_rows}
 use Rattle.judging.proofs.judge.Statement.{statement}
 use Rattle.judging.proofs.judge.Tie as tie
 

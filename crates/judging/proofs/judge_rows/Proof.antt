@@ -5,9 +5,9 @@ use native.Mathlib.Omega.{arith}
 use borrow.Author.Rules.{rules}
 use Rattle.shares.specs.NumberLaws.{zero_at}
 use Rattle.format.specs.Stored.{place_of}
-use Rattle.format.specs.LeadLaws.{leading_few}
+use Rattle.format.proofs.LeadLaws.{leading_few}
 use Rattle.decide.specs.NamedLaws.{named_lt}
-use Rattle.judging.specs.JudgeLaws.{laid, sizes_readable, extends_found, rows_broken, rows_satisfied, rows_extending, rows_accepted}
+use Rattle.judging.proofs.JudgeLaws.{laid, sizes_readable, extends_found, rows_broken, rows_satisfied, rows_extending, rows_accepted}
 use Rattle.judging.proofs.judge_rows.Statement.{statement}
 use Rattle.judging.proofs.judge_rows.Tie as tie
 

@@ -2,7 +2,7 @@
 use Prim.Native.Nat.{◌-◌, ◌≤◌}
 use native.Mathlib.Omega.{arith}
 use native.Mathlib.Nat.{le_antisymm}
-use Rattle.leaves.specs.HeightLaws.{c_most, c_more}
+use Rattle.leaves.proofs.HeightLaws.{c_most, c_more}
 use Rattle.leaves.specs.Heights.{c}
 use Rattle.plans.proofs.splits.Statement.{statement}
 use Rattle.plans.proofs.splits.Tie as tie

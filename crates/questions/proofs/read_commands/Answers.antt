@@ -2,8 +2,8 @@
 use mathlib.Core.Path.{sym, ◌∙◌}
 use native.Mathlib.Omega.{arith}
 use Rattle.format.specs.Stored.{stored}
-use Rattle.format.specs.FormatLaws.{size_some}
-use Rattle.format.specs.KeepingLaws.{room_clause, small_clause}
+use Rattle.format.proofs.FormatLaws.{size_some}
+use Rattle.format.proofs.KeepingLaws.{room_clause, small_clause}
 use Rattle.questions.proofs.Turns.{starts, refused_turn, whole, no_fault, accepted_turn, after_end, goes_clause}
 use Rattle.questions.proofs.read_commands.Goals as goal
 

@@ -1,6 +1,6 @@
 -- `questions::read_constants` meets its contract. Assumes nothing.
 use mathlib.Core.Path.{sym, ◌∙◌}
-use Rattle.format.specs.LeadLaws.{led_last, led_end, led_more}
+use Rattle.format.proofs.LeadLaws.{led_last, led_end, led_more}
 use Rattle.questions.proofs.read_constants.Goals as goal
 
 pub returns-in_default-clause-value : goal.returns-in_default-clause-value

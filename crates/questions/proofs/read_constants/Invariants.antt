@@ -1,6 +1,6 @@
 -- `questions::read_constants`: so many constants have been read, and those that follow give the rest. Assumes nothing.
 use Prim.Native.Nat.{◌-◌}
-use Rattle.format.specs.LeadLaws.{Led}
+use Rattle.format.proofs.LeadLaws.{Led}
 use Rattle.questions.proofs.read_constants.Given as goal
 
 abbrev pub invariant-loop-defined : goal.invariant-loop-defined

@@ -3,7 +3,7 @@ use mathlib.Core.Path.{◌≡◌, refl}
 use Prim.Native.Nat.{◌+◌, ◌-◌}
 use native.Mathlib.Omega.{arith}
 use Rattle.rows.specs.Rows.{row_part}
-use Rattle.rows.specs.RowLaws.{range_inside}
+use Rattle.rows.proofs.RowLaws.{range_inside}
 use borrow.Author.Rules.{rules}
 use Rattle.rows.proofs.row.Statement.{statement}
 use Rattle.rows.proofs.row.Tie as tie

@@ -2,7 +2,7 @@
 use mathlib.Core.Path.{sym, ◌∙◌}
 use Rattle.shares.specs.Constant.{constant_levels}
 use Rattle.rows.specs.Rows.{row_levels}
-use Rattle.rows.specs.RowLaws.{range_none, range_some, range_short}
+use Rattle.rows.proofs.RowLaws.{range_none, range_some, range_short}
 use borrow.Author.Rules.{rules}
 use Rattle.rows.proofs.row_range.Statement.{statement}
 use Rattle.rows.proofs.row_range.Tie as tie

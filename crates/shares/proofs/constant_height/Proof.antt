@@ -3,7 +3,7 @@ use mathlib.Core.Path.{ap, ◌∙◌}
 use borrow.Author.Rules.{rules}
 use Rattle.shares.specs.Constant.{constant_levels}
 use Rattle.shares.specs.Unlike.{raised}
-use Rattle.shares.specs.UnlikeLaws.{unlike_height}
+use Rattle.shares.proofs.UnlikeLaws.{unlike_height}
 use Rattle.shares.proofs.constant_height.Statement.{statement}
 use Rattle.shares.proofs.constant_height.Tie as tie
 

@@ -7,7 +7,7 @@ use borrow.Author.Rules.{rules}
 use Rattle.shares.specs.Test.{of_false}
 use Rattle.shares.specs.Tree.{join}
 use Rattle.shares.specs.Constant.{constant_levels, number_tree, set_in_both}
-use Rattle.shares.specs.ConstantLaws.{sum_lt, join_numbers}
+use Rattle.shares.proofs.ConstantLaws.{sum_lt, join_numbers}
 use Rattle.shares.specs.Answer.{join_of}
 use Rattle.shares.specs.declared.Joined.TheVariants.{Constant, Undefined}
 use Rattle.shares.proofs.join_constants.Statement.{statement}

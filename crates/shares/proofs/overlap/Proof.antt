@@ -3,7 +3,7 @@ use mathlib.Core.Path.{refl}
 use Prim.Native.Nat.{◌^◌}
 use native.Mathlib.Omega.{arith}
 use Rattle.shares.specs.Constant.{constant_levels}
-use Rattle.shares.specs.ConstantLaws.{set_in_both_lem}
+use Rattle.shares.proofs.ConstantLaws.{set_in_both_lem}
 use Rattle.shares.proofs.overlap.Statement.{statement}
 use Rattle.shares.proofs.overlap.Tie as tie
 

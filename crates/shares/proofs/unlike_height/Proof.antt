@@ -3,7 +3,7 @@ use mathlib.Core.Path.{refl}
 use borrow.Author.Rules.{rules}
 use Rattle.shares.specs.Constant.{constant_levels, number_of}
 use Rattle.shares.specs.Unlike.{inner_mask, raised}
-use Rattle.shares.specs.UnlikeLaws.{raised_more}
+use Rattle.shares.proofs.UnlikeLaws.{raised_more}
 use Rattle.shares.proofs.unlike_height.Statement.{statement}
 use Rattle.shares.proofs.unlike_height.Tie as tie
 

@@ -10,9 +10,9 @@ use lib.Pow.{pow_mono}
 use Rattle.shares.specs.Constant.{constant_levels, bit}
 use Rattle.shares.specs.BlockLaws.{block_lt}
 use Rattle.rows.specs.Rows.{row_levels, row_bytes}
-use Rattle.rows.specs.RowLaws.{zeros_length}
+use Rattle.rows.proofs.RowLaws.{zeros_length}
 use Rattle.rows.specs.Blocks.{Inside, FirstBlocks}
-use Rattle.rows.specs.BlockLaws.{leaf_inside, blocks_none, blocks_next, blocks_more, blocks_all}
+use Rattle.rows.proofs.BlockLaws.{leaf_inside, blocks_none, blocks_next, blocks_more, blocks_all}
 use Rattle.show.proofs.write_leaves.Statement.{statement}
 use Rattle.show.proofs.write_leaves.Tie as tie
 

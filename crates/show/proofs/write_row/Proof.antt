@@ -4,7 +4,7 @@ use lib.Dec.{lit≤}
 use lib.ListN.{length}
 use Rattle.shares.specs.Constant.{constant_levels}
 use Rattle.rows.specs.Rows.{row_levels, row_bytes}
-use Rattle.rows.specs.RowLaws.{zeros_length}
+use Rattle.rows.proofs.RowLaws.{zeros_length}
 use Rattle.show.specs.PlanLaws.{shows_plain, shows_all}
 use borrow.Author.Rules.{rules}
 use Rattle.show.proofs.write_row.Statement.{statement}

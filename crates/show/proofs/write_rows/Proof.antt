@@ -6,7 +6,7 @@ use lib.ListN.{length}
 use Rattle.shares.specs.Constant.{constant_levels}
 use Rattle.plans.specs.Shown.{plan_trees}
 use Rattle.rows.specs.Rows.{row_levels, row_bytes, row_count, filled_with}
-use Rattle.rows.specs.RowLaws.{filled_length, filled_emptied, filled_none, filled_next, filled_more}
+use Rattle.rows.proofs.RowLaws.{filled_length, filled_emptied, filled_none, filled_next, filled_more}
 use Rattle.show.proofs.write_rows.Statement.{statement}
 use Rattle.show.proofs.write_rows.Tie as tie
 

@@ -3,7 +3,7 @@ use mathlib.Core.Path.{◌≡◌, ◌∙◌}
 use native.Mathlib.Omega.{arith}
 use borrow.Author.Rules.{rules}
 use Rattle.shares.specs.Tree.{way_number}
-use Rattle.shares.specs.WayLaws.{number_lt}
+use Rattle.shares.proofs.WayLaws.{number_lt}
 use Rattle.zimorgal.proofs.broken_number.Statement.{statement}
 use Rattle.zimorgal.proofs.broken_number.Tie as tie
 

@@ -1,5 +1,5 @@
 -- `zimorgal::text_number` gives the number that a written text has. Assumes nothing.
-use Rattle.zimorgal.specs.CallLaws.{text_written, text_refused}
+use Rattle.zimorgal.proofs.CallLaws.{text_written, text_refused}
 use borrow.Author.Rules.{rules}
 use Rattle.zimorgal.proofs.text_number.Statement.{statement}
 use Rattle.zimorgal.proofs.text_number.Tie as tie

@@ -1,8 +1,8 @@
 -- `zimorgal::zimorgal_ask` gives what asking gives as one number, and every field fits its bytes. Assumes nothing.
 use mathlib.Core.Path.{sym, subst}
-use Rattle.zimorgal.specs.PackingLaws.{InBytes}
+use Rattle.zimorgal.specs.Packing.{InBytes}
 use Rattle.zimorgal.specs.FitLaws.{outcome_fits}
-use Rattle.zimorgal.specs.PackedRight.{given_packed}
+use Rattle.zimorgal.proofs.PackedRight.{given_packed}
 use borrow.Author.Rules.{rules}
 use Rattle.zimorgal.proofs.zimorgal_ask.Statement.{statement}
 use Rattle.zimorgal.proofs.zimorgal_ask.Tie as tie

@@ -7,7 +7,7 @@ use borrow.Author.Rules.{rules}
 use Rattle.shares.specs.Constant.{constant_levels, set_in_both}
 use Rattle.shares.specs.declared.Joined.TheVariants.{Constant, Undefined}
 use Rattle.zimorgal.specs.Joins.{join_number}
-use Rattle.zimorgal.specs.CallLaws.{join_told, number_cases}
+use Rattle.zimorgal.proofs.CallLaws.{join_told, number_cases}
 use Rattle.zimorgal.proofs.zimorgal_join.Statement.{statement}
 use Rattle.zimorgal.proofs.zimorgal_join.Tie as tie
 

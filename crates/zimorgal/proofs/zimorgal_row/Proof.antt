@@ -1,6 +1,6 @@
 -- `zimorgal::zimorgal_row` gives the range of the row, whose bytes are that very part. Assumes nothing.
 use native.Mathlib.Omega.{arith}
-use Rattle.zimorgal.specs.CallLaws.{range_small, range_given}
+use Rattle.zimorgal.proofs.CallLaws.{range_small, range_given}
 use borrow.Author.Rules.{rules}
 use Rattle.zimorgal.proofs.zimorgal_row.Statement.{statement}
 use Rattle.zimorgal.proofs.zimorgal_row.Tie as tie

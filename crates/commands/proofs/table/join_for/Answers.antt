@@ -1,5 +1,5 @@
 -- `commands::table::join_for` meets its contract: the table, test by test. Assumes nothing.
-use Rattle.format.specs.KeepingLaws.{byte_back}
+use Rattle.format.proofs.KeepingLaws.{byte_back}
 use Rattle.commands.proofs.table.join_for.Goals as goal
 
 pub returns-in-Join : goal.returns-in-Join

@@ -3,7 +3,7 @@ use mathlib.Core.Path.{subst}
 use borrow.Author.Rules.{rules}
 use Rattle.shares.specs.Test.{of_true, beq_iff}
 use Rattle.rows.specs.Blocks.{AllLeaves}
-use Rattle.rows.specs.BlockLaws.{leaf_same}
+use Rattle.rows.proofs.BlockLaws.{leaf_same}
 use Rattle.rows.proofs.blocks.change_block.Statement.{statement}
 use Rattle.rows.proofs.blocks.change_block.Tie as tie
 

@@ -1,0 +1,2 @@
+pub mod AskedRight
+pub mod DecidedLaws

@@ -1,0 +1,4 @@
+pub mod OrderLaws
+pub mod AcceptedLaws
+pub mod ByteLaws
+pub mod EncodeLaws

@@ -1,0 +1,4 @@
+pub mod JudgeLaws
+pub mod ModelLaws
+pub mod ShownAccepted
+pub mod WalkLaws

@@ -1,0 +1,3 @@
+pub mod PackingLaws
+pub mod PackedRight
+pub mod CallLaws
