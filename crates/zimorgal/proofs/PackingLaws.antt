@@ -2,7 +2,8 @@
 use Rattle.std.specs.Prelude.{◌≡◌, ◌/◌, ◌%◌, ◌^◌, ◌<◌}
 use Rattle.std.proofs.Common.{arith}
 use Rattle.asking.specs.declared.Outcome.{Outcome}
-use Rattle.zimorgal.specs.Packing.{packed, unpacked, InBytes}
+use Rattle.zimorgal.specs.Packing.{packed, unpacked}
+use Rattle.zimorgal.specs.Fields.{InBytes}
 
 module _ (o : Outcome) (f : InBytes o) where
   -- the eighth byte is 0

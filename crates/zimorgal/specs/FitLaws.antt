@@ -15,7 +15,7 @@ use Rattle.format.specs.declared.Section.TheVariants.{SecondDisequation}
 use Rattle.rows.specs.Rows.{answer_bytes}
 use Rattle.asking.specs.Asking.{work_bytes, Asked, turned_away, answered, lent_to, asked, outcome_of}
 use Rattle.asking.specs.AskingLaws.{height_low}
-use Rattle.zimorgal.specs.Packing.{InBytes}
+use Rattle.zimorgal.specs.Fields.{InBytes}
 
 module _ (q : Question) (L : Limited q) where
   number_low : (a : Answer) → Says any_height q a → disequation_number a < 31

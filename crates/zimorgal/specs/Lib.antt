@@ -1,4 +1,5 @@
 pub mod Packing
+pub mod Fields
 pub mod Calls
 pub mod FitLaws
 pub mod Joins

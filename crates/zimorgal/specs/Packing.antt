@@ -1,5 +1,5 @@
 -- The result of asking as one number, lowest byte first, and the result that a number holds. Assumes nothing.
-use Rattle.std.specs.Prelude.{ℕ, ◌+◌, ◌*◌, ◌/◌, ◌%◌, ◌^◌, ◌<◌}
+use Rattle.std.specs.Prelude.{ℕ, ◌+◌, ◌*◌, ◌/◌, ◌%◌, ◌^◌}
 use Rattle.asking.specs.declared.Outcome.{Outcome}
 
 -- verdict, refusal number, place in two bytes, low first, height, reason, disequation number, and a byte 0
@@ -16,12 +16,3 @@ unpacked n = record {
   reason = n / 2 ^ 40 % 2 ^ 8;
   number = n / 2 ^ 48 % 2 ^ 8;
 }
-
--- each field fits its bytes
-pub record InBytes (o : Outcome) : Type 0 where
-  pub verdict : o.verdict < 2 ^ 8
-  pub refusal : o.refusal < 2 ^ 8
-  pub place : o.place < 2 ^ 16
-  pub height : o.height < 2 ^ 8
-  pub reason : o.reason < 2 ^ 8
-  pub number : o.number < 2 ^ 8

@@ -15,7 +15,7 @@ ghost use Rattle.judging.specs.Judging.{judged, judged_with, judgement_of};
 ghost use Rattle.judging.specs.Exactly.{Exactly, AskingShows};
 ghost use Rattle.judging.specs.declared.Judgement.TheVariants.{Accepted, Broken};
 ghost use Rattle.zimorgal.specs.Packing.{packed, unpacked};
-ghost use Rattle.zimorgal.specs.Packing.{InBytes};
+ghost use Rattle.zimorgal.specs.Fields.{InBytes};
 ghost use Rattle.zimorgal.specs.Calls.{range_number, text_number, constant_number, undefined_join, number_join, version_number, judgement_number, Small};
 ghost use Rattle.zimorgal.specs.Joins.{join_number};
 

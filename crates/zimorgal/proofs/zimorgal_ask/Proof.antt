@@ -1,6 +1,6 @@
 -- `zimorgal::zimorgal_ask` gives what asking gives as one number, and every field fits its bytes. Assumes nothing.
 use mathlib.Core.Path.{sym, subst}
-use Rattle.zimorgal.specs.Packing.{InBytes}
+use Rattle.zimorgal.specs.Fields.{InBytes}
 use Rattle.zimorgal.specs.FitLaws.{outcome_fits}
 use Rattle.zimorgal.proofs.PackedRight.{given_packed}
 use borrow.Author.Rules.{rules}
