@@ -11,6 +11,7 @@ use Rattle.format.specs.Format.{Result, refused, accepted, read}
 use Rattle.format.specs.Limits.{Limited}
 use Rattle.format.specs.declared.Section.TheVariants.{FirstDisequation}
 use Rattle.rows.specs.Rows.{row_levels, answer_bytes, zeros}
+use Rattle.asking.specs.Worked
 use Rattle.asking.specs.Asking.{work_bytes, turned_away, answered, lent_to, asked}
 
 -- ---- the cases

@@ -18,6 +18,7 @@ use Rattle.format.specs.declared.Step.TheVariants.{Take, Refused}
 use Rattle.format.specs.Format.{entry_of, term_count, operands, term_byte, command_of, whole_at, read_at}
 use Rattle.format.proofs.FormatLaws.{term_small, branch, size}
 use Rattle.format.proofs.KeepingLaws.{Bytes, take_bytes, command_proper}
+use Rattle.encoding.specs.Worked
 use Rattle.encoding.specs.Encode.{clause_byte, command_byte, lowest_bytes, constant_bytes, shape_of, operand_bytes, encode_command}
 
 -- ---- a number's bytes

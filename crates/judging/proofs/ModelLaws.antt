@@ -29,6 +29,7 @@ use Rattle.systems.proofs.Heights.{levels_bounds}
 use Rattle.systems.proofs.Link.{read_any, extension_iff}
 use Rattle.rows.specs.Rows.{row_levels, row_leaf, row_part}
 use Rattle.asking.specs.Demand3.{row_shares}
+use Rattle.judging.specs.Worked
 use Rattle.judging.specs.Judging.{judged, row_at, row_way, everywhere, failing_leaf, clause_met, no_clause, clause_of, lowest_broken, choices, extends_at, broken_as, unbroken, judgement_of}
 use Rattle.judging.specs.Exactly.{FailsAt, SaidOf, BrokenAt, ExtendsToo, Exactly}
 use Rattle.judging.specs.declared.Judgement.{Judgement}

@@ -9,6 +9,7 @@ use Rattle.format.specs.Format.{Result, refused, accepted, read}
 use Rattle.format.specs.Limits.{longest}
 use Rattle.format.proofs.FormatLaws.{refusal_number, refusal_place}
 use Rattle.rows.specs.Rows.{row_bytes, answer_bytes}
+use Rattle.judging.specs.Worked
 use Rattle.judging.specs.Judging.{turned_away, judged, is_zero, handed_to, judged_with}
 
 -- ---- parts whose bytes are 0

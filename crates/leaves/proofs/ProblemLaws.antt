@@ -14,6 +14,7 @@ use Rattle.shares.specs.Below.{every_below, some_below}
 use Rattle.shares.specs.BelowLaws.{every_at, every_intro, some_intro, some_found, first_passes, first_below_lem, first_min, count_le, count_lt}
 use Rattle.shares.specs.Blocks.{block_of, first_of}
 use Rattle.shares.specs.BlockLaws.{block_lt, first_lt, block_first, block_split, leaf_lt}
+use Rattle.leaves.specs.FixedExamples
 use Rattle.leaves.specs.Room.{Room}
 use Rattle.leaves.specs.Choices.{Picker}
 use Rattle.leaves.specs.ChoiceLaws.{choice_intro, choice_found, both_intro}

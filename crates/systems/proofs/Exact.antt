@@ -16,6 +16,7 @@ use Rattle.leaves.specs.Second.{Second}
 use Rattle.leaves.specs.Entailment.{can_be_missed, first_missed}
 use Rattle.leaves.specs.LeafExtensions.{LeafExtension, positives_only, only, EntailsLeaves, LeafCounterexample}
 use Rattle.leaves.proofs.SecondLaws.{one_at_a_time, always_met, never_missed, can_be_unmet_lem, can_be_missed_lem}
+use Rattle.systems.specs.DecideExamples
 use Rattle.systems.specs.Clauses.{Assignment}
 use Rattle.systems.specs.Questions.{Kind, satisfiability, entailment, Question, WellFormed, first_count, second_count}
 use Rattle.systems.specs.Bounds.{Bounds}

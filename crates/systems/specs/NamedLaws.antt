@@ -8,6 +8,7 @@ use Rattle.std.proofs.Math.Nat.{max-le}
 use Rattle.std.proofs.Math.Dec.{T, eqb_refl}
 use Rattle.shares.specs.Test.{or_left, or_right, or_cases}
 use Rattle.shares.specs.Tree.{height}
+use Rattle.systems.specs.NamedExamples
 use Rattle.systems.specs.Clauses.{Constants, constant_tree, Term, variable, constant, Atom, joined, equal, is_full, is_empty, together, Clause, positive, negated, System}
 use Rattle.systems.specs.Questions.{InAtom, InSystem, terms_of, clause_terms, named_in, is_among, tallest_among}
 

@@ -167,10 +167,7 @@ fn main(rt: HostRuntime) {
         return;
     }
     let outcome = asking::ask(&question[..n], &mut answer, &mut work);
-    if let Err(error) = say(&rt, &question[..n], &answer, outcome) {
-        // Nothing is said where whoever reads it wants no more, as `head` does.
-        if error.kind() != ErrorKind::BrokenPipe {
-            let _ = rt.eprintln("zimorgal_cli: the answer could not be written");
-        }
+    if say(&rt, &question[..n], &answer, outcome).is_err() {
+        let _ = rt.eprintln("zimorgal_cli: the answer could not be written");
     }
 }

@@ -6,7 +6,7 @@ ghost use Rattle.std.specs.Prelude.{◌≡◌, ◌≤◌, length, take};
 use judging::Judgement;
 use shares::Way;
 use std::io;
-use std::io::{ErrorKind, Read};
+use std::io::Read;
 
 // Each of these writes to standard output, and stops at the first write that fails.
 fn say_bytes(rt: &impl Print, bytes: &[u8]) -> io::Result<()> {
@@ -101,10 +101,7 @@ fn main(rt: HostRuntime) {
         let _ = rt.eprintln("zimorgal_judge_cli: standard input could not be read");
         return;
     }
-    if let Err(error) = say(&rt, judging::judge(&question[..n], &rows[..m])) {
-        // Nothing is said where whoever reads it wants no more, as `head` does.
-        if error.kind() != ErrorKind::BrokenPipe {
-            let _ = rt.eprintln("zimorgal_judge_cli: the judgement could not be written");
-        }
+    if say(&rt, judging::judge(&question[..n], &rows[..m])).is_err() {
+        let _ = rt.eprintln("zimorgal_judge_cli: the judgement could not be written");
     }
 }
