@@ -5,6 +5,7 @@ use Rattle.std.proofs.Math.Option.{none, some}
 use Rattle.std.specs.Int.Bits.{bit_and, and_lt}
 use Rattle.std.proofs.lemmas.Nat.{or_disjoint, or_lt}
 use Rattle.std.proofs.Math.Dec.{not_T}
+use Rattle.shares.specs.Examples
 use Rattle.shares.specs.Test.{is_true, is_false, passes}
 use Rattle.shares.specs.BelowLaws.{Below, some_intro, some_found}
 use Rattle.shares.specs.Tree.{Tree, leaf, Folded, height, leaf_at, join_leaf, join, leaf_test}
