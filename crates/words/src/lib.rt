@@ -25,8 +25,7 @@ fn term_word(terms: &[u64; 64], clauses: &[u8; CLAUSE_BYTES], at: usize) -> u64
     requires { (at < 768) × (get_or clauses.now at 0 < 64) }
     ensures { result ≡ get_or terms.now (get_or clauses.now at 0) 0 }
 {
-    let t = basics::index(clauses[at]);
-    terms[t]
+    terms[usize::from(clauses[at])]
 }
 
 // How a test comes out at 64 leaves: those where the parts overlap, those with a surplus, and those with a shortfall. It holds at the others.
@@ -113,13 +112,11 @@ pub fn section_word(
     ensures { (i : ℕ) → i < 64 → bit result i ≡ (bit x i && all_clauses clauses.now (λ t. bit (get_or terms.now t 0) i) start count) }
 {
     let mut r = x;
-    let mut k: usize = 0;
-    while k < count {
+    for k in 0..count {
         if r == 0 {
             return 0;
         }
         r = r & clause_word(terms, clauses, start + 4 * k);
-        k += 1;
     }
     r
 }
@@ -145,7 +142,7 @@ pub fn values_at(constants: &[u64; 32], named: u64, h: usize, b: usize) -> u32
 }
 
 // All ones where b is set, else 0.
-fn spread(b: bool) -> u64
+pub fn spread(b: bool) -> u64
     ensures { (i : ℕ) → i < 64 → bit result i ≡ b }
 {
     if b { 0xFFFF_FFFF_FFFF_FFFF } else { 0 }
@@ -198,11 +195,9 @@ fn set_variables(n: usize, m: usize, from: usize, w: usize, terms: &mut [u64])
     requires { (n + m ≤ 12) × (length terms.old ≡ 64) }
     ensures { Changed n m from w terms.old terms.new }
 {
-    let mut p = from;
-    while p < n + m {
+    for p in from..n + m {
         let t = variable_at(n, m, p);
         terms[t] = digit_word(p, w);
-        p += 1;
     }
 }
 
@@ -212,8 +207,7 @@ pub fn start_terms(n: usize, m: usize, terms: &mut [u64])
     ensures { Terms n m 0 0 terms.new }
 {
     set_variables(n, m, 0, 0, terms);
-    let full = basics::index(FULL_PART);
-    terms[full] = spread(true);
+    terms[usize::from(FULL_PART)] = spread(true);
 }
 
 // Takes the table of terms from any word to word w: only the digits above the sixth change.
