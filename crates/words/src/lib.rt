@@ -1,7 +1,7 @@
 // Clauses at one leaf for 64 choices of Boolean values at a time: bit i of word w is choice 64 * w + i.
 #![tactic(auto)]
 
-ghost use Rattle.std.specs.Prelude.{◌≡◌, ◌&&◌, not, ℕ, ◌+◌, ◌-◌, ◌*◌, ◌^◌, ◌<◌, ◌≤◌, eqb, ltb, length, get_or};
+ghost use Rattle.std.specs.Prelude.{◌≡◌, ◌&&◌, not, ℕ, ◌+◌, ◌-◌, ◌*◌, ◌^◌, ◌<◌, ◌≤◌, eqb, ltb, get_or};
 ghost use Rattle.shares.specs.Below.{first_below};
 ghost use Rattle.shares.specs.Constant.{constant_levels, bit};
 ghost use Rattle.words.specs.Clause.{test_way, test_value, WaysOf, clause_test, all_clauses, position, Clauses};
@@ -181,8 +181,8 @@ fn variable_at(n: usize, m: usize, p: usize) -> usize
 }
 
 // Puts the words of the constants that are named into the table of terms, in place of those of other values.
-pub fn set_constants(values: u64, named: u64, terms: &mut [u64])
-    requires { (named < 2 ^ 32) × (length terms.old ≡ 64) }
+pub fn set_constants(values: u64, named: u64, terms: &mut [u64; 64])
+    requires { named < 2 ^ 32 }
     ensures { (n m old w : ℕ) → n + m ≤ 12 → Within named old → Within named values → Terms n m old w terms.old → Terms n m values w terms.new }
 {
     for i in bits(named) {
@@ -191,8 +191,8 @@ pub fn set_constants(values: u64, named: u64, terms: &mut [u64])
 }
 
 // Puts the words at w of the variables with digit `from` or above into the table.
-fn set_variables(n: usize, m: usize, from: usize, w: usize, terms: &mut [u64])
-    requires { (n + m ≤ 12) × (length terms.old ≡ 64) }
+fn set_variables(n: usize, m: usize, from: usize, w: usize, terms: &mut [u64; 64])
+    requires { n + m ≤ 12 }
     ensures { Changed n m from w terms.old terms.new }
 {
     for p in from..n + m {
@@ -202,8 +202,8 @@ fn set_variables(n: usize, m: usize, from: usize, w: usize, terms: &mut [u64])
 }
 
 // Makes the table of terms at word 0 of a table that is empty, where all constants are 0. The part that is always full has its word from here on.
-pub fn start_terms(n: usize, m: usize, terms: &mut [u64])
-    requires { (n + m ≤ 12) × (length terms.old ≡ 64) × ((t : ℕ) → t < 64 → get_or terms.old t 0 ≡ 0) }
+pub fn start_terms(n: usize, m: usize, terms: &mut [u64; 64])
+    requires { (n + m ≤ 12) × ((t : ℕ) → t < 64 → get_or terms.old t 0 ≡ 0) }
     ensures { Terms n m 0 0 terms.new }
 {
     set_variables(n, m, 0, 0, terms);
@@ -211,8 +211,8 @@ pub fn start_terms(n: usize, m: usize, terms: &mut [u64])
 }
 
 // Takes the table of terms from any word to word w: only the digits above the sixth change.
-pub fn move_terms(n: usize, m: usize, w: usize, terms: &mut [u64])
-    requires { (n + m ≤ 12) × (length terms.old ≡ 64) }
+pub fn move_terms(n: usize, m: usize, w: usize, terms: &mut [u64; 64])
+    requires { n + m ≤ 12 }
     ensures { (values v : ℕ) → Terms n m values v terms.old → Terms n m values w terms.new }
 {
     set_variables(n, m, 6, w, terms);
