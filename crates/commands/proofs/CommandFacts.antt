@@ -5,7 +5,7 @@ use mathlib.Core.List.{List}
 use Prim.Native.Nat.{ℕ, ◌≤◌}
 use borrow.Author.Tests.{lt-ltb, le-ltb, eq-eqb}
 use lib.ListN.{length, get_or}
-use Rattle.format.specs.declared.Head.TheVariants.{Opens, Wrong}
+use Rattle.format.specs.Format.{Opens, Wrong}
 use Rattle.format.specs.Format.{head_fits, head_of}
 
 -- a head that is there and whole fits or is refused by 5

@@ -14,12 +14,12 @@ use Rattle.systems.specs.Questions.{Kind, satisfiability, entailment, Question, 
 use Rattle.format.specs.declared.Section.{Section}
 use Rattle.format.specs.declared.Test.{Test}
 use Rattle.format.specs.declared.Shape.{Shape}
-use Rattle.format.specs.declared.Entry.{Entry}
-use Rattle.format.specs.declared.Entry.TheVariants.{Known, Unknown}
-use Rattle.format.specs.declared.Head.{Head}
-use Rattle.format.specs.declared.Head.TheVariants.{Opens, Wrong}
-use Rattle.format.specs.declared.Step.{Step}
-use Rattle.format.specs.declared.Step.TheVariants.{Take, Refused}
+use Rattle.std.specs.Prelude.{Option}
+use Rattle.std.specs.Prelude.{Some, None}
+use Rattle.format.specs.Format.{Head}
+use Rattle.format.specs.Format.{Opens, Wrong}
+use Rattle.format.specs.Format.{Step}
+use Rattle.format.specs.Format.{Take, Refused}
 use Rattle.format.specs.Format.{Result, refused, accepted, most_variables, most_constants, entry_of, term_count}
 use Rattle.format.specs.Format.{operands, term_byte, command_of, whole_at, read_at, is_second, most_of, in_section}
 use Rattle.format.specs.Format.{term_of, names, variables_for, term_named, is_foreign, clause_fault, constant_fault}
@@ -279,10 +279,10 @@ module _ (s : List ℕ) (at : ℕ) (q : Question) where
       number : ℕ
       number = fault q (command_of s (at + 1) h)
 
-  entry_judged : at < length s → (e : Entry) → entry_of (get_or s at 0) ≡ e → Judged (judged q (whole_at s at e))
+  entry_judged : at < length s → (e : Option Shape) → entry_of (get_or s at 0) ≡ e → Judged (judged q (whole_at s at e))
   unfolding whole_at
-  entry_judged l Unknown e = inr (λ z. omega arith, inl (refl, (l, e)))
-  entry_judged l (Known h) e =
+  entry_judged l None e = inr (λ z. omega arith, inl (refl, (l, e)))
+  entry_judged l (Some h) e =
       branch (λ r. Judged (judged q r)) (ltb left (operands h)) (Refused 2) (whole h)
       (λ f. inr (byte_there a, inr (byte_known a, inl (refl, (h, a, omega (arith, ltb-true left (operands h) f))))))
       (λ f. whole_judged h a (omega (arith, ltb-false left (operands h) f)))
