@@ -15,10 +15,7 @@ use Rattle.format.specs.declared.Test.TheVariants.{Join, Equality, Full, Empty, 
 use Rattle.format.specs.declared.Shape.{Shape}
 use Rattle.std.specs.Prelude.{Some}
 use Rattle.format.specs.declared.Command.{Command}
-use Rattle.format.specs.Format.{Head}
-use Rattle.format.specs.Format.{Opens, Wrong}
-use Rattle.format.specs.Format.{Step}
-use Rattle.format.specs.Format.{Take, Refused}
+use Rattle.format.specs.Format.{Head, Opens, Wrong, Step, Take, Refused}
 use Rattle.format.specs.Format.{Result, refused, accepted, entry_of, read_at, atom_of, is_foreign, fault, judged, with_first, with_clause, with_constant, taken, ended, onward, turn, head_fits, kind_from, opened, head_of, after_head, read}
 use Rattle.format.specs.Stored.{kind_number}
 use Rattle.format.specs.SectionLaws.{clause_keeps}

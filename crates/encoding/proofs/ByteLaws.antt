@@ -10,12 +10,9 @@ use Rattle.format.specs.declared.Section.TheVariants.{FirstPositive, FirstDisequ
 use Rattle.format.specs.declared.Test.{Test}
 use Rattle.format.specs.declared.Test.TheVariants.{Join, Equality, Full, Empty, Together}
 use Rattle.format.specs.declared.Shape.{Shape}
-use Rattle.std.specs.Prelude.{Option}
-use Rattle.std.specs.Prelude.{Some, None}
+use Rattle.std.specs.Prelude.{Option, Some, None}
 use Rattle.format.specs.declared.Command.{Command}
-use Rattle.format.specs.Format.{Step}
-use Rattle.format.specs.Format.{Take, Refused}
-use Rattle.format.specs.Format.{entry_of, term_count, operands, term_byte, command_of, whole_at, read_at}
+use Rattle.format.specs.Format.{Step, Take, Refused, entry_of, term_count, operands, term_byte, command_of, whole_at, read_at}
 use Rattle.format.proofs.FormatLaws.{term_small, branch, size}
 use Rattle.format.proofs.KeepingLaws.{Bytes, take_bytes, command_proper}
 use Rattle.encoding.specs.Worked

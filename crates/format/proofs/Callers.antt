@@ -8,7 +8,7 @@ use Rattle.systems.specs.AtLeaves.{LeafReading}
 use Rattle.format.specs.declared.Question.{Question as Held}
 use Rattle.format.specs.Numbers.{kind_value}
 use Rattle.format.specs.Format.{Result, refused, accepted, read}
-use Rattle.format.specs.Stored.{kind_number, reading_from, four_at, readings_at, Stored, stored_of, Stands, Reading, refused_with, held, reading_of}
+use Rattle.format.specs.Stored.{kind_number, reading_from, four_at, readings_at, Stored, stored_of, Stands, refused_with, held, reading_of}
 use Rattle.format.proofs.FormatLaws.{accepted_formed}
 use Rattle.format.proofs.KeepingLaws.{readings_length}
 

@@ -1,5 +1,5 @@
 -- Reading accepts exactly the strings of questions, and refuses exactly by the first fault. Assumes nothing.
-use Rattle.std.specs.Prelude.{◌≡◌, Bool, true, false, ◌&&◌, List, [], ◌∷◌, ◌⊎◌, ◌↔◌, eqb, ltb, leb, get_or, drop}
+use Rattle.std.specs.Prelude.{◌≡◌, Bool, true, false, ◌&&◌, List, [], ◌∷◌, ◌⊎◌, ◌↔◌, eqb, ltb, leb, get_or, drop, Option, Some, None}
 use Rattle.std.proofs.Math.Path.{refl, ap, subst}
 use Rattle.std.proofs.Common.{sym, ◌∙◌}
 use Rattle.std.proofs.Math.Bool.{cond}
@@ -14,17 +14,11 @@ use Rattle.systems.specs.Questions.{Kind, satisfiability, entailment, Question, 
 use Rattle.format.specs.declared.Section.{Section}
 use Rattle.format.specs.declared.Test.{Test}
 use Rattle.format.specs.declared.Shape.{Shape}
-use Rattle.std.specs.Prelude.{Option}
-use Rattle.std.specs.Prelude.{Some, None}
-use Rattle.format.specs.Format.{Head}
-use Rattle.format.specs.Format.{Opens, Wrong}
-use Rattle.format.specs.Format.{Step}
-use Rattle.format.specs.Format.{Take, Refused}
+use Rattle.format.specs.Format.{Head, Opens, Wrong, Step, Take, Refused}
 use Rattle.format.specs.Format.{Result, refused, accepted, most_variables, most_constants, entry_of, term_count}
 use Rattle.format.specs.Format.{operands, term_byte, command_of, whole_at, read_at, is_second, most_of, in_section}
 use Rattle.format.specs.Format.{term_of, names, variables_for, term_named, is_foreign, clause_fault, constant_fault}
-use Rattle.format.specs.Format.{begun, fault, judged, ended, onward, turn, following, run, head_fits, opened}
-use Rattle.format.specs.Format.{head_of, after_head, read}
+use Rattle.format.specs.Format.{begun, fault, judged, ended, onward, turn, following, run, head_fits, opened, head_of, after_head, read}
 use Rattle.format.proofs.FormatLaws.{branch, term_small, named_defined_lem, run_enough, head_fits_lem}
 use Rattle.format.specs.Faults.{Announced, after, NoHead, OutOfPlace, Unfit, ConstantTooMany, ClauseTooMany}
 use Rattle.format.specs.Faults.{NamesNothing, ForeignClause, Due, head_due, command_due, nothing_due, faults_at}

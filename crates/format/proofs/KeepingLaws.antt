@@ -23,12 +23,10 @@ use Rattle.format.specs.declared.Section.TheVariants.{FirstPositive, FirstDisequ
 use Rattle.format.specs.declared.Test.{Test}
 use Rattle.format.specs.declared.LeafJoin.{LeafJoin}
 use Rattle.format.specs.declared.Shape.{Shape}
-use Rattle.std.specs.Prelude.{Option}
-use Rattle.std.specs.Prelude.{Some, None}
+use Rattle.std.specs.Prelude.{Option, Some, None}
 use Rattle.format.specs.declared.Command.{Command}
-use Rattle.format.specs.Format.{Step}
+use Rattle.format.specs.Format.{Step, Take, Refused}
 use Rattle.format.specs.declared.Question.{Question as Struct}
-use Rattle.format.specs.Format.{Take, Refused}
 use Rattle.format.specs.Format.{most_variables, most_constants, term_of, entry_of, operands, command_of, whole_at, read_at, most_of, in_section, names, variables_for, all_named, atom_of, is_foreign, constant_fault, fault, judged, with_clause, with_constant, taken}
 use Rattle.format.specs.Numbers.{kind_value}
 use Rattle.format.specs.declared.Kind.{Kind as HeldKind}

@@ -1,22 +1,17 @@
 -- The constants that stand first: what is read there, and one more of them. Assumes nothing.
 use Rattle.std.proofs.Math.Path.{◌≡◌, refl, sym, ap, subst}
 use Rattle.std.proofs.Common.{◌∙◌}
-use Rattle.std.specs.Prelude.{Bool, cond, List, ℕ, zero, suc, ◌+◌, ◌-◌, ◌≤◌, ◌<◌, ltb, length, get_or, set, take, drop, replicate}
+use Rattle.std.specs.Prelude.{Bool, cond, List, ℕ, zero, suc, ◌+◌, ◌-◌, ◌≤◌, ◌<◌, ltb, length, get_or, set, take, drop, replicate, Option, Some, None}
 use Rattle.std.proofs.Math.Bool.{true, false}
 use native.Mathlib.Omega.{arith}
 use Rattle.std.proofs.Math.ListN.{length-set}
 use borrow.Author.Tests.{ltb-true, ltb-false, lt-leb}
 use Rattle.shares.specs.Test.{of_true}
 use Rattle.shares.specs.Constant.{constant_levels, number, bytes_at}
-use Rattle.format.specs.Worked
 use Rattle.format.specs.declared.Shape.{Shape}
-use Rattle.std.specs.Prelude.{Option}
-use Rattle.std.specs.Prelude.{Some, None}
 use Rattle.format.specs.declared.Command.{Command}
-use Rattle.format.specs.Format.{Step}
-use Rattle.format.specs.Format.{Take, Refused}
+use Rattle.format.specs.Format.{Step, Take, Refused, most_constants, entry_of, term_count, clause_at, command_of, whole_at, read_at}
 use Rattle.format.specs.declared.Leading.{Leading}
-use Rattle.format.specs.Format.{most_constants, entry_of, term_count, clause_at, command_of, whole_at, read_at}
 use Rattle.format.specs.Stored.{constant_size, leading_of, is_leading, constant_at, place_of, leading}
 use Rattle.format.specs.Keeping.{lead_into, fault_of, judged_of}
 

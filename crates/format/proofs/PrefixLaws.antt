@@ -1,7 +1,7 @@
 -- Reading looks at no byte past the command at fault: strings that agree so far are refused alike. Assumes nothing.
 use Rattle.std.proofs.Math.Path.{◌≡◌, refl, ap, ap₂, subst}
 use Rattle.std.proofs.Common.{sym, ◌∙◌, arith, ltb→lt, lt→ltb, length-take, get_or-take, take-take, take_all}
-use Rattle.std.specs.Prelude.{Bool, ◌&&◌, List, [], ◌∷◌, length, get_or, take, drop}
+use Rattle.std.specs.Prelude.{Bool, ◌&&◌, List, [], ◌∷◌, length, get_or, take, drop, Option, Some, None}
 use Rattle.std.proofs.Math.Bool.{true, false, cond}
 use Prim.Native.Nat.{ℕ, zero, suc, ◌+◌, ◌-◌, ◌≤◌, ◌<◌, min}
 use borrow.Author.Tests.{ltb-true, eqb-true, eqb-false, ne_eqb}
@@ -10,13 +10,8 @@ use Rattle.shares.specs.Constant.{constant_levels, number, bytes_at}
 use Rattle.shares.specs.Test.{same_test}
 use Rattle.systems.specs.Questions.{Question}
 use Rattle.format.specs.declared.Shape.{Shape}
-use Rattle.std.specs.Prelude.{Option}
-use Rattle.std.specs.Prelude.{Some, None}
 use Rattle.format.specs.declared.Command.{Command}
-use Rattle.format.specs.Format.{Head}
-use Rattle.format.specs.Format.{Opens, Wrong}
-use Rattle.format.specs.Format.{Step}
-use Rattle.format.specs.Format.{Take, Refused}
+use Rattle.format.specs.Format.{Head, Opens, Wrong, Step, Take, Refused}
 use Rattle.format.specs.Format.{Result, refused, accepted, entry_of, term_count, operands, term_byte, command_of, whole_at, read_at, fault, judged, taken, ended, go, onward, turn, following, run, head_fits, opened, head_of, after_head, read}
 use Rattle.format.specs.Limits.{longest}
 use Rattle.format.proofs.FormatLaws.{branch, term_small, size_some, Whole, read_whole, judged_take, Stay, run_law, HeadRight, head_right, accepted_short, refusal_place}

@@ -1,10 +1,9 @@
 -- What a byte that announces a command rules out: each fault of another command. Assumes nothing.
-use Rattle.std.specs.Prelude.{◌≡◌, false, List, ℕ, ◌≤◌, eqb, length}
+use Rattle.std.specs.Prelude.{◌≡◌, false, List, ℕ, ◌≤◌, eqb, length, Some, None}
 use Rattle.std.proofs.Common.{sym, ap, ◌∙◌, inl, inr, arith}
 use Rattle.std.proofs.lemmas.Bool.{eqb-false}
 use Rattle.systems.specs.Questions.{Question}
 use Rattle.format.specs.declared.Shape.{Shape}
-use Rattle.std.specs.Prelude.{Some, None}
 use Rattle.format.specs.Format.{operands}
 use Rattle.format.specs.Faults.{Announced, after, NoByte, CutShort, UnknownByte, OutOfPlace, UnfitHead}
 use Rattle.format.specs.Faults.{ConstantTooMany, ClauseTooMany, NamesNothing, ForeignClause}

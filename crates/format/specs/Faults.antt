@@ -1,10 +1,9 @@
 -- What a byte string is, not how it is read: the faults of docs/SPEC.md, 7.1, and the order of 7.3. Assumes nothing.
-use Rattle.std.specs.Prelude.{◌≡◌, true, List, [], ◌∷◌, ◌⊎◌, ℕ, ◌+◌, ◌≤◌, ◌<◌, length, get_or}
+use Rattle.std.specs.Prelude.{◌≡◌, true, List, [], ◌∷◌, ◌⊎◌, ℕ, ◌+◌, ◌≤◌, ◌<◌, length, get_or, Some, None}
 use Rattle.systems.specs.Questions.{satisfiability, Question, Defined}
 use Rattle.format.specs.declared.Section.{Section}
 use Rattle.format.specs.declared.Test.{Test}
 use Rattle.format.specs.declared.Shape.{Shape}
-use Rattle.std.specs.Prelude.{Some, None}
 use Rattle.format.specs.Format.{most_variables, most_constants, entry_of, term_count, operands, command_of}
 use Rattle.format.specs.Format.{is_second, most_of, in_section, term_of, variables_for, taken, opened}
 

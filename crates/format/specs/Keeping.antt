@@ -5,9 +5,7 @@ use Rattle.shares.specs.Constant.{constant_levels, number_of, number, bytes_at}
 use Rattle.format.specs.declared.Section.{Section}
 use Rattle.format.specs.declared.LeafJoin.{LeafJoin}
 use Rattle.format.specs.declared.Command.{Command}
-use Rattle.format.specs.Format.{Step}
-use Rattle.format.specs.Format.{Take, Refused}
-use Rattle.format.specs.Format.{most_constants, is_second, most_of, all_named, variables_for, clause_fault, constant_fault}
+use Rattle.format.specs.Format.{Step, Take, Refused, most_constants, is_second, most_of, all_named, variables_for, clause_fault, constant_fault}
 use Rattle.format.specs.Stored.{constant_at, place_of, section_number, join_for, clause_bytes, section_start, count_of, clause_written}
 
 -- ---- one command kept

@@ -14,11 +14,8 @@ use Rattle.format.specs.declared.Section.TheVariants.{FirstPositive, FirstDisequ
 use Rattle.format.specs.declared.Test.{Test}
 use Rattle.format.specs.declared.LeafJoin.{LeafJoin}
 use Rattle.format.specs.declared.Command.{Command}
-use Rattle.format.specs.Format.{Step}
-use Rattle.format.specs.Format.{Take, Refused}
+use Rattle.format.specs.Format.{Step, Take, Refused, Head, Opens, Wrong}
 use Rattle.format.specs.declared.Leading.{Leading}
-use Rattle.format.specs.Format.{Head}
-use Rattle.format.specs.Format.{Opens, Wrong}
 use Rattle.format.specs.declared.Question.{Question}
 use Rattle.format.specs.Format.{Result, refused, accepted, most_variables, most_constants, most_of, in_section, term_of, names, variables_for, atom_of, read_at, judged, taken, opened, head_of}
 

@@ -1,5 +1,5 @@
 -- What the code's results tell, by the paper's numbers. Assumes nothing.
-use Rattle.std.specs.Prelude.{ℕ, Option, Some, None, Result, Ok, Err}
+use Rattle.std.specs.Prelude.{ℕ, Result, Ok, Err}
 use Rattle.format.specs.declared.Fault.{Fault}
 use Rattle.format.specs.declared.Head.{Head as HeadRead}
 use Rattle.format.specs.declared.Taken.{Taken}

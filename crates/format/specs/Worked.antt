@@ -1,12 +1,11 @@
 -- Worked byte strings: each refusal, each order of two faults at one command, and the limits, computed. Assumes nothing.
-use Rattle.std.specs.Prelude.{◌≡◌, refl, List, [], ◌∷◌, ◌++◌, map, ℕ, zero, suc, replicate}
+use Rattle.std.specs.Prelude.{◌≡◌, refl, List, [], ◌∷◌, ◌++◌, map, ℕ, zero, suc, replicate, Some, None}
 use Rattle.shares.specs.Constant.{constant_levels, number_of, number}
 use Rattle.systems.specs.Clauses.{variable, constant, joined, equal, is_full, is_empty, together, positive, negated, positives, disequations}
 use Rattle.systems.specs.Questions.{Question, satisfiability, entailment, named_in, is_among}
 use Rattle.format.specs.declared.Kind.TheVariants.{Entailment}
 use Rattle.format.specs.declared.Section.TheVariants.{FirstPositive, FirstDisequation, SecondPositive, SecondDisequation}
 use Rattle.format.specs.declared.Shape.{Shape}
-use Rattle.std.specs.Prelude.{Some, None}
 use Rattle.format.specs.Format.{Result, refused, accepted, most_of, entry_of, command_of, whole_at, read_at, term_of, names, fault, taken, ended, turn, run, head_fits, opened, head_of, read}
 use Rattle.format.specs.Stored.{clause_bytes, named_word, Reading, refused_with, held, reading_of, written_by, clauses_after}
 

@@ -1,7 +1,7 @@
 -- Going over the commands of an accepted question meets the clauses of its first system one by one. Assumes nothing.
 use Rattle.std.proofs.Math.Path.{◌≡◌, refl, ap}
 use Rattle.std.proofs.Common.{sym, ◌∙◌, subst, true≢false, inl, inr, eq-or-lt_of_le, le_of_suc-le-suc, not-suc-le-zero, arith, length-append}
-use Rattle.std.specs.Prelude.{Bool, not, cond, ◌⊎◌, eqb, ltb, get_or, take}
+use Rattle.std.specs.Prelude.{Bool, not, cond, ◌⊎◌, eqb, ltb, get_or, take, Some, None}
 use Rattle.std.proofs.Math.Bool.{true, false, not-not}
 use mathlib.Core.List.{List, [], ◌∷◌, ◌++◌, append-nil, append_assoc}
 use Prim.Native.Nat.{ℕ, zero, suc, ◌+◌, ◌-◌, ◌^◌, ◌≤◌, ◌<◌}
@@ -21,7 +21,6 @@ use Rattle.systems.specs.SystemLaws.{in_system}
 use Rattle.format.specs.declared.Section.{Section}
 use Rattle.format.specs.declared.Section.TheVariants.{FirstPositive, FirstDisequation, SecondPositive, SecondDisequation}
 use Rattle.format.specs.declared.Shape.{Shape}
-use Rattle.std.specs.Prelude.{Some, None}
 use Rattle.format.specs.declared.Command.{Command}
 use Rattle.format.specs.Format.{Take, Refused}
 use Rattle.format.specs.Format.{most_positive, most_disequations, accepted, read, entry_of, operands, command_of, whole_at, read_at, atom_of}
