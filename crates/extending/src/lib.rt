@@ -9,14 +9,12 @@ ghost use Rattle.shares.specs.Constant.{bit, constant_levels};
 ghost use Rattle.rows.specs.Rows.{row_count};
 ghost use Rattle.words.specs.Choices.{word_count, values_at};
 ghost use Rattle.words.specs.Table.{Terms, Within};
-ghost use Rattle.beside.specs.Beside.{Readable};
-ghost use Rattle.steps.specs.Steps.{stored_by, PlacedWithin};
+ghost use Rattle.steps.specs.Steps.{posed, PlacedWithin};
 ghost use Rattle.unfolded.specs.Unfolded.{row_words};
 ghost use Rattle.extending.specs.Extending.{choice_at, extends_in};
 ghost use Rattle.extending.specs.Looks.{Added, BitOf, SameAs, Alike, alike, ChoicesLooked, LeavesLooked, InWord, InWords, KeysOf};
 
-use basics::CLAUSE_BYTES;
-use beside::Sizes;
+use beside::Searchable;
 use unfolded::TABLE_WORDS;
 
 // Constants have this many levels.
@@ -148,23 +146,23 @@ fn still_wanted(x: u64, wanted: u64, left: &[u64; 32], count: usize) -> u64
 // What is still wanted once the given choices of word w are looked at, with the values that the table of terms has: bit j for each of the second system's
 // disequations that no own choice so far meets beside its positive clauses. None if some free choice has no own choice that meets these.
 fn look_word(
+    question: &Searchable<'_>,
     terms: &mut [u64; 64],
-    clauses: &[u8; CLAUSE_BYTES],
-    sizes: Sizes,
     w: usize,
     choices: u64,
     wanted: u64,
 ) -> Option<u64>
-    requires { Readable clauses.now sizes.counts sizes.free sizes.own × (w < word_count sizes.free) }
-    ensures { (constants : List ℕ) (values v : ℕ) → Terms sizes.free sizes.own values v terms.old → ((u : ℕ) × Terms sizes.free sizes.own values u terms.new) × ChoicesLooked (stored_by sizes clauses.now constants) values (InWord w choices) wanted result }
+    requires { w < word_count question.now.sizes.free }
+    ensures { (values v : ℕ) → Terms question.now.sizes.free question.now.sizes.own values v terms.old → ((u : ℕ) × Terms question.now.sizes.free question.now.sizes.own values u terms.new) × ChoicesLooked (posed question.now) values (InWord w choices) wanted result }
 {
     if choices == 0 {
         return Some(wanted);
     }
+    let sizes = question.sizes;
     let x = beside::merge_word(choices, sizes.free);
     let mut left = [0u64; 32];
     words::move_terms(sizes.free, sizes.own, w, terms);
-    let none = beside::missing(terms, clauses, sizes, w, x, wanted, &mut left);
+    let none = beside::missing(question, terms, w, x, wanted, &mut left);
     if none != 0 {
         return None;
     }
@@ -173,44 +171,40 @@ fn look_word(
 
 // What is still wanted once all choices of a set are looked at, with those values; None if some choice of it has no own choice.
 fn look_words(
+    question: &Searchable<'_>,
     terms: &mut [u64; 64],
-    clauses: &[u8; CLAUSE_BYTES],
-    sizes: Sizes,
     present: &[u64; 64],
     wanted: u64,
 ) -> Option<u64>
-    requires { Readable clauses.now sizes.counts sizes.free sizes.own }
-    ensures { (constants : List ℕ) (values v : ℕ) → Terms sizes.free sizes.own values v terms.old → ((u : ℕ) × Terms sizes.free sizes.own values u terms.new) × ChoicesLooked (stored_by sizes clauses.now constants) values (InWords (word_count sizes.free) present.now) wanted result }
+    ensures { (values v : ℕ) → Terms question.now.sizes.free question.now.sizes.own values v terms.old → ((u : ℕ) × Terms question.now.sizes.free question.now.sizes.own values u terms.new) × ChoicesLooked (posed question.now) values (InWords (word_count question.now.sizes.free) present.now) wanted result }
 {
     let mut rest = wanted;
-    for w in 0..words::word_count(sizes.free) {
-        rest = look_word(terms, clauses, sizes, w, present[w], rest)?;
+    for w in 0..words::word_count(question.sizes.free) {
+        rest = look_word(question, terms, w, present[w], rest)?;
     }
     Some(rest)
 }
 
 // What is still wanted once the free choices below all leaves with the constants' values of leaf b are looked at; they are already if an earlier leaf has these.
 fn look_leaf(
+    question: &Searchable<'_>,
     table: &[u64; TABLE_WORDS],
-    clauses: &[u8; CLAUSE_BYTES],
-    sizes: Sizes,
     keys: &[u32; 64],
     b: usize,
     terms: &mut [u64; 64],
     wanted: u64,
 ) -> Option<u64>
-    requires readable { Readable clauses.now sizes.counts sizes.free sizes.own }
-    requires b_bound { (b < 32) × (sizes.named < 2 ^ 32) × Within sizes.named (get_or keys.now b 0) × PlacedWithin sizes.free sizes.own sizes.named terms.old }
-    ensures placed_within { PlacedWithin sizes.free sizes.own sizes.named terms.new }
-    ensures by_index { (constants : List ℕ) (start : ℕ) → KeysOf (stored_by sizes clauses.now constants) keys.now → LeavesLooked (stored_by sizes clauses.now constants) table.now b start (Some wanted) → LeavesLooked (stored_by sizes clauses.now constants) table.now (b + 1) start result }
+    requires { (b < 32) × Within question.now.sizes.named (get_or keys.now b 0) × PlacedWithin question.now.sizes.free question.now.sizes.own question.now.sizes.named terms.old }
+    ensures placed_within { PlacedWithin question.now.sizes.free question.now.sizes.own question.now.sizes.named terms.new }
+    ensures by_index { (start : ℕ) → KeysOf (posed question.now) keys.now → LeavesLooked (posed question.now) table.now b start (Some wanted) → LeavesLooked (posed question.now) table.now (b + 1) start result }
 {
     if pass::first_like(keys, keys[b], b) < b {
         return Some(wanted);
     }
     let mut present = [0u64; 64];
-    mark_alike(table, sizes.free, keys, b, &mut present);
-    words::set_constants(u64::from(keys[b]), sizes.named, terms);
-    look_words(terms, clauses, sizes, &present, wanted)
+    mark_alike(table, question.sizes.free, keys, b, &mut present);
+    words::set_constants(u64::from(keys[b]), question.sizes.named, terms);
+    look_words(question, terms, &present, wanted)
 }
 
 // The values of the constants that are named, at each leaf.
@@ -223,23 +217,18 @@ fn put_keys(constants: &[u64; 32], named: u64, keys: &mut [u32; 64])
     }
 }
 
-// Whether the rows of a table extend to the second system, by own shares of any height.
-pub fn extends(
-    table: &[u64; TABLE_WORDS],
-    clauses: &[u8; CLAUSE_BYTES],
-    sizes: Sizes,
-    constants: &[u64; 32],
-) -> bool
-    requires { Readable clauses.now sizes.counts sizes.free sizes.own × (sizes.named < 2 ^ 32) }
-    ensures { result ≡ extends_in (stored_by sizes clauses.now constants.now) table.now }
+// Whether the rows of a table extend to the second system of a question, by own shares of any height.
+pub fn extends(question: &Searchable<'_>, table: &[u64; TABLE_WORDS]) -> bool
+    ensures { result ≡ extends_in (posed question.now) table.now }
 {
+    let sizes = question.sizes;
     let mut terms = [0u64; 64];
     words::start_terms(sizes.free, sizes.own, &mut terms);
     let mut keys = [0u32; 64];
-    put_keys(constants, sizes.named, &mut keys);
+    put_keys(question.constants, sizes.named, &mut keys);
     let mut wanted: u64 = (1 << sizes.counts[3]) - 1;
     for b in 0..LEAVES {
-        let Some(rest) = look_leaf(table, clauses, sizes, &keys, b, &mut terms, wanted) else {
+        let Some(rest) = look_leaf(question, table, &keys, b, &mut terms, wanted) else {
             return false;
         };
         wanted = rest;
