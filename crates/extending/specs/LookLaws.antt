@@ -1,6 +1,6 @@
 -- Laws of what is found where choices or leaves are looked at: none of them, more of them, the same said otherwise; a word of choices, all words of a set, the
 -- leaves of the rows below leaves of the constants, and all leaves of the rows. Assumes nothing.
-use Rattle.std.specs.Prelude.{◌≡◌, refl, ◌⊎◌, Bool, ◌&&◌, ◌||◌, List, ℕ, ◌+◌, ◌-◌, ◌*◌, ◌/◌, ◌%◌, ◌^◌, ◌≤◌, ◌<◌, ltb, eqb, get_or, replicate}
+use Rattle.std.specs.Prelude.{◌≡◌, refl, ◌⊎◌, Bool, ◌&&◌, ◌||◌, Option, Some, None, List, ℕ, ◌+◌, ◌-◌, ◌*◌, ◌/◌, ◌%◌, ◌^◌, ◌≤◌, ◌<◌, ltb, eqb, get_or, replicate}
 use Rattle.std.proofs.Common.{sym, ap, ◌∙◌, true≢false, mod-eq_of_lt, lt_of_lt_of_le, T_not, eqb→eq, eq-eqb, lt-ltb}
 use Rattle.std.proofs.Math.Path.{subst}
 use Rattle.std.proofs.Math.Logic.{inl, inr}
@@ -24,114 +24,93 @@ use Rattle.beside.specs.Beside.{Merged, SameFree, Left, positives_pass, disequat
 use Rattle.beside.specs.GatherLaws.{same_free, choices_le}
 use Rattle.steps.specs.Tests.{second_meets, second_differs}
 use Rattle.extending.specs.Extending.{choice_at, over, values_at_leaf, meets_over, differs_over, extends_in}
-use Rattle.extending.specs.Looks.{in_set, Added, Alike, alike, Looked, all_met, ChoicesLooked, SeenBy, LeavesLooked, InWord, InWords, KeysOf}
+use Rattle.extending.specs.Looks.{in_set, Added, Alike, alike, Unmet, AllMet, Looked, ChoicesLooked, SeenBy, LeavesLooked, InWord, InWords, KeysOf}
 use Rattle.extending.specs.MarkLaws.{choice_lt, empty_set, over_lt}
-use Rattle.extending.specs.declared.Rest.{Rest}
 
 -- ---- looked at
 
+-- one that fails is found among more
+pub unmet_wider : (meets : ℕ → Bool) (A B : ℕ → Type 0) → ((c : ℕ) → A c → B c) → Unmet meets A → Unmet meets B
+unmet_wider meets A B wider (c, a, u) = (c, wider c a, u)
+
 module _ (count : ℕ) (meets : ℕ → Bool) (differs : ℕ → ℕ → Bool) where
   -- nothing
-  pub looked_none : (A : ℕ → Type 0) (wanted : ℕ) → ((c : ℕ) → A c → ⊥) → Looked count meets differs A wanted (all_met wanted)
+  pub looked_none : (A : ℕ → Type 0) (wanted : ℕ) → ((c : ℕ) → A c → ⊥) → AllMet count meets differs A wanted wanted
   looked_none A wanted never = record {
     fewer = λ j l t. t;
-    all = λ t c a. absurd (never c a);
-    unmet = λ t. absurd t;
+    all = λ c a. absurd (never c a);
     found = λ j l t u. absurd (T_not (bit wanted j) u t);
-    none = λ t j l u c a. absurd (never c a);
+    none = λ j l u c a. absurd (never c a);
   }
 
   -- some, none of which fails, and then others
-  looked_more : (A B C : ℕ → Type 0) (wanted : ℕ) (r s : Rest) → count ≤ 64 → T r.met
+  looked_more : (A B C : ℕ → Type 0) (wanted rest : ℕ) (r : Option ℕ) → count ≤ 64
       → ((c : ℕ) → C c → A c ⊎ B c) → ((c : ℕ) → A c → C c) → ((c : ℕ) → B c → C c)
-      → Looked count meets differs A wanted r → Looked count meets differs B r.wanted s → Looked count meets differs C wanted s
-  looked_more A B C wanted r s few met parts first second L M = record {
+      → AllMet count meets differs A wanted rest → Looked count meets differs B rest r → Looked count meets differs C wanted r
+  looked_more A B C wanted rest None few parts first second L M = unmet_wider meets B C second M
+  looked_more A B C wanted rest (Some last) few parts first second L M = record {
     fewer = λ j l t. L.fewer j l (M.fewer j l t);
-    all = λ t c h. every t c (parts c h);
-    unmet = λ t. (let (c, b, u) = M.unmet t in (c, second c b, u));
-    found = λ j l t u. have j l t u (passes (bit r.wanted j));
-    none = λ t j l u c h. never t j l u c (parts c h);
+    all = λ c h. every c (parts c h);
+    found = λ j l t u. have j l t u (passes (bit rest j));
+    none = λ j l u c h. never j l u c (parts c h);
   }
     where
-      every : T s.met → (c : ℕ) → A c ⊎ B c → T (meets c)
-      every t c (inl a) = L.all met c a
-      every t c (inr b) = M.all t c b
+      every : (c : ℕ) → A c ⊎ B c → T (meets c)
+      every c (inl a) = L.all c a
+      every c (inr b) = M.all c b
 
-      have : (j : ℕ) → j < count → T (bit wanted j) → T (not (bit s.wanted j)) → T (bit r.wanted j) ⊎ T (not (bit r.wanted j))
+      have : (j : ℕ) → j < count → T (bit wanted j) → T (not (bit last j)) → T (bit rest j) ⊎ T (not (bit rest j))
           → (c : ℕ) × C c × T (differs j c)
       have j l t u (inl v) = let (c, b, d) = M.found j l v u in (c, second c b, d)
       have j l t u (inr v) = let (c, a, d) = L.found j l t v in (c, first c a, d)
 
-      never : T s.met → (j : ℕ) → j < count → T (bit s.wanted j) → (c : ℕ) → A c ⊎ B c → T (not (differs j c))
-      never t j l u c (inl a) = L.none met j l (M.fewer j (omega arith) u) c a
-      never t j l u c (inr b) = M.none t j l u c b
-
-  -- none fails
-  pub looked_met : (A : ℕ → Type 0) (wanted : ℕ) (r : Rest) → T r.met → Looked count meets differs A wanted r
-      → Looked count meets differs A wanted (all_met r.wanted)
-  looked_met A wanted r met L = record {
-    fewer = L.fewer;
-    all = λ t. L.all met;
-    unmet = λ t. absurd t;
-    found = L.found;
-    none = λ t. L.none met;
-  }
-
-  -- one that fails is found among more
-  pub looked_wider : (A B : ℕ → Type 0) (wanted : ℕ) (r : Rest) → T (not r.met) → ((c : ℕ) → A c → B c)
-      → Looked count meets differs A wanted r → Looked count meets differs B wanted r
-  looked_wider A B wanted r fails wider L = record {
-    fewer = L.fewer;
-    all = λ t. absurd (T_not r.met fails t);
-    unmet = λ t. (let (c, a, u) = L.unmet t in (c, wider c a, u));
-    found = λ j l t u. (let (c, a, d) = L.found j l t u in (c, wider c a, d));
-    none = λ t. absurd (T_not r.met fails t);
-  }
+      never : (j : ℕ) → j < count → T (bit last j) → (c : ℕ) → A c ⊎ B c → T (not (differs j c))
+      never j l u c (inl a) = L.none j l (M.fewer j (omega arith) u) c a
+      never j l u c (inr b) = M.none j l u c b
 
   -- other numbers, each of which has the tests of one of these, and each of these those of one of them
-  looked_as : (meets' : ℕ → Bool) (differs' : ℕ → ℕ → Bool) (A B : ℕ → Type 0) (wanted : ℕ) (r : Rest)
+  looked_as : (meets' : ℕ → Bool) (differs' : ℕ → ℕ → Bool) (A B : ℕ → Type 0) (wanted : ℕ) (r : Option ℕ)
       → ((c : ℕ) → A c → (i : ℕ) × B i × (meets c ≡ meets' i) × ((j : ℕ) → differs j c ≡ differs' j i))
       → ((i : ℕ) → B i → (c : ℕ) × A c × (meets c ≡ meets' i) × ((j : ℕ) → differs j c ≡ differs' j i))
       → Looked count meets differs A wanted r → Looked count meets' differs' B wanted r
-  looked_as meets' differs' A B wanted r there back L = record {
+  looked_as meets' differs' A B wanted None there back (c, a, u) = let (i, b, e, f) = there c a in (i, b, subst (λ x. T (not x)) e u)
+  looked_as meets' differs' A B wanted (Some rest) there back L = record {
     fewer = L.fewer;
-    all = λ t i b. (let (c, a, e, f) = back i b in subst T e (L.all t c a));
-    unmet = λ t. (let (c, a, u) = L.unmet t in let (i, b, e, f) = there c a in (i, b, subst (λ x. T (not x)) e u));
+    all = λ i b. (let (c, a, e, f) = back i b in subst T e (L.all c a));
     found = λ j l t u. (let (c, a, d) = L.found j l t u in let (i, b, e, f) = there c a in (i, b, subst T (f j) d));
-    none = λ t j l u i b. (let (c, a, e, f) = back i b in subst (λ x. T (not x)) (f j) (L.none t j l u c a));
+    none = λ j l u i b. (let (c, a, e, f) = back i b in subst (λ x. T (not x)) (f j) (L.none j l u c a));
   }
 
   -- all numbers below N are looked at
-  module _ (N : ℕ) (A : ℕ → Type 0) (wanted : ℕ) (r : Rest) (within : (c : ℕ) → A c → c < N) (L : Looked count meets differs A wanted r) where
+  module _ (N : ℕ) (A : ℕ → Type 0) (within : (c : ℕ) → A c → c < N) where
     -- one fails
-    looked_unmet : T (not r.met) → (every_below N meets && every_below count (λ j. some_below N (differs j))) ≡ false
-    looked_unmet t =
-        let (c, a, u) = L.unmet t in
+    looked_unmet : Unmet meets A → (every_below N meets && every_below count (λ j. some_below N (differs j))) ≡ false
+    looked_unmet (c, a, u) =
         let rest = every_below count (λ j. some_below N (differs j)) in
         is_false (every_below N meets && rest)
         (not_T (every_below N meets && rest) (λ v. T_not (meets c) u (every_at N meets (and_left (every_below N meets) rest v) c (within c a))))
 
     -- none fails: all have what was wanted exactly if nothing is wanted any more
-    looked_all : ((c : ℕ) → c < N → A c) → T r.met → wanted ≡ 2 ^ count - 1 → count ≤ 64 → r.wanted < 2 ^ 64
-        → eqb r.wanted 0 ≡ (every_below N meets && every_below count (λ j. some_below N (differs j)))
-    looked_all every t start few small =
-        same_test (eqb r.wanted 0) (every_below N meets && every_below count (λ j. some_below N (differs j)))
+    looked_all : (wanted rest : ℕ) → AllMet count meets differs A wanted rest → ((c : ℕ) → c < N → A c) → wanted ≡ 2 ^ count - 1 → count ≤ 64 → rest < 2 ^ 64
+        → eqb rest 0 ≡ (every_below N meets && every_below count (λ j. some_below N (differs j)))
+    looked_all wanted rest L every start few small =
+        same_test (eqb rest 0) (every_below N meets && every_below count (λ j. some_below N (differs j)))
         (λ z.
-        let e = eqb→eq r.wanted 0 z in
-        and_intro (every_below N meets) (every_below count (λ j. some_below N (differs j))) (every_intro N meets (λ c l. L.all t c (every c l)))
+        let e = eqb→eq rest 0 z in
+        and_intro (every_below N meets) (every_below count (λ j. some_below N (differs j))) (every_intro N meets (λ c l. L.all c (every c l)))
         (every_intro count _ (λ j l.
         let (c, a, d) = L.found j l (of_true (ap (λ x. bit x j) start ∙ bit_ones count j l)) (of_false (ap (λ x. bit x j) e ∙ bit_zero j)) in
         some_intro N (differs j) c (within c a) d)))
         (λ v.
         of_true
-        (eq-eqb r.wanted 0
-        (bits_zero 64 r.wanted small (λ j l. is_false (bit r.wanted j) (not_T (bit r.wanted j) (unset v j l (dec_lt j count)))))))
+        (eq-eqb rest 0
+        (bits_zero 64 rest small (λ j l. is_false (bit rest j) (not_T (bit rest j) (unset v j l (dec_lt j count)))))))
       where
         unset : T (every_below N meets && every_below count (λ j. some_below N (differs j))) → (j : ℕ) → j < 64 → Dec (j < count)
-            → T (bit r.wanted j) → ⊥
+            → T (bit rest j) → ⊥
         unset v j l (yes h) u =
             let (c, b, d) = some_found N (differs j) (every_at count (λ j. some_below N (differs j)) (and_right (every_below N meets) _ v) j h) in
-            T_not (differs j c) (L.none t j h u c (every c b)) d
+            T_not (differs j c) (L.none j h u c (every c b)) d
         unset v j l (no n) u =
             T_not (bit wanted j) (of_false (ap (λ x. bit x j) start ∙ bit_beyond count (2 ^ count - 1) j (ones_lt count) (omega arith))) (L.fewer j l u)
 
@@ -225,26 +204,19 @@ module _ (S : Stored) (values : ℕ) where
 
 module _ (S : Stored) (values w choices x wanted rest : ℕ) (left : List ℕ) (hw : w < word_count S.free) (merged : Merged S.free choices x)
     (M : Missing S.clauses S.counts S.free S.own values w x wanted rest left) where
-  pub word_unmet : rest < 2 ^ 64 → (rest ≡ 0 → ⊥) → ChoicesLooked S values (InWord w choices) wanted (record { met = false; wanted = wanted })
-  word_unmet small some = record {
-    fewer = λ j l t. t;
-    all = λ t. absurd t;
-    unmet = λ t. left_something S.free w choices x rest (own_meets S values) hw merged M.none small some;
-    found = λ j l t u. absurd (T_not (bit wanted j) u t);
-    none = λ t. absurd t;
-  }
+  pub word_unmet : rest < 2 ^ 64 → (rest ≡ 0 → ⊥) → ChoicesLooked S values (InWord w choices) wanted None
+  word_unmet small some = left_something S.free w choices x rest (own_meets S values) hw merged M.none small some
 
   pub word_met : (still : ℕ) → get_or S.counts 3 0 ≤ 64 → rest ≡ 0
       → ((j : ℕ) → j < 64 → bit still j ≡ (bit wanted j && (not (ltb j (get_or S.counts 3 0)) || alike x (get_or left j 0))))
-      → ChoicesLooked S values (InWord w choices) wanted (record { met = true; wanted = still })
+      → ChoicesLooked S values (InWord w choices) wanted (Some still)
   word_met still few e bits = record {
     fewer = λ j l t. was j l t;
-    all = λ t c a. left_nothing S.free w choices x rest (own_meets S values) hw merged M.none e c a;
-    unmet = λ t. absurd t;
+    all = λ c a. left_nothing S.free w choices x rest (own_meets S values) hw merged M.none e c a;
     found = λ j l t u.
         left_part S.free w choices x (get_or left j 0) (own_differs S values j) hw merged (M.each j l t) (not_T (alike x (get_or left j 0)) (λ v.
         T_not (bit still j) u (subst T (sym (wanted_bit j l)) (and_intro (bit wanted j) (alike x (get_or left j 0)) t v))));
-    none = λ t j l u c a.
+    none = λ j l u c a.
         left_all S.free w choices x (get_or left j 0) (own_differs S values j) hw merged (M.each j l (was j (omega arith) u))
         (and_right (bit wanted j) (alike x (get_or left j 0)) (subst T (wanted_bit j l) u)) c a;
   }
@@ -258,14 +230,14 @@ module _ (S : Stored) (values w choices x wanted rest : ℕ) (left : List ℕ) (
 -- ---- all words of a set
 
 module _ (count : ℕ) (meets : ℕ → Bool) (differs : ℕ → ℕ → Bool) (present : List ℕ) (wanted : ℕ) where
-  pub words_start : Looked count meets differs (InWords 0 present) wanted (all_met wanted)
+  pub words_start : AllMet count meets differs (InWords 0 present) wanted wanted
   words_start = looked_none count meets differs (InWords 0 present) wanted (λ c a. omega (arith, a.0))
 
-  pub words_more : (w : ℕ) (r s : Rest) → count ≤ 64 → T r.met → Looked count meets differs (InWords w present) wanted r
-      → Looked count meets differs (InWord w (get_or present w 0)) r.wanted s → Looked count meets differs (InWords (w + 1) present) wanted s
+  pub words_more : (w rest : ℕ) (r : Option ℕ) → count ≤ 64 → AllMet count meets differs (InWords w present) wanted rest
+      → Looked count meets differs (InWord w (get_or present w 0)) rest r → Looked count meets differs (InWords (w + 1) present) wanted r
   unfolding in_set
-  words_more w r s few met =
-      looked_more count meets differs (InWords w present) (InWord w (get_or present w 0)) (InWords (w + 1) present) wanted r s few met
+  words_more w rest r few =
+      looked_more count meets differs (InWords w present) (InWord w (get_or present w 0)) (InWords (w + 1) present) wanted rest r few
       (λ c a. part c a (dec_lt c (64 * w))) (λ c a. (omega (arith, a.0), a.1))
       (λ c (e, t). (omega arith, subst (λ v. T (bit (get_or present v 0) (c % 64))) (sym e) t))
     where
@@ -276,13 +248,13 @@ module _ (count : ℕ) (meets : ℕ → Bool) (differs : ℕ → ℕ → Bool) (
 -- ---- the leaves of the rows
 
 module _ (S : Stored) (table keys : List ℕ) (b start wanted : ℕ) (room : b < 2 ^ S.levels) (K : KeysOf S keys)
-    (L : LeavesLooked S table b start (all_met wanted)) where
+    (L : LeavesLooked S table b start (Some wanted)) where
   -- leaf b has the values of an earlier leaf
-  pub leaf_known : (a : ℕ) → a < b → get_or keys a 0 ≡ get_or keys b 0 → LeavesLooked S table (b + 1) start (all_met wanted)
+  pub leaf_known : (a : ℕ) → a < b → get_or keys a 0 ≡ get_or keys b 0 → LeavesLooked S table (b + 1) start (Some wanted)
   leaf_known a l u =
       let e : values_at_leaf S a ≡ values_at_leaf S b = sym (K a (omega arith)) ∙ u ∙ K b room in
       looked_as (get_or S.counts 3 0) (meets_over S table) (differs_over S table) (meets_over S table) (differs_over S table) (SeenBy S b) (SeenBy S (b + 1))
-      start (all_met wanted) (λ i (d, m, h, q). (i, (d, omega arith, h, q), refl, λ j. refl))
+      start (Some wanted) (λ i (d, m, h, q). (i, (d, omega arith, h, q), refl, λ j. refl))
       (λ i (d, m, h, q). (i, earlier e i d m h q (dec_lt d b), refl, λ j. refl)) L
     where
       earlier : values_at_leaf S a ≡ values_at_leaf S b → (i d : ℕ) → d < b + 1 → i < 2 ^ row_levels S.levels
@@ -291,12 +263,12 @@ module _ (S : Stored) (table keys : List ℕ) (b start wanted : ℕ) (room : b <
       earlier e i d m h q (no n) = let f : b ≡ d = omega arith in (a, l, h, e ∙ ap (values_at_leaf S) f ∙ q)
 
   -- the leaves that look like it are looked at
-  pub leaf_looked : (words : ℕ) (present : List ℕ) (r : Rest) → get_or S.counts 3 0 ≤ 64
+  pub leaf_looked : (words : ℕ) (present : List ℕ) (r : Option ℕ) → get_or S.counts 3 0 ≤ 64
       → Added (choice_at S.levels table S.free) (Alike S.levels keys b) (replicate words 0) present
       → ChoicesLooked S (get_or keys b 0) (InWords (word_count S.free) present) wanted r → LeavesLooked S table (b + 1) start r
   leaf_looked words present r few A W =
       looked_more (get_or S.counts 3 0) (meets_over S table) (differs_over S table) (SeenBy S b) (Alike S.levels keys b)
-      (SeenBy S (b + 1)) start (all_met wanted) r few tt
+      (SeenBy S (b + 1)) start wanted r few
       (λ i (d, m, h, q). part i h d m q (dec_lt d b)) (λ i (d, m, h, q). (d, omega arith, h, q))
       (λ i (h, m, q). (b, omega arith, h, sym (K b room) ∙ sym q ∙ K (over S.levels i) (over_lt S.levels i h))) L
       (looked_as (get_or S.counts 3 0) (second_meets S (get_or keys b 0)) (second_differs S (get_or keys b 0)) (meets_over S table) (differs_over S table)
@@ -343,20 +315,20 @@ module _ (S : Stored) (table keys : List ℕ) (b start wanted : ℕ) (room : b <
 -- ---- all leaves of the rows
 
 module _ (S : Stored) (table : List ℕ) where
-  pub leaves_start : (start : ℕ) → LeavesLooked S table 0 start (all_met start)
+  pub leaves_start : (start : ℕ) → LeavesLooked S table 0 start (Some start)
   leaves_start start =
       looked_none (get_or S.counts 3 0) (meets_over S table) (differs_over S table) (SeenBy S 0) start (λ i (d, m, h, q). omega arith)
 
   -- one fails
-  pub leaves_unmet : (b start : ℕ) (r : Rest) → T (not r.met) → LeavesLooked S table b start r → extends_in S table ≡ false
-  leaves_unmet b start r fails L =
+  pub leaves_unmet : (b start : ℕ) → LeavesLooked S table b start None → extends_in S table ≡ false
+  leaves_unmet b start =
       looked_unmet (get_or S.counts 3 0) (meets_over S table) (differs_over S table) (2 ^ row_levels S.levels) (SeenBy S b)
-      start r (λ i (d, m, h, q). h) L fails
+      (λ i (d, m, h, q). h)
 
   -- none fails
   pub leaves_all : (b wanted : ℕ) → 2 ^ S.levels ≤ b → get_or S.counts 3 0 ≤ 64 → wanted < 2 ^ 64
-      → LeavesLooked S table b (2 ^ get_or S.counts 3 0 - 1) (all_met wanted) → eqb wanted 0 ≡ extends_in S table
+      → LeavesLooked S table b (2 ^ get_or S.counts 3 0 - 1) (Some wanted) → eqb wanted 0 ≡ extends_in S table
   leaves_all b wanted last few small L =
       looked_all (get_or S.counts 3 0) (meets_over S table) (differs_over S table) (2 ^ row_levels S.levels)
-      (SeenBy S b) (2 ^ get_or S.counts 3 0 - 1) (all_met wanted) (λ i (d, m, h, q). h) L
-      (λ i h. (over S.levels i, lt_of_lt_of_le (over_lt S.levels i h) last, h, refl)) tt refl few small
+      (SeenBy S b) (λ i (d, m, h, q). h) (2 ^ get_or S.counts 3 0 - 1) wanted L
+      (λ i h. (over S.levels i, lt_of_lt_of_le (over_lt S.levels i h) last, h, refl)) refl few small

@@ -1,5 +1,5 @@
 -- Sets of choices, and what is found where some of them are looked at: definitions that the contracts of private functions cite. Assumes nothing.
-use Rattle.std.specs.Prelude.{◌≡◌, ◌⊎◌, Bool, true, not, List, ℕ, ◌+◌, ◌*◌, ◌/◌, ◌%◌, ◌^◌, ◌≤◌, ◌<◌, T, get_or}
+use Rattle.std.specs.Prelude.{◌≡◌, ◌⊎◌, Bool, not, Option, MatchOption, List, ℕ, ◌+◌, ◌*◌, ◌/◌, ◌%◌, ◌^◌, ◌≤◌, ◌<◌, T, get_or}
 use Rattle.std.specs.Bool.{beq}
 use Rattle.shares.specs.Below.{every_below}
 use Rattle.shares.specs.Constant.{bit}
@@ -7,7 +7,6 @@ use Rattle.format.specs.Stored.{Stored}
 use Rattle.rows.specs.Rows.{row_levels}
 use Rattle.steps.specs.Tests.{second_meets, second_differs}
 use Rattle.extending.specs.Extending.{choice_at, over, values_at_leaf, meets_over, differs_over}
-use Rattle.extending.specs.declared.Rest.{Rest}
 use Rattle.extending.specs.declared.Same.{Same}
 
 -- ---- sets of choices
@@ -43,22 +42,24 @@ Alike levels keys b i = (i < 2 ^ row_levels levels) × (b ≤ over levels i) × 
 unfoldable pub alike : ℕ → ℕ → Bool
 alike x y = every_below 64 (λ i. beq (bit x i) (bit y i))
 
--- all of some numbers, of choices or of leaves, are looked at, up to one that fails: `met` says that none does. A bit of `wanted` goes only where some number has
--- that disequation, and where none fails it stays only if none has it
-pub record Looked (count : ℕ) (meets : ℕ → Bool) (differs : ℕ → ℕ → Bool) (Among : ℕ → Type 0) (wanted : ℕ) (r : Rest) : Type 0 where
-  pub fewer : (j : ℕ) → j < 64 → T (bit r.wanted j) → T (bit wanted j)
-  pub all : T r.met → (c : ℕ) → Among c → T (meets c)
-  pub unmet : T (not r.met) → (c : ℕ) × Among c × T (not (meets c))
-  pub found : (j : ℕ) → j < count → T (bit wanted j) → T (not (bit r.wanted j)) → (c : ℕ) × Among c × T (differs j c)
-  pub none : T r.met → (j : ℕ) → j < count → T (bit r.wanted j) → (c : ℕ) → Among c → T (not (differs j c))
+-- some number among these, of choices or of leaves, fails
+abbrev pub Unmet : (ℕ → Bool) → (ℕ → Type 0) → Type 0
+Unmet meets Among = (c : ℕ) × Among c × T (not (meets c))
 
--- none fails, and these are wanted
-abbrev pub all_met : ℕ → Rest
-all_met wanted = record { met = true; wanted = wanted }
+-- none does. A bit of `wanted` goes only where some number has that disequation, and it stays only if none has it
+pub record AllMet (count : ℕ) (meets : ℕ → Bool) (differs : ℕ → ℕ → Bool) (Among : ℕ → Type 0) (wanted rest : ℕ) : Type 0 where
+  pub fewer : (j : ℕ) → j < 64 → T (bit rest j) → T (bit wanted j)
+  pub all : (c : ℕ) → Among c → T (meets c)
+  pub found : (j : ℕ) → j < count → T (bit wanted j) → T (not (bit rest j)) → (c : ℕ) × Among c × T (differs j c)
+  pub none : (j : ℕ) → j < count → T (bit rest j) → (c : ℕ) → Among c → T (not (differs j c))
+
+-- all of these numbers are looked at, up to one that fails: where none does, the rest is still wanted
+abbrev pub Looked : ℕ → (ℕ → Bool) → (ℕ → ℕ → Bool) → (ℕ → Type 0) → ℕ → Option ℕ → Type 0
+Looked count meets differs Among wanted r = MatchOption r (Unmet meets Among) (AllMet count meets differs Among wanted)
 
 module _ (S : Stored) where
   -- choices are looked at, with these values of the constants
-  abbrev pub ChoicesLooked : ℕ → (ℕ → Type 0) → ℕ → Rest → Type 0
+  abbrev pub ChoicesLooked : ℕ → (ℕ → Type 0) → ℕ → Option ℕ → Type 0
   ChoicesLooked values = Looked (get_or S.counts 3 0) (second_meets S values) (second_differs S values)
 
   -- leaf i of the rows lies where the constants have the values of one of their first b leaves
@@ -66,7 +67,7 @@ module _ (S : Stored) where
   SeenBy b i = (a : ℕ) × (a < b) × (i < 2 ^ row_levels S.levels) × (values_at_leaf S a ≡ values_at_leaf S (over S.levels i))
 
   -- those leaves of the rows are looked at
-  abbrev pub LeavesLooked : List ℕ → ℕ → ℕ → Rest → Type 0
+  abbrev pub LeavesLooked : List ℕ → ℕ → ℕ → Option ℕ → Type 0
   LeavesLooked table b = Looked (get_or S.counts 3 0) (meets_over S table) (differs_over S table) (SeenBy b)
 
 -- the choices of one word of a set; those of the first w words

@@ -9,14 +9,12 @@ ghost use Rattle.shares.specs.Constant.{bit, constant_levels};
 ghost use Rattle.rows.specs.Rows.{row_count};
 ghost use Rattle.words.specs.Choices.{word_count, values_at};
 ghost use Rattle.words.specs.Table.{Terms, Within};
-ghost use Rattle.beside.specs.Beside.{Readable};
-ghost use Rattle.steps.specs.Steps.{stored_by, PlacedWithin};
+ghost use Rattle.steps.specs.Steps.{posed, PlacedWithin};
 ghost use Rattle.unfolded.specs.Unfolded.{row_words};
 ghost use Rattle.extending.specs.Extending.{choice_at, extends_in};
-ghost use Rattle.extending.specs.Looks.{Added, BitOf, SameAs, Alike, alike, all_met, ChoicesLooked, LeavesLooked, InWord, InWords, KeysOf};
+ghost use Rattle.extending.specs.Looks.{Added, BitOf, SameAs, Alike, alike, ChoicesLooked, LeavesLooked, InWord, InWords, KeysOf};
 
-use basics::CLAUSE_BYTES;
-use beside::Sizes;
+use beside::Searchable;
 use unfolded::TABLE_WORDS;
 
 // Constants have this many levels.
@@ -24,14 +22,6 @@ const LEVELS: usize = 5;
 
 // They have this many leaves, and each stands over half a word of a row.
 const LEAVES: usize = 32;
-
-// What is left to find: whether each free choice so far has an own choice that meets the second system's positive clauses, and bit j for each of its
-// disequations that no own choice so far meets beside them.
-#[derive(Clone, Copy)]
-pub struct Rest {
-    pub met: bool,
-    pub wanted: u64,
-}
 
 // The free choice at a leaf of the rows, variable 0 the highest digit, and which leaves of a word have it.
 #[derive(Clone, Copy)]
@@ -45,7 +35,7 @@ fn with_digit(choice: usize, digit: bool) -> usize
     requires { choice < 2 ^ row_count }
     ensures { result ≡ 2 * choice + one digit }
 {
-    if digit { 2 * choice + 1 } else { 2 * choice }
+    2 * choice + usize::from(digit)
 }
 
 // Where the bits of x have this value.
@@ -62,13 +52,11 @@ fn same_choice(table: &[u64; TABLE_WORDS], free: usize, w: usize, i: usize, leav
 {
     let mut choice: usize = 0;
     let mut same = leaves;
-    let mut v: usize = 0;
-    while v < free {
+    for v in 0..free {
         let x = unfolded::word_of(table, v, w);
         let digit = basics::digit(x, i);
         choice = with_digit(choice, digit);
-        same = same & like(x, digit);
-        v += 1;
+        same &= like(x, digit);
     }
     Same {
         choice,
@@ -77,24 +65,29 @@ fn same_choice(table: &[u64; TABLE_WORDS], free: usize, w: usize, i: usize, leav
 }
 
 // Sets bit `choice` of a set of choices.
-fn mark(present: &mut [u64], choice: usize)
-    requires { choice / 64 < length present.old }
+fn mark(present: &mut [u64; 64], choice: usize)
+    requires { choice < 2 ^ row_count }
     ensures { Added (λ c. c) (λ c. c ≡ choice) present.old present.new }
 {
-    let w = choice / 64;
-    present[w] = present[w] | (1 << (choice % 64));
+    present[choice / 64] |= 1 << (choice % 64);
 }
 
-// Marks the choices at the given leaves of word w.
-fn mark_word(table: &[u64; TABLE_WORDS], free: usize, w: usize, leaves: u64, present: &mut [u64])
-    requires { (free ≤ row_count) × (w < row_words constant_levels) × (length present.old ≡ 64) }
+// Marks the choices at the given leaves of word w. Each turn takes out every leaf of one choice, so no iterator over the bits of the word fits.
+fn mark_word(
+    table: &[u64; TABLE_WORDS],
+    free: usize,
+    w: usize,
+    leaves: u64,
+    present: &mut [u64; 64],
+)
+    requires { (free ≤ row_count) × (w < row_words constant_levels) }
     ensures { Added (λ k. choice_at constant_levels table.now free (64 * w + k)) (BitOf leaves) present.old present.new }
 {
     let mut rest = leaves;
     while rest != 0 {
         let same = same_choice(table, free, w, words::lowest(rest), rest);
         mark(present, same.choice);
-        rest = rest & !same.leaves;
+        rest &= !same.leaves;
     }
 }
 
@@ -115,17 +108,15 @@ fn mark_alike(
     free: usize,
     keys: &[u32; 64],
     b: usize,
-    present: &mut [u64],
+    present: &mut [u64; 64],
 )
-    requires { (free ≤ row_count) × (b < 32) × (length present.old ≡ 64) }
+    requires { (free ≤ row_count) × (b < 32) }
     ensures { Added (choice_at constant_levels table.now free) (Alike constant_levels keys.now b) present.old present.new }
 {
-    let mut a = b;
-    while a < LEAVES {
+    for a in b..LEAVES {
         if keys[a] == keys[b] {
             mark_word(table, free, a / 2, half(a), present);
         }
-        a += 1;
     }
 }
 
@@ -146,130 +137,101 @@ fn still_wanted(x: u64, wanted: u64, left: &[u64; 32], count: usize) -> u64
     ensures { (j : ℕ) → j < 64 → bit result j ≡ (bit wanted j && (not (ltb j count) || alike x (get_or left.now j 0))) }
 {
     let mut r = wanted;
-    let mut j: usize = 0;
-    while j < count {
-        r = unless_same(x, left[j], r, j);
-        j += 1;
+    for (j, y) in left[..count].iter().enumerate() {
+        r = unless_same(x, *y, r, j);
     }
     r
 }
 
-// What is left to find once the given choices of word w are looked at, with the values that the table of terms has.
+// What is still wanted once the given choices of word w are looked at, with the values that the table of terms has: bit j for each of the second system's
+// disequations that no own choice so far meets beside its positive clauses. None if some free choice has no own choice that meets these.
 fn look_word(
+    question: &Searchable<'_>,
     terms: &mut [u64; 64],
-    clauses: &[u8; CLAUSE_BYTES],
-    sizes: Sizes,
     w: usize,
     choices: u64,
     wanted: u64,
-) -> Rest
-    requires { Readable clauses.now sizes.counts sizes.free sizes.own × (w < word_count sizes.free) }
-    ensures { (constants : List ℕ) (values v : ℕ) → Terms sizes.free sizes.own values v terms.old → ((u : ℕ) × Terms sizes.free sizes.own values u terms.new) × ChoicesLooked (stored_by sizes clauses.now constants) values (InWord w choices) wanted result }
+) -> Option<u64>
+    requires { w < word_count question.now.sizes.free }
+    ensures { (values v : ℕ) → Terms question.now.sizes.free question.now.sizes.own values v terms.old → ((u : ℕ) × Terms question.now.sizes.free question.now.sizes.own values u terms.new) × ChoicesLooked (posed question.now) values (InWord w choices) wanted result }
 {
     if choices == 0 {
-        return Rest { met: true, wanted };
+        return Some(wanted);
     }
+    let sizes = question.sizes;
     let x = beside::merge_word(choices, sizes.free);
     let mut left = [0u64; 32];
     words::move_terms(sizes.free, sizes.own, w, terms);
-    let none = beside::missing(terms, clauses, sizes, w, x, wanted, &mut left);
+    let none = beside::missing(question, terms, w, x, wanted, &mut left);
     if none != 0 {
-        return Rest { met: false, wanted };
+        return None;
     }
-    let wanted = still_wanted(x, wanted, &left, sizes.counts[3]);
-    Rest { met: true, wanted }
+    Some(still_wanted(x, wanted, &left, sizes.counts[3]))
 }
 
-// What is left to find once all choices of a set are looked at, with those values.
+// What is still wanted once all choices of a set are looked at, with those values; None if some choice of it has no own choice.
 fn look_words(
+    question: &Searchable<'_>,
     terms: &mut [u64; 64],
-    clauses: &[u8; CLAUSE_BYTES],
-    sizes: Sizes,
     present: &[u64; 64],
     wanted: u64,
-) -> Rest
-    requires { Readable clauses.now sizes.counts sizes.free sizes.own }
-    ensures { (constants : List ℕ) (values v : ℕ) → Terms sizes.free sizes.own values v terms.old → ((u : ℕ) × Terms sizes.free sizes.own values u terms.new) × ChoicesLooked (stored_by sizes clauses.now constants) values (InWords (word_count sizes.free) present.now) wanted result }
+) -> Option<u64>
+    ensures { (values v : ℕ) → Terms question.now.sizes.free question.now.sizes.own values v terms.old → ((u : ℕ) × Terms question.now.sizes.free question.now.sizes.own values u terms.new) × ChoicesLooked (posed question.now) values (InWords (word_count question.now.sizes.free) present.now) wanted result }
 {
-    let words = words::word_count(sizes.free);
-    let mut rest = Rest { met: true, wanted };
-    let mut w: usize = 0;
-    while w < words {
-        rest = look_word(terms, clauses, sizes, w, present[w], rest.wanted);
-        if !rest.met {
-            return rest;
-        }
-        w += 1;
+    let mut rest = wanted;
+    for w in 0..words::word_count(question.sizes.free) {
+        rest = look_word(question, terms, w, present[w], rest)?;
     }
-    rest
+    Some(rest)
 }
 
-// The values that a key stands for.
-fn values_of(key: u32) -> u64
-    ensures { result ≡ key }
-{
-    key as u64
-}
-
-// What is left to find once the free choices below all leaves with the constants' values of leaf b are looked at; they are already if an earlier leaf has these.
+// What is still wanted once the free choices below all leaves with the constants' values of leaf b are looked at; they are already if an earlier leaf has these.
 fn look_leaf(
+    question: &Searchable<'_>,
     table: &[u64; TABLE_WORDS],
-    clauses: &[u8; CLAUSE_BYTES],
-    sizes: Sizes,
     keys: &[u32; 64],
     b: usize,
     terms: &mut [u64; 64],
     wanted: u64,
-) -> Rest
-    requires readable { Readable clauses.now sizes.counts sizes.free sizes.own }
-    requires b_bound { (b < 32) × (sizes.named < 2 ^ 32) × Within sizes.named (get_or keys.now b 0) × PlacedWithin sizes.free sizes.own sizes.named terms.old }
-    ensures placed_within { PlacedWithin sizes.free sizes.own sizes.named terms.new }
-    ensures by_index { (constants : List ℕ) (start : ℕ) → KeysOf (stored_by sizes clauses.now constants) keys.now → LeavesLooked (stored_by sizes clauses.now constants) table.now b start (all_met wanted) → LeavesLooked (stored_by sizes clauses.now constants) table.now (b + 1) start result }
+) -> Option<u64>
+    requires { (b < 32) × Within question.now.sizes.named (get_or keys.now b 0) × PlacedWithin question.now.sizes.free question.now.sizes.own question.now.sizes.named terms.old }
+    ensures placed_within { PlacedWithin question.now.sizes.free question.now.sizes.own question.now.sizes.named terms.new }
+    ensures by_index { (start : ℕ) → KeysOf (posed question.now) keys.now → LeavesLooked (posed question.now) table.now b start (Some wanted) → LeavesLooked (posed question.now) table.now (b + 1) start result }
 {
     if pass::first_like(keys, keys[b], b) < b {
-        return Rest { met: true, wanted };
+        return Some(wanted);
     }
     let mut present = [0u64; 64];
-    mark_alike(table, sizes.free, keys, b, &mut present);
-    words::set_constants(values_of(keys[b]), sizes.named, terms);
-    look_words(terms, clauses, sizes, &present, wanted)
+    mark_alike(table, question.sizes.free, keys, b, &mut present);
+    words::set_constants(u64::from(keys[b]), question.sizes.named, terms);
+    look_words(question, terms, &present, wanted)
 }
 
 // The values of the constants that are named, at each leaf.
-fn put_keys(constants: &[u64; 32], named: u64, keys: &mut [u32])
-    requires { (named < 2 ^ 32) × (length keys.old ≡ 64) }
+fn put_keys(constants: &[u64; 32], named: u64, keys: &mut [u32; 64])
+    requires { named < 2 ^ 32 }
     ensures { (a : ℕ) → a < 2 ^ constant_levels → get_or keys.new a 0 ≡ values_at constant_levels constants.now named constant_levels a }
 {
-    let mut b: usize = 0;
-    while b < LEAVES {
+    for b in 0..LEAVES {
         keys[b] = words::values_at(constants, named, LEVELS, b);
-        b += 1;
     }
 }
 
-// Whether the rows of a table extend to the second system, by own shares of any height.
-pub fn extends(
-    table: &[u64; TABLE_WORDS],
-    clauses: &[u8; CLAUSE_BYTES],
-    sizes: Sizes,
-    constants: &[u64; 32],
-) -> bool
-    requires { Readable clauses.now sizes.counts sizes.free sizes.own × (sizes.named < 2 ^ 32) }
-    ensures { result ≡ extends_in (stored_by sizes clauses.now constants.now) table.now }
+// Whether the rows of a table extend to the second system of a question, by own shares of any height.
+pub fn extends(question: &Searchable<'_>, table: &[u64; TABLE_WORDS]) -> bool
+    ensures { result ≡ extends_in (posed question.now) table.now }
 {
+    let sizes = question.sizes;
     let mut terms = [0u64; 64];
     words::start_terms(sizes.free, sizes.own, &mut terms);
     let mut keys = [0u32; 64];
-    put_keys(constants, sizes.named, &mut keys);
+    put_keys(question.constants, sizes.named, &mut keys);
     let mut wanted: u64 = (1 << sizes.counts[3]) - 1;
-    let mut b: usize = 0;
-    while b < LEAVES {
-        let rest = look_leaf(table, clauses, sizes, &keys, b, &mut terms, wanted);
-        if !rest.met {
+    for b in 0..LEAVES {
+        let Some(rest) = look_leaf(question, table, &keys, b, &mut terms, wanted) else {
             return false;
-        }
-        wanted = rest.wanted;
-        b += 1;
+        };
+        wanted = rest;
     }
     wanted == 0
 }

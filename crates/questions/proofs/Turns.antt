@@ -15,10 +15,7 @@ use Rattle.systems.specs.AtLeaves.{read_as}
 use Rattle.format.specs.declared.Section.{Section}
 use Rattle.format.specs.declared.Section.TheVariants.{FirstPositive, FirstDisequation, SecondPositive, SecondDisequation}
 use Rattle.format.specs.declared.Command.{Command}
-use Rattle.format.specs.declared.Head.{Head}
-use Rattle.format.specs.declared.Head.TheVariants.{Opens, Wrong}
-use Rattle.format.specs.declared.Step.{Step}
-use Rattle.format.specs.declared.Step.TheVariants.{Take, Refused}
+use Rattle.format.specs.Format.{Head, Opens, Wrong, Step, Take, Refused}
 use Rattle.format.specs.declared.Reading.{Reading}
 use Rattle.format.specs.Format.{most_constants, Result, refused, accepted, read_at, atom_of, fault, judged, taken, ended, go, stop, onward, turn, following, run, head_fits, kind_from, most_of, in_section, opened, head_of, read}
 use Rattle.format.specs.Stored.{kind_number, clause_bytes, section_start, readings_at, Stored, stored, stored_of, count_of, defined_by, named_word, Stands, reading_of, written_onward, command_written, written_by, clauses_after, leading_of, is_leading, constant_at, place_of, leading}
