@@ -8,6 +8,7 @@ use Rattle.std.proofs.Math.ListN.{length-set}
 use borrow.Author.Tests.{ltb-true, ltb-false, lt-leb}
 use Rattle.shares.specs.Test.{of_true}
 use Rattle.shares.specs.Constant.{constant_levels, number, bytes_at}
+use Rattle.format.specs.Worked
 use Rattle.format.specs.declared.Shape.{Shape}
 use Rattle.format.specs.declared.Command.{Command}
 use Rattle.format.specs.Format.{Step, Take, Refused, most_constants, entry_of, term_count, clause_at, command_of, whole_at, read_at}
