@@ -15,7 +15,7 @@ use Rattle.systems.specs.AtLeaves.{read_as}
 use Rattle.format.specs.declared.Section.{Section}
 use Rattle.format.specs.declared.Section.TheVariants.{FirstPositive, FirstDisequation, SecondPositive, SecondDisequation}
 use Rattle.format.specs.declared.Command.{Command}
-use Rattle.format.specs.Format.{Head, Opens, Wrong, Step, Take, Refused}
+use Rattle.format.specs.Format.{Opens, Wrong, Step, Take, Refused}
 use Rattle.format.specs.declared.Kind.{Kind as HeldKind}
 use Rattle.format.specs.declared.Question.{Question as Held}
 use Rattle.format.specs.Numbers.{kind_value}

@@ -1,5 +1,5 @@
 -- `questions::read` meets its contract: the head, then the commands. Assumes nothing.
-use mathlib.Core.Path.{ap, sym, ◌∙◌}
+use mathlib.Core.Path.{ap, ◌∙◌}
 use Rattle.format.specs.Stored.{reading_of}
 use Rattle.questions.proofs.Turns.{refused_head, head_taken, read_on_lem, written_on_lem}
 use Rattle.questions.proofs.read.Goals as goal
