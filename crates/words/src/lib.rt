@@ -7,6 +7,8 @@ ghost use Rattle.shares.specs.Constant.{constant_levels, bit};
 ghost use Rattle.words.specs.Clause.{test_way, test_value, WaysOf, clause_test, all_clauses, position, Clauses};
 ghost use Rattle.words.specs.Choices.{word_count, values_at};
 ghost use Rattle.words.specs.Table.{Terms, Changed, Within};
+ghost use Rattle.words.specs.SetBits.{LowestFirst};
+ghost use Rattle.std.specs.Iterator.{at_most};
 
 use basics::{CLAUSE_BYTES, FULL_PART};
 use shares::Way;
@@ -128,11 +130,8 @@ fn leaf_values(constants: &[u64; 32], named: u64, leaf: usize) -> u64
     ensures { (i : ℕ) → bit result i ≡ (bit named i && bit (get_or constants.now i 0) leaf) }
 {
     let mut r: u64 = 0;
-    let mut rest = named;
-    while rest != 0 {
-        let i = lowest(rest);
+    for i in bits(named) {
         r = r | (((constants[i] >> leaf) & 1) << i);
-        rest = without_lowest(rest);
     }
     r
 }
@@ -189,11 +188,8 @@ pub fn set_constants(values: u64, named: u64, terms: &mut [u64])
     requires { (named < 2 ^ 32) × (length terms.old ≡ 64) }
     ensures { (n m old w : ℕ) → n + m ≤ 12 → Within named old → Within named values → Terms n m old w terms.old → Terms n m values w terms.new }
 {
-    let mut rest = named;
-    while rest != 0 {
-        let i = lowest(rest);
+    for i in bits(named) {
         terms[32 + i] = spread(basics::digit(values, i));
-        rest = without_lowest(rest);
     }
 }
 
@@ -241,6 +237,36 @@ pub fn without_lowest(x: u64) -> u64
     ensures { (result ≤ x) × ((k : ℕ) → bit result k ≡ (bit x k && not (eqb k (first_below 64 (bit x))))) }
 {
     x & (x - 1)
+}
+
+// The numbers of the bits of a word that are set, the lowest first.
+#[derive(Drop)]
+pub struct SetBits {
+    pub rest: u64,
+}
+
+impl Iterator for SetBits {
+    type Item = usize;
+
+    ghost next_gives = { LowestFirst };
+
+    ghost remaining = { λ b. at_most b.rest };
+
+    fn next(&mut self) -> Option<usize> {
+        if self.rest == 0 {
+            return None;
+        }
+        let i = lowest(self.rest);
+        self.rest = without_lowest(self.rest);
+        Some(i)
+    }
+}
+
+// The numbers of the bits of x that are set.
+pub fn bits(x: u64) -> SetBits
+    ensures { result.rest ≡ x }
+{
+    SetBits { rest: x }
 }
 
 // The first `count` bits of x.
