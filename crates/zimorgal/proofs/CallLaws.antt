@@ -1,9 +1,5 @@
 -- Laws of the other calls' numbers: what they hold is read back from them, and what a join's stands for. Assumes nothing.
-<<<<<<< HEAD
-use Rattle.std.specs.Prelude.{◌≡◌, refl, None, Some, Bool, true, false, not, cond, List, ◌⊎◌, ℕ, ◌+◌, ◌*◌, ◌/◌, ◌%◌, ◌^◌, ◌≤◌, ◌<◌, T, length, take, drop}
-=======
-use Rattle.std.specs.Prelude.{◌≡◌, refl, Bool, true, false, not, cond, List, ◌⊎◌, ℕ, Result, Ok, ◌+◌, ◌/◌, ◌%◌, ◌^◌, ◌≤◌, ◌<◌, T, length, take, drop}
->>>>>>> 84a247244a934e546d7a532e3a458a61329519ce
+use Rattle.std.specs.Prelude.{◌≡◌, refl, Result, Ok, None, Some, Bool, true, false, not, cond, List, ◌⊎◌, ℕ, ◌+◌, ◌/◌, ◌%◌, ◌^◌, ◌≤◌, ◌<◌, T, length, take, drop}
 use Rattle.std.proofs.Math.Path.{ap}
 use Rattle.std.proofs.Common.{◌∙◌, inl, inr, arith, eq-eqb, ne_eqb}
 use Rattle.std.proofs.Math.Option.{none, some}
@@ -87,16 +83,6 @@ module _ (levels a b : ℕ) (ha : a < undefined_join levels) (hb : b < undefined
 
 -- ---- the cases
 
-<<<<<<< HEAD
-pub text_written : (w : Written) (n : ℕ) → w ≡ Length n → n ≡ text_number w
-text_written w n e = rw e (omega arith)
-
-pub text_refused : (w : Written) (n x : ℕ) → w ≡ Refused n → x ≡ n → 4294967296 * x ≡ text_number w
-text_refused w n x e h = rw e (omega arith)
-
 pub number_cases : (levels : ℕ) (s : Bool) (n : ℕ) → join_number levels (cond s None (Some n)) ≡ cond s (undefined_join levels) n
-=======
-pub number_cases : (levels : ℕ) (s : Bool) (n : ℕ) → join_number levels (cond s Undefined (Constant n)) ≡ cond s (undefined_join levels) n
->>>>>>> 84a247244a934e546d7a532e3a458a61329519ce
 number_cases levels true n = refl
 number_cases levels false n = refl
