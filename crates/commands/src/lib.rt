@@ -5,33 +5,40 @@ pub mod opening;
 pub mod table;
 
 ghost use Rattle.std.specs.Prelude.{◌≡◌, ◌+◌, ◌≤◌, length};
-ghost use Rattle.format.specs.Format.{term_count, operands, term_byte, clause_at, command_of, read_at};
+ghost use Rattle.format.specs.Format.{term_count, operands, term_byte, terms_at, clause_at, command_of, read_at};
 ghost use Rattle.format.specs.Stored.{leading_of};
+ghost use Rattle.format.specs.Told.{step_told};
 
-use format::{Command, Entry, Leading, Section, Shape, Step, Test};
+use format::{Command, Fault, Leading, Section, Shape, Taken, Terms, Test};
 
 // A constant's command has this many bytes.
 pub const CONSTANT_SIZE: usize = 5;
 
 // The byte of term number k of a clause with so many terms, 0 where it has none.
-pub fn term_byte(bytes: &[u8], i: usize, count: usize, k: usize) -> u8
+fn term_byte(bytes: &[u8], i: usize, count: usize, k: usize) -> u8
     requires { i + count ≤ length bytes.now }
     ensures { result ≡ term_byte bytes.now i count k }
 {
-    if k < count {
-        return bytes[i + k];
-    }
-    0
+    if k < count { bytes[i + k] } else { 0 }
+}
+
+// The bytes of a clause's terms, which start at an offset.
+pub fn terms_at(bytes: &[u8], i: usize, test: Test) -> Terms
+    requires { i + term_count test ≤ length bytes.now }
+    ensures { result ≡ terms_at bytes.now i test }
+{
+    let count = table::term_count(test);
+    let a = term_byte(bytes, i, count, 0);
+    let b = term_byte(bytes, i, count, 1);
+    let c = term_byte(bytes, i, count, 2);
+    Terms { a, b, c }
 }
 
 fn clause_at(bytes: &[u8], i: usize, section: Section, test: Test) -> Command
     requires { i + term_count test ≤ length bytes.now }
     ensures { result ≡ clause_at bytes.now i section test }
 {
-    let count = table::term_count(test);
-    let a = term_byte(bytes, i, count, 0);
-    let b = term_byte(bytes, i, count, 1);
-    let c = term_byte(bytes, i, count, 2);
+    let Terms { a, b, c } = terms_at(bytes, i, test);
     Command::Clause {
         section,
         test,
@@ -42,6 +49,7 @@ fn clause_at(bytes: &[u8], i: usize, section: Section, test: Test) -> Command
 }
 
 // The command whose operands start at an offset.
+#[tactic(auto, unfolding(format::specs::Format::command_of))]
 fn command_of(bytes: &[u8], i: usize, shape: Shape) -> Command
     requires { i + operands shape ≤ length bytes.now }
     ensures { result ≡ command_of bytes.now i shape }
@@ -54,50 +62,38 @@ fn command_of(bytes: &[u8], i: usize, shape: Shape) -> Command
     }
 }
 
-// What stands at an offset where one more constant may stand.
-pub fn constant_at(bytes: &[u8], at: usize) -> Leading
+// The constant that stands at an offset where one more may stand.
+pub fn constant_at(bytes: &[u8], at: usize) -> Option<Leading>
     ensures { result ≡ leading_of (read_at bytes.now at) }
 {
-    if bytes.len() <= at {
-        return Leading::Other;
-    }
-    let entry = table::entry_of(bytes[at]);
-    let Entry::Known(shape) = entry else {
-        return Leading::Other;
+    let Ok(Taken { command, next }) = read_at(bytes, at) else {
+        return None;
     };
-    let Shape::Constant = shape else {
-        return Leading::Other;
+    let Command::Constant(number) = command else {
+        return None;
     };
-    let width = table::operand_count(shape);
-    let from = at + 1;
-    if bytes.len() - from < width {
-        return Leading::Other;
-    }
-    Leading::Constant {
-        number: basics::four_bytes(bytes, from),
-        next: from + width,
-    }
+    Some(Leading { number, next })
 }
 
 // What stands at an offset where a command is due.
-pub fn read_at(bytes: &[u8], at: usize) -> Step
-    ensures { result ≡ read_at bytes.now at }
+#[tactic(auto, unfolding(format::specs::Format::read_at, format::specs::Format::whole_at))]
+pub fn read_at(bytes: &[u8], at: usize) -> Result<Taken, Fault>
+    ensures { step_told result ≡ read_at bytes.now at }
 {
     if bytes.len() <= at {
-        return Step::Refused(2);
+        return Err(Fault::CutShort);
     }
-    let entry = table::entry_of(bytes[at]);
-    let Entry::Known(shape) = entry else {
-        return Step::Refused(3);
+    let Some(shape) = table::entry_of(bytes[at]) else {
+        return Err(Fault::UnknownCommand);
     };
     let width = table::operand_count(shape);
     let from = at + 1;
     if bytes.len() - from < width {
-        return Step::Refused(2);
+        return Err(Fault::CutShort);
     }
     let command = command_of(bytes, from, shape);
-    Step::Take {
+    Ok(Taken {
         command,
         next: from + width,
-    }
+    })
 }

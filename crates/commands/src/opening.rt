@@ -1,56 +1,63 @@
 // The head, the first command.
-ghost use Rattle.std.specs.Prelude.{◌≡◌, ◌<◌};
+ghost use Rattle.std.specs.Prelude.{◌≡◌, ◌<◌, MatchOption};
 ghost use Rattle.format.specs.Format.{head_fits, head_of};
-ghost use Rattle.format.specs.Keeping.{wrong_of};
+ghost use Rattle.format.specs.Numbers.{kind_value};
+ghost use Rattle.format.specs.Told.{head_told};
 
-use format::Head;
+use format::{Fault, Head, Kind};
 
-fn head_fits(kind: u8, free: usize, own: usize) -> bool
-    requires { (free < 256) × (own < 256) }
-    ensures { result ≡ head_fits kind free own }
+// The command byte of a head.
+const HEAD_BYTE: u8 = 1;
+
+// A question has at most this many variables.
+const MOST_VARIABLES: usize = 12;
+
+// The kind that a byte says.
+fn kind_of(byte: u8) -> Option<Kind>
+    ensures { MatchOption result (1 < byte) (λ kind. byte ≡ kind_value kind) }
 {
-    if 1 < kind {
-        return false;
+    match byte {
+        0 => Some(Kind::Satisfiability),
+        1 => Some(Kind::Entailment),
+        _ => None,
     }
-    if 12 < free + own {
-        return false;
-    }
-    if kind == 0 {
-        return own == 0;
-    }
-    true
 }
 
-pub fn read_head(bytes: &[u8]) -> Head
-    ensures { result ≡ head_of bytes.now }
+// Whether so many variables may stand in a question of this kind, which has no own ones where it is of satisfiability.
+#[tactic(auto, unfolding(format::specs::Format::head_fits))]
+fn head_fits(kind: Kind, free: usize, own: usize) -> bool
+    requires { (free < 256) × (own < 256) }
+    ensures { result ≡ head_fits (kind_value kind) free own }
+{
+    if MOST_VARIABLES < free + own {
+        return false;
+    }
+    match kind {
+        Kind::Satisfiability => own == 0,
+        Kind::Entailment => true,
+    }
+}
+
+#[tactic(auto, unfolding(format::specs::Format::head_of))]
+pub fn read_head(bytes: &[u8]) -> Result<Head, Fault>
+    ensures { head_told result ≡ head_of bytes.now }
 {
     if bytes.len() < 1 {
-        return Head::Wrong(1);
+        return Err(Fault::NoHead);
     }
-    if bytes[0] != 1 {
-        return Head::Wrong(1);
+    if bytes[0] != HEAD_BYTE {
+        return Err(Fault::NoHead);
     }
     if bytes.len() < 4 {
-        return Head::Wrong(2);
+        return Err(Fault::CutShort);
     }
-    let kind = bytes[1];
-    let free = basics::index(bytes[2]);
-    let own = basics::index(bytes[3]);
+    let Some(kind) = kind_of(bytes[1]) else {
+        return Err(Fault::UnfitHead);
+    };
+    let free = usize::from(bytes[2]);
+    let own = usize::from(bytes[3]);
     if head_fits(kind, free, own) {
-        return Head::Opens { kind, free, own };
+        return Ok(Head { kind, free, own });
     }
-    Head::Wrong(5)
-}
-
-pub fn wrong_of(h: Head) -> u8
-    ensures { result ≡ wrong_of h }
-{
-    match h {
-        Head::Opens {
-            kind: _,
-            free: _,
-            own: _,
-        } => 0,
-        Head::Wrong(n) => n,
-    }
+    Err(Fault::UnfitHead)
 }

@@ -4,57 +4,60 @@ ghost use Rattle.format.specs.Format.{entry_of, term_count, operands};
 ghost use Rattle.format.specs.Stored.{four, join_for};
 
 use basics::{EMPTY_PART, FULL_PART};
-use format::{Entry, LeafJoin, Section, Shape, Test};
+use format::{LeafJoin, Section, Shape, Test};
 
 // The commands that are no clauses.
-fn plain_entry(byte: u8) -> Entry
+#[tactic(auto, unfolding(format::specs::Format::entry_of))]
+fn plain_entry(byte: u8) -> Option<Shape>
     requires { byte < 0x10 }
     ensures { result ≡ entry_of byte }
 {
     match byte {
-        0x00 => Entry::Known(Shape::End),
-        0x01 => Entry::Known(Shape::Head),
-        0x03 => Entry::Known(Shape::Constant),
-        _ => Entry::Unknown,
+        0x00 => Some(Shape::End),
+        0x01 => Some(Shape::Head),
+        0x03 => Some(Shape::Constant),
+        _ => None,
     }
 }
 
 // Joins, equalities and their negations.
-fn clause_entry(byte: u8) -> Entry
+#[tactic(auto, unfolding(format::specs::Format::entry_of))]
+fn clause_entry(byte: u8) -> Option<Shape>
     requires { (0x10 ≤ byte) × (byte < 0x30) }
     ensures { result ≡ entry_of byte }
 {
     match byte {
-        0x10 => Entry::Known(Shape::Clause(Section::FirstPositive, Test::Join)),
-        0x11 => Entry::Known(Shape::Clause(Section::FirstDisequation, Test::Join)),
-        0x12 => Entry::Known(Shape::Clause(Section::FirstPositive, Test::Equality)),
-        0x13 => Entry::Known(Shape::Clause(Section::FirstDisequation, Test::Equality)),
-        0x20 => Entry::Known(Shape::Clause(Section::SecondPositive, Test::Join)),
-        0x21 => Entry::Known(Shape::Clause(Section::SecondDisequation, Test::Join)),
-        0x22 => Entry::Known(Shape::Clause(Section::SecondPositive, Test::Equality)),
-        0x23 => Entry::Known(Shape::Clause(Section::SecondDisequation, Test::Equality)),
-        _ => Entry::Unknown,
+        0x10 => Some(Shape::Clause(Section::FirstPositive, Test::Join)),
+        0x11 => Some(Shape::Clause(Section::FirstDisequation, Test::Join)),
+        0x12 => Some(Shape::Clause(Section::FirstPositive, Test::Equality)),
+        0x13 => Some(Shape::Clause(Section::FirstDisequation, Test::Equality)),
+        0x20 => Some(Shape::Clause(Section::SecondPositive, Test::Join)),
+        0x21 => Some(Shape::Clause(Section::SecondDisequation, Test::Join)),
+        0x22 => Some(Shape::Clause(Section::SecondPositive, Test::Equality)),
+        0x23 => Some(Shape::Clause(Section::SecondDisequation, Test::Equality)),
+        _ => None,
     }
 }
 
 // Permission policies.
-fn policy_entry(byte: u8) -> Entry
+#[tactic(auto, unfolding(format::specs::Format::entry_of))]
+fn policy_entry(byte: u8) -> Option<Shape>
     requires { 0x30 ≤ byte }
     ensures { result ≡ entry_of byte }
 {
     match byte {
-        0x30 => Entry::Known(Shape::Clause(Section::FirstPositive, Test::Full)),
-        0x31 => Entry::Known(Shape::Clause(Section::FirstDisequation, Test::Empty)),
-        0x32 => Entry::Known(Shape::Clause(Section::FirstPositive, Test::Together)),
-        0x38 => Entry::Known(Shape::Clause(Section::SecondPositive, Test::Full)),
-        0x39 => Entry::Known(Shape::Clause(Section::SecondDisequation, Test::Empty)),
-        0x3A => Entry::Known(Shape::Clause(Section::SecondPositive, Test::Together)),
-        _ => Entry::Unknown,
+        0x30 => Some(Shape::Clause(Section::FirstPositive, Test::Full)),
+        0x31 => Some(Shape::Clause(Section::FirstDisequation, Test::Empty)),
+        0x32 => Some(Shape::Clause(Section::FirstPositive, Test::Together)),
+        0x38 => Some(Shape::Clause(Section::SecondPositive, Test::Full)),
+        0x39 => Some(Shape::Clause(Section::SecondDisequation, Test::Empty)),
+        0x3A => Some(Shape::Clause(Section::SecondPositive, Test::Together)),
+        _ => None,
     }
 }
 
 // What a command byte announces. One long table would be a function of its own for the compiler, called for each command of a question.
-pub fn entry_of(byte: u8) -> Entry
+pub fn entry_of(byte: u8) -> Option<Shape>
     ensures { result ≡ entry_of byte }
 {
     if byte < 0x10 {
@@ -102,6 +105,7 @@ fn four(form: u8, first: u8, second: u8, sum: u8) -> LeafJoin
 }
 
 // How a test with these terms reads as a join at one leaf.
+#[tactic(auto, using(format::proofs::KeepingLaws::byte_back))]
 pub fn join_for(test: Test, a: u8, b: u8, c: u8) -> LeafJoin
     ensures { result ≡ join_for test a b c }
 {

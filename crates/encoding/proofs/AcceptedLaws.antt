@@ -13,12 +13,9 @@ use Rattle.format.specs.declared.Section.TheVariants.{FirstPositive, FirstDisequ
 use Rattle.format.specs.declared.Test.{Test}
 use Rattle.format.specs.declared.Test.TheVariants.{Join, Equality, Full, Empty, Together}
 use Rattle.format.specs.declared.Shape.{Shape}
-use Rattle.format.specs.declared.Entry.TheVariants.{Known}
+use Rattle.std.specs.Prelude.{Some}
 use Rattle.format.specs.declared.Command.{Command}
-use Rattle.format.specs.declared.Head.{Head}
-use Rattle.format.specs.declared.Head.TheVariants.{Opens, Wrong}
-use Rattle.format.specs.declared.Step.{Step}
-use Rattle.format.specs.declared.Step.TheVariants.{Take, Refused}
+use Rattle.format.specs.Format.{Head, Opens, Wrong, Step, Take, Refused}
 use Rattle.format.specs.Format.{Result, refused, accepted, entry_of, read_at, atom_of, is_foreign, fault, judged, with_first, with_clause, with_constant, taken, ended, onward, turn, head_fits, kind_from, opened, head_of, after_head, read}
 use Rattle.format.specs.Stored.{kind_number}
 use Rattle.format.specs.SectionLaws.{clause_keeps}
@@ -32,7 +29,7 @@ use Rattle.encoding.proofs.EncodeLaws.{read_encode}
 
 -- ---- a clause that is read has a command
 
-known_has : (σ : Section) (t : Test) (a b c : ℕ) → entry_of (clause_byte σ t) ≡ Known (Shape.Clause σ t)
+known_has : (σ : Section) (t : Test) (a b c : ℕ) → entry_of (clause_byte σ t) ≡ Some (Shape.Clause σ t)
     → AllHaveCommands (first_said σ (atom_of t a b c)) × AllHaveCommands (second_said σ (atom_of t a b c))
 unfolding entry_of
 known_has FirstPositive Join a b c e = ((tt, tt), tt)
@@ -80,7 +77,7 @@ abbrev SayableResult : Result → Type 0
 SayableResult (refused n place) = Unit {0}
 SayableResult (accepted q) = Sayable q
 
-sayable_clause : (q : Question) (σ : Section) (t : Test) (a b c : ℕ) → entry_of (clause_byte σ t) ≡ Known (Shape.Clause σ t) → Sayable q
+sayable_clause : (q : Question) (σ : Section) (t : Test) (a b c : ℕ) → entry_of (clause_byte σ t) ≡ Some (Shape.Clause σ t) → Sayable q
     → Sayable (with_clause q σ (atom_of t a b c))
 sayable_clause q σ t a b c e d =
     let k = known_has σ t a b c e in

@@ -10,12 +10,9 @@ use Rattle.format.specs.declared.Section.TheVariants.{FirstPositive, FirstDisequ
 use Rattle.format.specs.declared.Test.{Test}
 use Rattle.format.specs.declared.Test.TheVariants.{Join, Equality, Full, Empty, Together}
 use Rattle.format.specs.declared.Shape.{Shape}
-use Rattle.format.specs.declared.Entry.{Entry}
-use Rattle.format.specs.declared.Entry.TheVariants.{Known, Unknown}
+use Rattle.std.specs.Prelude.{Option, Some, None}
 use Rattle.format.specs.declared.Command.{Command}
-use Rattle.format.specs.declared.Step.{Step}
-use Rattle.format.specs.declared.Step.TheVariants.{Take, Refused}
-use Rattle.format.specs.Format.{entry_of, term_count, operands, term_byte, command_of, whole_at, read_at}
+use Rattle.format.specs.Format.{Step, Take, Refused, entry_of, term_count, operands, term_byte, command_of, whole_at, read_at}
 use Rattle.format.proofs.FormatLaws.{term_small, branch, size}
 use Rattle.format.proofs.KeepingLaws.{Bytes, take_bytes, command_proper}
 use Rattle.encoding.specs.Worked
@@ -45,14 +42,14 @@ bytes_back (b ∷ l) h = ap₂ ◌∷◌ (low (number l) 8 (h 0)) (ap (lowest_by
 -- ---- command bytes
 
 -- what a known byte announces has that byte
-Announces : ℕ → Entry → Type 0
-Announces b (Known h) = command_byte h ≡ b
-Announces b Unknown = Unit {0}
+Announces : ℕ → Option Shape → Type 0
+Announces b (Some h) = command_byte h ≡ b
+Announces b None = Unit {0}
 
 -- one line of the table
-row : (b n : ℕ) (h : Shape) (e : Entry) → command_byte h ≡ n → Announces b e → Announces b (cond (eqb b n) (Known h) e)
+row : (b n : ℕ) (h : Shape) (e : Option Shape) → command_byte h ≡ n → Announces b e → Announces b (cond (eqb b n) (Some h) e)
 unfolding Announces
-row b n h e c f = branch (Announces b) (eqb b n) (Known h) e (λ t. c ∙ sym (eqb-true b n t)) (λ _. f)
+row b n h e c f = branch (Announces b) (eqb b n) (Some h) e (λ t. c ∙ sym (eqb-true b n t)) (λ _. f)
 
 announced : (b : ℕ) → Announces b (entry_of b)
 unfolding entry_of Announces
@@ -73,10 +70,10 @@ announced b =
     (row b 0x32 (Shape.Clause FirstPositive Together) _ refl
     (row b 0x38 (Shape.Clause SecondPositive Full) _ refl
     (row b 0x39 (Shape.Clause SecondDisequation Empty) _ refl
-    (row b 0x3A (Shape.Clause SecondPositive Together) Unknown refl tt))))))))))))))))
+    (row b 0x3A (Shape.Clause SecondPositive Together) None refl tt))))))))))))))))
 
 -- the byte of what a byte announces is that byte
-pub command_byte_lem : (b : ℕ) (h : Shape) → entry_of b ≡ Known h → command_byte h ≡ b
+pub command_byte_lem : (b : ℕ) (h : Shape) → entry_of b ≡ Some h → command_byte h ≡ b
 unfolding Announces
 command_byte_lem b h e = rw e at (announced b)
 
@@ -91,9 +88,9 @@ abbrev pub Readable : Command → Type 0
 Readable Command.End = Unit {0}
 Readable Command.Head = ⊥
 Readable (Command.Constant x) = x < 2 ^ (8 * bytes_at constant_levels)
-Readable (Command.Clause σ t a b c) = (entry_of (clause_byte σ t) ≡ Known (Shape.Clause σ t)) × Absent t b c
+Readable (Command.Clause σ t a b c) = (entry_of (clause_byte σ t) ≡ Some (Shape.Clause σ t)) × Absent t b c
 
-entry_back : (c : Command) → Readable c → entry_of (command_byte (shape_of c)) ≡ Known (shape_of c)
+entry_back : (c : Command) → Readable c → entry_of (command_byte (shape_of c)) ≡ Some (shape_of c)
 unfolding entry_of
 entry_back Command.End r = refl
 entry_back Command.Head r = refl
@@ -159,7 +156,7 @@ read_back p rest c r =
     let b = command_byte (shape_of c) in
     let s : List ℕ = p ++ (encode_command c ++ rest) in
     let n : length s ≡ length p + (1 + operands (shape_of c) + length rest) = simp length-append (omega (arith, operands_length c r)) in
-    let known : entry_of (get_or s (length p) 0) ≡ Known (shape_of c) = ap entry_of (get_or-append_seam p b (operand_bytes c ++ rest) 0) ∙ entry_back c r in
+    let known : entry_of (get_or s (length p) 0) ≡ Some (shape_of c) = ap entry_of (get_or-append_seam p b (operand_bytes c ++ rest) 0) ∙ entry_back c r in
     let before : length (p ++ (b ∷ [])) ≡ length p + 1 = simp length-append in
     let whole : command_of s (length p + 1) (shape_of c) ≡ c =
     ap₂ (λ l i. command_of l i (shape_of c)) (sym (append_assoc p (b ∷ []) (operand_bytes c ++ rest))) (sym before) ∙ operands_back (p ++ (b ∷ [])) rest c r in
@@ -210,7 +207,7 @@ module _ (s : List ℕ) (bytes : Bytes s) (at : ℕ) (l : at < length s) where
   rest_length = length-drop (at + 1) s
 
   -- the command byte, and then its operands
-  byte_first : (h : Shape) → entry_of (get_or s at 0) ≡ Known h → take (1 + operands h) (drop at s) ≡ command_byte h ∷ take (operands h) (drop (at + 1) s)
+  byte_first : (h : Shape) → entry_of (get_or s at 0) ≡ Some h → take (1 + operands h) (drop at s) ≡ command_byte h ∷ take (operands h) (drop (at + 1) s)
   byte_first h e =
       let n : 1 + operands h ≡ suc (operands h) = omega arith in
       let i : suc at ≡ at + 1 = omega arith in
@@ -229,7 +226,7 @@ module _ (s : List ℕ) (bytes : Bytes s) (at : ℕ) (l : at < length s) where
       ≡ take (term_count t) (drop (at + 1) s)
   terms_stand t f = simp get_or-drop at (select_first (term_count t) (drop (at + 1) s) (term_small t) (omega (arith, rest_length)))
 
-  again : (h : Shape) → entry_of (get_or s at 0) ≡ Known h → operands h ≤ length s - (at + 1) → Again s at (command_of s (at + 1) h)
+  again : (h : Shape) → entry_of (get_or s at 0) ≡ Some h → operands h ≤ length s - (at + 1) → Again s at (command_of s (at + 1) h)
   unfolding command_of
   again Shape.End e f = (tt, byte_first Shape.End e)
   again Shape.Head e f = tt
@@ -247,8 +244,8 @@ unfolding read_at whole_at
 read_again s bytes at =
     branch (AgainStep s at) (ltb at (length s)) _ (Refused 2) (λ l. entry (ltb-true at (length s) l) (entry_of (get_or s at 0)) refl) (λ _. tt)
   where
-    entry : at < length s → (e : Entry) → entry_of (get_or s at 0) ≡ e → AgainStep s at (whole_at s at e)
-    entry l Unknown e = tt
-    entry l (Known h) e =
+    entry : at < length s → (e : Option Shape) → entry_of (get_or s at 0) ≡ e → AgainStep s at (whole_at s at e)
+    entry l None e = tt
+    entry l (Some h) e =
         branch (AgainStep s at) (ltb (length s - (at + 1)) (operands h)) (Refused 2) (Take (command_of s (at + 1) h) (at + 1 + operands h)) (λ _. tt)
         (λ f. again s bytes at l h e (ltb-false (length s - (at + 1)) (operands h) f))

@@ -13,8 +13,7 @@ use Rattle.format.specs.declared.Section.TheVariants.{FirstPositive, FirstDisequ
 use Rattle.format.specs.declared.Test.{Test}
 use Rattle.format.specs.declared.Test.TheVariants.{Join, Equality, Full, Empty, Together}
 use Rattle.format.specs.declared.Command.{Command}
-use Rattle.format.specs.declared.Head.TheVariants.{Opens}
-use Rattle.format.specs.declared.Step.TheVariants.{Take, Refused}
+use Rattle.format.specs.Format.{Opens, Take, Refused}
 use Rattle.format.specs.Format.{refused, accepted, most_variables, most_constants, most_positive, most_disequations, entry_of, is_second, most_of, in_section, term_of, names, variables_for, all_named, is_foreign, fault, judged, with_clause, taken, ended, go, onward, turn, following, run, head_fits, kind_from, opened, head_of, after_head, read}
 use Rattle.format.specs.Stored.{kind_number}
 use Rattle.format.specs.Keeping.{is_end}

@@ -6,10 +6,7 @@ use Rattle.systems.specs.Questions.{Question}
 use Rattle.format.specs.declared.Section.{Section}
 use Rattle.format.specs.declared.Section.TheVariants.{FirstPositive, FirstDisequation, SecondPositive, SecondDisequation}
 use Rattle.format.specs.declared.Command.{Command}
-use Rattle.format.specs.declared.Head.{Head}
-use Rattle.format.specs.declared.Head.TheVariants.{Opens, Wrong}
-use Rattle.format.specs.declared.Step.{Step}
-use Rattle.format.specs.declared.Step.TheVariants.{Take, Refused}
+use Rattle.format.specs.Format.{Head, Opens, Wrong, Step, Take, Refused}
 use Rattle.format.specs.Format.{refused, accepted, read_at, atom_of, fault, judged, with_clause, taken, ended, onward, turn, following, run, opened, head_of, after_head, read}
 use Rattle.encoding.specs.Worked
 use Rattle.encoding.specs.Order.{read_on, commands_from, commands_of, first_said, second_said, first_clause, second_clause, first_clauses, second_clauses}

@@ -4,9 +4,7 @@ use Rattle.systems.specs.Clauses.{Atom, positive, negated, System}
 use Rattle.format.specs.declared.Section.{Section}
 use Rattle.format.specs.declared.Section.TheVariants.{FirstPositive, FirstDisequation, SecondPositive, SecondDisequation}
 use Rattle.format.specs.declared.Command.{Command}
-use Rattle.format.specs.declared.Step.{Step}
-use Rattle.format.specs.declared.Step.TheVariants.{Take, Refused}
-use Rattle.format.specs.Format.{atom_of, read_at}
+use Rattle.format.specs.Format.{Step, Take, Refused, atom_of, read_at}
 
 -- ---- the commands
 

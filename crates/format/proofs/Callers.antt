@@ -5,37 +5,40 @@ use Rattle.std.proofs.Math.ListN.{get_or-append}
 use Rattle.std.proofs.lemmas.List.{get_or_at}
 use Rattle.systems.specs.Questions.{Kind, satisfiability, entailment, Question, WellFormed}
 use Rattle.systems.specs.AtLeaves.{LeafReading}
-use Rattle.format.specs.declared.Reading.{Reading}
+use Rattle.format.specs.declared.Question.{Question as Held}
+use Rattle.format.specs.Numbers.{kind_value}
 use Rattle.format.specs.Format.{Result, refused, accepted, read}
-use Rattle.format.specs.Stored.{kind_number, reading_from, four_at, readings_at, Stored, stored_of, Stands, reading_of}
-use Rattle.format.proofs.FormatLaws.{accepted_formed, refusal_number}
+use Rattle.format.specs.Stored.{kind_number, reading_from, four_at, readings_at, Stored, stored_of, Stands, refused_with, held, reading_of}
+use Rattle.format.proofs.FormatLaws.{accepted_formed}
 use Rattle.format.proofs.KeepingLaws.{readings_length}
 
 -- ---- the answer
 
--- refusal 0: the bytes are those of a question, and what is stored stands for it
-pub record Taken (s : List ℕ) (r : Reading) (clauses : List ℕ) : Type 0 where
+-- a question is handed over: the bytes are those of one, and what is stored stands for it
+pub record Taken (s : List ℕ) (x : Held) (clauses : List ℕ) : Type 0 where
   pub question : Question
   pub read : read s ≡ accepted question
-  pub stands : Stands r.question.kind (stored_of r.question clauses) question
+  pub stands : Stands (kind_value x.kind) (stored_of x clauses) question
   pub formed : WellFormed question
 
-module _ (s : List ℕ) (r : Reading) (e : r ≡ reading_of (read s)) where
-  pub answer_taken : (clauses : List ℕ) → ((q : Question) → read s ≡ accepted q → Stands r.question.kind (stored_of r.question clauses) q)
-      → r.refusal ≡ 0 → Taken s r clauses
-  answer_taken clauses d z = pick (read s) refl e
-    where
-      pick : (o : Result) → read s ≡ o → r ≡ reading_of o → Taken s r clauses
-      pick (accepted q) h b = record { question = q; read = h; stands = d q h; formed = accepted_formed s q h }
-      pick (refused n p) h b = absurd (omega (arith, (refusal_number s n p h).0, ap (λ r. r.refusal) b))
+pub answer_taken : (s : List ℕ) (x : Held) → held x ≡ reading_of (read s) → (clauses : List ℕ)
+    → ((q : Question) → read s ≡ accepted q → Stands (kind_value x.kind) (stored_of x clauses) q) → Taken s x clauses
+answer_taken s x e clauses d = pick (read s) refl e
+  where
+    pick : (o : Result) → read s ≡ o → held x ≡ reading_of o → Taken s x clauses
+    pick (accepted q) h b = record { question = q; read = h; stands = d q h; formed = accepted_formed s q h }
+    pick (refused n p) h b = let z : ◌≡◌ {A = ℕ} 0 1 = cc in absurd (omega arith)
 
-  -- any other: its number and its place are those of the definition
-  pub answer_refused : (r.refusal ≡ 0 → ⊥) → read s ≡ refused r.refusal r.place
-  answer_refused z = pick (read s) refl e
-    where
-      pick : (o : Result) → read s ≡ o → r ≡ reading_of o → read s ≡ refused r.refusal r.place
-      pick (accepted q) h b = absurd (z (ap (λ r. r.refusal) b))
-      pick (refused n p) h b = rw b h
+-- a refusal: its number and its place are those of the definition
+pub answer_refused : (s : List ℕ) (n place : ℕ) → refused_with n place ≡ reading_of (read s) → read s ≡ refused n place
+answer_refused s n place e = pick (read s) refl e
+  where
+    pick : (o : Result) → read s ≡ o → refused_with n place ≡ reading_of o → read s ≡ refused n place
+    pick (accepted q) h b = let z : ◌≡◌ {A = ℕ} 0 1 = cc in absurd (omega arith)
+    pick (refused m p) h b =
+        let k : n ≡ m = cc in
+        let l : place ≡ p = cc in
+        rw (k, l) h
 
 -- ---- the levels of the constants, and the kind
 

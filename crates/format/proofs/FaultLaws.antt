@@ -1,5 +1,5 @@
 -- Reading accepts exactly the strings of questions, and refuses exactly by the first fault. Assumes nothing.
-use Rattle.std.specs.Prelude.{◌≡◌, Bool, true, false, ◌&&◌, List, [], ◌∷◌, ◌⊎◌, ◌↔◌, eqb, ltb, leb, get_or, drop}
+use Rattle.std.specs.Prelude.{◌≡◌, Bool, true, false, ◌&&◌, List, [], ◌∷◌, ◌⊎◌, ◌↔◌, eqb, ltb, leb, get_or, drop, Option, Some, None}
 use Rattle.std.proofs.Math.Path.{refl, ap, subst}
 use Rattle.std.proofs.Common.{sym, ◌∙◌}
 use Rattle.std.proofs.Math.Bool.{cond}
@@ -14,17 +14,11 @@ use Rattle.systems.specs.Questions.{Kind, satisfiability, entailment, Question, 
 use Rattle.format.specs.declared.Section.{Section}
 use Rattle.format.specs.declared.Test.{Test}
 use Rattle.format.specs.declared.Shape.{Shape}
-use Rattle.format.specs.declared.Entry.{Entry}
-use Rattle.format.specs.declared.Entry.TheVariants.{Known, Unknown}
-use Rattle.format.specs.declared.Head.{Head}
-use Rattle.format.specs.declared.Head.TheVariants.{Opens, Wrong}
-use Rattle.format.specs.declared.Step.{Step}
-use Rattle.format.specs.declared.Step.TheVariants.{Take, Refused}
+use Rattle.format.specs.Format.{Head, Opens, Wrong, Step, Take, Refused}
 use Rattle.format.specs.Format.{Result, refused, accepted, most_variables, most_constants, entry_of, term_count}
 use Rattle.format.specs.Format.{operands, term_byte, command_of, whole_at, read_at, is_second, most_of, in_section}
 use Rattle.format.specs.Format.{term_of, names, variables_for, term_named, is_foreign, clause_fault, constant_fault}
-use Rattle.format.specs.Format.{begun, fault, judged, ended, onward, turn, following, run, head_fits, opened}
-use Rattle.format.specs.Format.{head_of, after_head, read}
+use Rattle.format.specs.Format.{begun, fault, judged, ended, onward, turn, following, run, head_fits, opened, head_of, after_head, read}
 use Rattle.format.proofs.FormatLaws.{branch, term_small, named_defined_lem, run_enough, head_fits_lem}
 use Rattle.format.specs.Faults.{Announced, after, NoHead, OutOfPlace, Unfit, ConstantTooMany, ClauseTooMany}
 use Rattle.format.specs.Faults.{NamesNothing, ForeignClause, Due, head_due, command_due, nothing_due, faults_at}
@@ -279,10 +273,10 @@ module _ (s : List ℕ) (at : ℕ) (q : Question) where
       number : ℕ
       number = fault q (command_of s (at + 1) h)
 
-  entry_judged : at < length s → (e : Entry) → entry_of (get_or s at 0) ≡ e → Judged (judged q (whole_at s at e))
+  entry_judged : at < length s → (e : Option Shape) → entry_of (get_or s at 0) ≡ e → Judged (judged q (whole_at s at e))
   unfolding whole_at
-  entry_judged l Unknown e = inr (λ z. omega arith, inl (refl, (l, e)))
-  entry_judged l (Known h) e =
+  entry_judged l None e = inr (λ z. omega arith, inl (refl, (l, e)))
+  entry_judged l (Some h) e =
       branch (λ r. Judged (judged q r)) (ltb left (operands h)) (Refused 2) (whole h)
       (λ f. inr (byte_there a, inr (byte_known a, inl (refl, (h, a, omega (arith, ltb-true left (operands h) f))))))
       (λ f. whole_judged h a (omega (arith, ltb-false left (operands h) f)))

@@ -12,16 +12,12 @@ use Rattle.format.specs.declared.Section.TheVariants.{FirstPositive, FirstDisequ
 use Rattle.format.specs.declared.Test.{Test}
 use Rattle.format.specs.declared.Test.TheVariants.{Join, Equality, Full, Empty, Together}
 use Rattle.format.specs.declared.Shape.{Shape}
-use Rattle.format.specs.declared.Entry.{Entry}
-use Rattle.format.specs.declared.Entry.TheVariants.{Known, Unknown}
+use Rattle.std.specs.Prelude.{Option, Some, None}
 use Rattle.format.specs.declared.Command.{Command}
-use Rattle.format.specs.declared.Head.{Head}
-use Rattle.format.specs.declared.Head.TheVariants.{Opens, Wrong}
-use Rattle.format.specs.declared.Step.{Step}
-use Rattle.format.specs.declared.Step.TheVariants.{Take, Refused}
+use Rattle.format.specs.Format.{Head, Opens, Wrong, Step, Take, Refused}
 use Rattle.format.specs.Limits.{Limited, longest}
 use Rattle.format.specs.SectionLaws.{both_counts, added, Alike, same, other, alike, constant_sections, clause_keeps}
-use Rattle.format.specs.Format.{Result, refused, accepted, most_variables, most_constants, most_positive, most_disequations, entry_of, term_count, operands, command_of, whole_at, read_at, is_second, most_of, in_section, term_of, names, variables_for, term_named, all_named, atom_of, is_foreign, clause_fault, constant_fault, fault, judged, begun, with_first, with_second, with_clause, with_constant, taken, ended, Turn, go, stop, onward, turn, following, run, head_fits, opened, head_of, after_head, read}
+use Rattle.format.specs.Format.{Result, refused, accepted, most_variables, most_constants, entry_of, term_count, operands, command_of, whole_at, read_at, is_second, most_of, in_section, term_of, names, variables_for, term_named, all_named, atom_of, is_foreign, clause_fault, constant_fault, fault, judged, begun, with_first, with_second, with_clause, with_constant, taken, ended, Turn, go, stop, onward, turn, following, run, head_fits, opened, head_of, after_head, read}
 
 -- ---- the statements
 
@@ -69,10 +65,10 @@ size_command s i Shape.Head = refl
 size_command s i Shape.Constant = refl
 size_command s i (Shape.Clause σ t) = refl
 
-whole_entry : (s : List ℕ) (at : ℕ) → at < length s → (e : Entry) → Whole s at (whole_at s at e)
+whole_entry : (s : List ℕ) (at : ℕ) → at < length s → (e : Option Shape) → Whole s at (whole_at s at e)
 unfolding whole_at
-whole_entry s at l Unknown = (omega arith, omega arith)
-whole_entry s at l (Known h) =
+whole_entry s at l None = (omega arith, omega arith)
+whole_entry s at l (Some h) =
     branch (Whole s at) (ltb (length s - (at + 1)) (operands h)) (Refused 2) _ (λ _. (omega arith, omega arith))
     (λ f. (omega (arith, size_command s (at + 1) h), omega (arith, ltb-false (length s - (at + 1)) (operands h) f)))
 

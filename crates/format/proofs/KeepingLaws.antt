@@ -23,14 +23,15 @@ use Rattle.format.specs.declared.Section.TheVariants.{FirstPositive, FirstDisequ
 use Rattle.format.specs.declared.Test.{Test}
 use Rattle.format.specs.declared.LeafJoin.{LeafJoin}
 use Rattle.format.specs.declared.Shape.{Shape}
-use Rattle.format.specs.declared.Entry.{Entry}
-use Rattle.format.specs.declared.Entry.TheVariants.{Known, Unknown}
+use Rattle.std.specs.Prelude.{Option, Some, None}
 use Rattle.format.specs.declared.Command.{Command}
-use Rattle.format.specs.declared.Step.{Step}
+use Rattle.format.specs.Format.{Step, Take, Refused}
 use Rattle.format.specs.declared.Question.{Question as Struct}
-use Rattle.format.specs.declared.Step.TheVariants.{Take, Refused}
 use Rattle.format.specs.Format.{most_variables, most_constants, term_of, entry_of, operands, command_of, whole_at, read_at, most_of, in_section, names, variables_for, all_named, atom_of, is_foreign, constant_fault, fault, judged, with_clause, with_constant, taken}
-use Rattle.format.specs.Stored.{kind_number, section_number, part_byte, four_of, join_for, part_of, reading_from, clause_bytes, section_start, four_at, readings_at, Stored, stored, count_of, Counted, part_named, StoredClause, StoredAt, defined_by, named_word, Stands, held_as, clause_written, command_written}
+use Rattle.format.specs.Numbers.{kind_value, section_number}
+use Rattle.format.specs.declared.Kind.{Kind as HeldKind}
+use Rattle.format.specs.declared.Kind.TheVariants.{Satisfiability, Entailment}
+use Rattle.format.specs.Stored.{kind_number, kind_held, part_byte, four_of, join_for, part_of, reading_from, clause_bytes, section_start, four_at, readings_at, Stored, stored, count_of, Counted, part_named, StoredClause, StoredAt, defined_by, named_word, Stands, held_as, clause_written, command_written}
 use Rattle.format.specs.Keeping.{next_slot, kept_constants, constant_count, kept_clauses, clause_counts, constants_in, kept_names, PartsSmall, SmallIn, Slot, clause_total, foreign_to, fault_of, judged_of}
 use Rattle.format.specs.SectionLaws.{both_counts, added, Apart, Alike, same, other, alike, constant_sections, clause_keeps, section_below, slot_fits, variables_le}
 use Rattle.format.proofs.FormatLaws.{branch, ClauseFits, clause_fits, ConstantFits, constant_fits, in_test, named_defined_lem}
@@ -81,9 +82,9 @@ pub read_proper : (s : List ℕ) → Bytes s → (at : ℕ) → ProperStep (read
 unfolding read_at whole_at
 read_proper s h at = branch ProperStep (ltb at (length s)) _ (Refused 2) (λ _. entry (entry_of (get_or s at 0))) (λ _. tt)
   where
-    entry : (e : Entry) → ProperStep (whole_at s at e)
-    entry Unknown = tt
-    entry (Known k) =
+    entry : (e : Option Shape) → ProperStep (whole_at s at e)
+    entry None = tt
+    entry (Some k) =
         branch ProperStep (ltb (length s - (at + 1)) (operands k)) (Refused 2) (Take (command_of s (at + 1) k) (at + 1 + operands k)) (λ _. tt)
         (λ _. command_proper s h (at + 1) k)
 
@@ -262,6 +263,12 @@ part_small n k t hn hk h = pick (part_cases n k t h)
 pub parts_small : (n k : ℕ) (j : LeafJoin) → StoredClause n k j → n ≤ 32 → k ≤ 32 → PartsSmall j
 parts_small n k j d hn hk =
     (part_small n k j.first hn hk d.first, part_small n k j.second hn hk d.second, part_small n k j.sum hn hk d.sum)
+
+kind_same : (k : HeldKind) (o : Kind) → kind_value k ≡ kind_number o → k ≡ kind_held o
+kind_same Satisfiability satisfiability e = refl
+kind_same Satisfiability entailment e = absurd (omega arith)
+kind_same Entailment satisfiability e = absurd (omega arith)
+kind_same Entailment entailment e = refl
 
 foreign_same : (k : Kind) (σ : Section) → foreign_to (kind_number k) σ ≡ is_foreign k σ
 foreign_same satisfiability σ = refl
@@ -545,16 +552,16 @@ module _ {kind : ℕ} (x : Stored) (q : Question) (d : Stands kind x q) where
       get_or-drop (defined_by q) x.constants i 0 ∙ z (defined_by q + i) (omega arith) ∙ sym (get_or-replicate (most_constants - defined_by q) i 0 0 (rw n at l)))
 
   pub held_as_lem : (defined : ℕ) → defined ≡ defined_by q → ZerosPast (defined_by q) x.constants
-      → record { kind = kind; free = x.free; own = x.own; constants = x.constants; defined = defined; named = x.named; counts = x.counts } ≡ held_as q
-  held_as_lem defined e z =
+      → (k : HeldKind) → kind ≡ kind_value k → record { kind = k; free = x.free; own = x.own; constants = x.constants; defined = defined; named = x.named; counts = x.counts } ≡ held_as q
+  held_as_lem defined e z k h =
       let numbers : q.constants.numbers ≡ take (defined_by q) x.constants = ap (λ cs. cs.numbers) d.constants in
       let constants : x.constants ≡ q.constants.numbers ++ replicate (most_constants - length q.constants.numbers) 0 =
       sym (ap₂ ◌++◌ numbers (sym (zeros_past z)) ∙ take-append-drop (defined_by q) x.constants) in
       let counts : x.counts ≡ length (in_section q FirstPositive) ∷ length (in_section q FirstDisequation) ∷ length (in_section q SecondPositive) ∷ length (in_section q SecondDisequation) ∷ [] =
       rw (section_count FirstPositive, section_count FirstDisequation, section_count SecondPositive, section_count SecondDisequation) (counts_are x.counts d.sizes.2) in
-      same d.kind d.free d.own constants e d.named counts
+      same (kind_same k q.kind (sym h ∙ d.kind)) d.free d.own constants e d.named counts
     where
-      same : {k k' f f' o o' n n' m m' : ℕ} {cs cs' cl cl' : List ℕ} → k ≡ k' → f ≡ f' → o ≡ o' → cs ≡ cs' → n ≡ n' → m ≡ m' → cl ≡ cl'
+      same : {k k' : HeldKind} {f f' o o' n n' m m' : ℕ} {cs cs' cl cl' : List ℕ} → k ≡ k' → f ≡ f' → o ≡ o' → cs ≡ cs' → n ≡ n' → m ≡ m' → cl ≡ cl'
           → ◌≡◌ {A = Struct} (record { kind = k; free = f; own = o; constants = cs; defined = n; named = m; counts = cl })
           (record { kind = k'; free = f'; own = o'; constants = cs'; defined = n'; named = m'; counts = cl' })
       same e f g h i j k = rw (e, f, g, h, i, j, k)

@@ -1,7 +1,7 @@
 -- The constants that stand first: what is read there, and one more of them. Assumes nothing.
 use Rattle.std.proofs.Math.Path.{◌≡◌, refl, sym, ap, subst}
 use Rattle.std.proofs.Common.{◌∙◌}
-use Rattle.std.specs.Prelude.{Bool, cond, List, ℕ, zero, suc, ◌+◌, ◌-◌, ◌≤◌, ◌<◌, ltb, length, get_or, set, take, drop, replicate}
+use Rattle.std.specs.Prelude.{Bool, cond, List, ℕ, zero, suc, ◌+◌, ◌-◌, ◌≤◌, ◌<◌, ltb, length, get_or, set, take, drop, replicate, Option, Some, None}
 use Rattle.std.proofs.Math.Bool.{true, false}
 use native.Mathlib.Omega.{arith}
 use Rattle.std.proofs.Math.ListN.{length-set}
@@ -10,14 +10,9 @@ use Rattle.shares.specs.Test.{of_true}
 use Rattle.shares.specs.Constant.{constant_levels, number, bytes_at}
 use Rattle.format.specs.Worked
 use Rattle.format.specs.declared.Shape.{Shape}
-use Rattle.format.specs.declared.Entry.{Entry}
-use Rattle.format.specs.declared.Entry.TheVariants.{Known, Unknown}
 use Rattle.format.specs.declared.Command.{Command}
-use Rattle.format.specs.declared.Step.{Step}
-use Rattle.format.specs.declared.Step.TheVariants.{Take, Refused}
+use Rattle.format.specs.Format.{Step, Take, Refused, most_constants, entry_of, term_count, clause_at, command_of, whole_at, read_at}
 use Rattle.format.specs.declared.Leading.{Leading}
-use Rattle.format.specs.declared.Leading.TheVariants.{Other}
-use Rattle.format.specs.Format.{most_constants, entry_of, term_count, clause_at, command_of, whole_at, read_at}
 use Rattle.format.specs.Stored.{constant_size, leading_of, is_leading, constant_at, place_of, leading}
 use Rattle.format.specs.Keeping.{lead_into, fault_of, judged_of}
 
@@ -32,12 +27,12 @@ abbrev StandsWhole : List ℕ → ℕ → Step → Type 0
 StandsWhole s at r = (at + constant_size ≤ length s) × (r ≡ Take (Command.Constant (constant_number s at)) (at + 1 + bytes_at constant_levels))
 
 -- cut short or not, what is no constant is something else
-either : (b : Bool) (c : Command) (next : ℕ) → Other ≡ leading_of (Take c next) → Other ≡ leading_of (cond b (Refused 2) (Take c next))
+either : (b : Bool) (c : Command) (next : ℕ) → None ≡ leading_of (Take c next) → None ≡ leading_of (cond b (Refused 2) (Take c next))
 either true c next e = refl
 either false c next e = e
 
 -- where a command of another shape is announced, something else stands
-pub other_stands : (s : List ℕ) (at : ℕ) (h : Shape) → ¬ (h ≡ Shape.Constant) → Other ≡ leading_of (whole_at s at (Known h))
+pub other_stands : (s : List ℕ) (at : ℕ) (h : Shape) → ¬ (h ≡ Shape.Constant) → None ≡ leading_of (whole_at s at (Some h))
 unfolding whole_at command_of
 other_stands s at Shape.End n = either (ltb (length s - (at + 1)) 0) Command.End (at + 1 + 0) refl
 other_stands s at Shape.Head n = either (ltb (length s - (at + 1)) 3) Command.Head (at + 1 + 3) refl
@@ -50,16 +45,16 @@ module _ (s : List ℕ) (at : ℕ) where
   whole true e h f = absurd (of_true f)
   whole false e h f = (omega (arith, ltb-false (length s - (at + 1)) (bytes_at constant_levels) e), refl)
 
-  none : (h : Shape) → ¬ (h ≡ Shape.Constant) → is_leading (leading_of (whole_at s at (Known h))) ≡ true → StandsWhole s at (whole_at s at (Known h))
+  none : (h : Shape) → ¬ (h ≡ Shape.Constant) → is_leading (leading_of (whole_at s at (Some h))) ≡ true → StandsWhole s at (whole_at s at (Some h))
   none h n f = absurd (of_true (ap is_leading (other_stands s at h n) ∙ f))
 
-  by_entry : (E : Entry) → at < length s → is_leading (leading_of (whole_at s at E)) ≡ true → StandsWhole s at (whole_at s at E)
+  by_entry : (E : Option Shape) → at < length s → is_leading (leading_of (whole_at s at E)) ≡ true → StandsWhole s at (whole_at s at E)
   unfolding whole_at command_of
-  by_entry Unknown h f = absurd (of_true f)
-  by_entry (Known Shape.Constant) h f = whole (ltb (length s - (at + 1)) (bytes_at constant_levels)) refl h f
-  by_entry (Known Shape.End) h f = none Shape.End (λ e. let z : ◌≡◌ {A = ℕ} 0 1 = cc in omega arith) f
-  by_entry (Known Shape.Head) h f = none Shape.Head (λ e. let z : ◌≡◌ {A = ℕ} 0 1 = cc in omega arith) f
-  by_entry (Known (Shape.Clause σ t)) h f = none (Shape.Clause σ t) (λ e. let z : ◌≡◌ {A = ℕ} 0 1 = cc in omega arith) f
+  by_entry None h f = absurd (of_true f)
+  by_entry (Some Shape.Constant) h f = whole (ltb (length s - (at + 1)) (bytes_at constant_levels)) refl h f
+  by_entry (Some Shape.End) h f = none Shape.End (λ e. let z : ◌≡◌ {A = ℕ} 0 1 = cc in omega arith) f
+  by_entry (Some Shape.Head) h f = none Shape.Head (λ e. let z : ◌≡◌ {A = ℕ} 0 1 = cc in omega arith) f
+  by_entry (Some (Shape.Clause σ t)) h f = none (Shape.Clause σ t) (λ e. let z : ◌≡◌ {A = ℕ} 0 1 = cc in omega arith) f
 
   by_room : (b : Bool) → ltb at (length s) ≡ b → let r = cond b (whole_at s at (entry_of (get_or s at 0))) (Refused 2) in is_leading (leading_of r) ≡ true → StandsWhole s at r
   by_room true e f = by_entry (entry_of (get_or s at 0)) (ltb-true at (length s) e) f
@@ -85,13 +80,13 @@ module _ (s : List ℕ) (at : ℕ) (e : constant_at s at ≡ true) where
   constant_taken kind free own n l = rw (constant_read, lt-leb most_constants n l) refl
 
 -- a constant and the offset after it, as they were read
-pub leading_read : (s : List ℕ) (at v next : ℕ) → Leading.Constant v next ≡ leading_of (read_at s at)
-    → (constant_at s at ≡ true) × (v ≡ constant_number s at) × (next ≡ at + constant_size)
-leading_read s at v next e =
+pub leading_read : (s : List ℕ) (at : ℕ) (x : Leading) → Some x ≡ leading_of (read_at s at)
+    → (constant_at s at ≡ true) × (x.number ≡ constant_number s at) × (x.next ≡ at + constant_size)
+leading_read s at x e =
     let stands : constant_at s at ≡ true = sym (ap is_leading e) in
-    let same : Leading.Constant v next ≡ Leading.Constant (constant_number s at) (at + 1 + bytes_at constant_levels) = e ∙ ap leading_of (constant_read s at stands) in
-    let place : next ≡ at + 1 + bytes_at constant_levels = cc in
-    (stands, cc, omega arith)
+    let same : Some x ≡ Some (record { number = constant_number s at; next = at + 1 + bytes_at constant_levels }) = e ∙ ap leading_of (constant_read s at stands) in
+    let y : x ≡ record { number = constant_number s at; next = at + 1 + bytes_at constant_levels } = cc in
+    (stands, ap (λ y. y.number) y, ap (λ y. y.next) y ∙ omega arith)
 
 -- ---- one after the other
 
@@ -135,33 +130,36 @@ led_none s l h e = record { few = omega arith; place = refl; within = h; size = 
 
 module _ {s l₀ l : List ℕ} {n at : ℕ} (L : Led s l₀ n at l) where
   -- the last that may be
-  pub led_last : most_constants ≤ n → LedAll s l₀ n l
+  pub led_last : most_constants ≤ n → LedAll s l₀ most_constants l
   unfolding leading lead_into
-  led_last h = let e : most_constants - n ≡ 0 = omega arith in (rw e at L.count, rw e at L.numbers)
+  led_last h =
+      let e : most_constants - n ≡ 0 = omega arith in
+      let m : most_constants ≡ n = omega (arith, L.few) in
+      (m ∙ (rw e at L.count), rw e at L.numbers)
 
   module _ (h : n < most_constants) where
     more : most_constants - n ≡ suc (most_constants - (n + 1))
     more = omega arith
 
     -- something else
-    pub led_end : Other ≡ leading_of (read_at s at) → LedAll s l₀ n l
+    pub led_end : None ≡ leading_of (read_at s at) → LedAll s l₀ n l
     unfolding leading lead_into
     led_end e =
         let f : constant_at s (place_of n) ≡ false = subst (λ k. constant_at s k ≡ false) L.place (sym (ap is_leading e)) in
         (sym (rw f) ∙ (rw more at L.count), sym (rw f) ∙ (rw more at L.numbers))
 
     -- one constant more
-    pub led_more : (v next : ℕ) → Leading.Constant v next ≡ leading_of (read_at s at) → Led s l₀ (n + 1) next (set l n v)
+    pub led_more : (x : Leading) → Some x ≡ leading_of (read_at s at) → Led s l₀ (n + 1) x.next (set l n x.number)
     unfolding leading lead_into
-    led_more v next e =
-        let r = leading_read s at v next e in
+    led_more x e =
+        let r = leading_read s at x e in
         let f : constant_at s (place_of n) ≡ true = subst (λ k. constant_at s k ≡ true) L.place r.0 in
-        let y : v ≡ constant_number s (place_of n) = r.1 ∙ ap (constant_number s) L.place in
+        let y : x.number ≡ constant_number s (place_of n) = r.1 ∙ ap (constant_number s) L.place in
         record {
           few = omega arith;
           place = omega (arith, L.place, r.2);
           within = omega (arith, constant_room s at r.0, r.2);
-          size = length-set l n v ∙ L.size;
+          size = length-set l n x.number ∙ L.size;
           count = sym (rw f) ∙ (rw more at L.count);
           numbers = rw y (sym (rw f) ∙ (rw more at L.numbers));
         }

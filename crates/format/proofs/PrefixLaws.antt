@@ -1,7 +1,7 @@
 -- Reading looks at no byte past the command at fault: strings that agree so far are refused alike. Assumes nothing.
 use Rattle.std.proofs.Math.Path.{◌≡◌, refl, ap, ap₂, subst}
 use Rattle.std.proofs.Common.{sym, ◌∙◌, arith, ltb→lt, lt→ltb, length-take, get_or-take, take-take, take_all}
-use Rattle.std.specs.Prelude.{Bool, ◌&&◌, List, [], ◌∷◌, length, get_or, take, drop}
+use Rattle.std.specs.Prelude.{Bool, ◌&&◌, List, [], ◌∷◌, length, get_or, take, drop, Option, Some, None}
 use Rattle.std.proofs.Math.Bool.{true, false, cond}
 use Prim.Native.Nat.{ℕ, zero, suc, ◌+◌, ◌-◌, ◌≤◌, ◌<◌, min}
 use borrow.Author.Tests.{ltb-true, eqb-true, eqb-false, ne_eqb}
@@ -10,33 +10,28 @@ use Rattle.shares.specs.Constant.{constant_levels, number, bytes_at}
 use Rattle.shares.specs.Test.{same_test}
 use Rattle.systems.specs.Questions.{Question}
 use Rattle.format.specs.declared.Shape.{Shape}
-use Rattle.format.specs.declared.Entry.{Entry}
-use Rattle.format.specs.declared.Entry.TheVariants.{Known, Unknown}
 use Rattle.format.specs.declared.Command.{Command}
-use Rattle.format.specs.declared.Head.{Head}
-use Rattle.format.specs.declared.Head.TheVariants.{Opens, Wrong}
-use Rattle.format.specs.declared.Step.{Step}
-use Rattle.format.specs.declared.Step.TheVariants.{Take, Refused}
+use Rattle.format.specs.Format.{Head, Opens, Wrong, Step, Take, Refused}
 use Rattle.format.specs.Format.{Result, refused, accepted, entry_of, term_count, operands, term_byte, command_of, whole_at, read_at, fault, judged, taken, ended, go, onward, turn, following, run, head_fits, opened, head_of, after_head, read}
 use Rattle.format.specs.Limits.{longest}
 use Rattle.format.proofs.FormatLaws.{branch, term_small, size_some, Whole, read_whole, judged_take, Stay, run_law, HeadRight, head_right, accepted_short, refusal_place}
 
 -- ---- how far a command reaches
 
-abbrev width : Entry → ℕ
-width (Known h) = operands h
-width Unknown = 0
+abbrev width : Option Shape → ℕ
+width (Some h) = operands h
+width None = 0
 
 -- how many bytes the command at an offset takes; 1 where none is there or it is unknown
 abbrev pub size_at : List ℕ → ℕ → ℕ
 size_at s at = 1 + width (entry_of (get_or s at 0))
 
-width_small : (e : Entry) → width e ≤ bytes_at constant_levels
-width_small (Known Shape.End) = omega arith
-width_small (Known Shape.Head) = omega arith
-width_small (Known Shape.Constant) = omega arith
-width_small (Known (Shape.Clause σ t)) = omega (arith, term_small t)
-width_small Unknown = omega arith
+width_small : (e : Option Shape) → width e ≤ bytes_at constant_levels
+width_small (Some Shape.End) = omega arith
+width_small (Some Shape.Head) = omega arith
+width_small (Some Shape.Constant) = omega arith
+width_small (Some (Shape.Clause σ t)) = omega (arith, term_small t)
+width_small None = omega arith
 
 pub size_small : (s : List ℕ) (at : ℕ) → size_at s at ≤ 1 + bytes_at constant_levels
 size_small s at = omega (arith, width_small (entry_of (get_or s at 0)))
@@ -51,9 +46,9 @@ unfolding read_at whole_at
 read_ends s at =
     branch (Ends at (width (entry_of (get_or s at 0)))) (ltb at (length s)) _ (Refused 2) (λ _. entry (entry_of (get_or s at 0))) (λ _. tt)
   where
-    entry : (e : Entry) → Ends at (width e) (whole_at s at e)
-    entry Unknown = tt
-    entry (Known h) =
+    entry : (e : Option Shape) → Ends at (width e) (whole_at s at e)
+    entry None = tt
+    entry (Some h) =
         branch (Ends at (operands h)) (ltb (length s - (at + 1)) (operands h)) (Refused 2) (Take (command_of s (at + 1) h) (at + 1 + operands h)) (λ _. tt)
         (λ _. omega arith)
 
@@ -119,10 +114,10 @@ module _ (s t : List ℕ) (k : ℕ) (e : take k s ≡ take k t) where
       let n = term_count u in
       rw (term_byte_same i n 0 l, term_byte_same i n 1 l, term_byte_same i n 2 l) refl
 
-  whole_same : (at : ℕ) (f : Entry) → at + (1 + width f) ≤ k → whole_at s at f ≡ whole_at t at f
+  whole_same : (at : ℕ) (f : Option Shape) → at + (1 + width f) ≤ k → whole_at s at f ≡ whole_at t at f
   unfolding whole_at
-  whole_same at Unknown l = refl
-  whole_same at (Known h) l =
+  whole_same at None l = refl
+  whole_same at (Some h) l =
       ap₂ (λ b c. cond b (Refused 2) (Take c (at + 1 + operands h)))
       (less_same (length s - (at + 1)) (operands h) (length t - (at + 1)) (operands h) (λ u. omega (arith, same_length)) (λ u. omega (arith, same_length)))
       (command_same (at + 1) h (omega arith))

@@ -1,10 +1,9 @@
 -- What a byte that announces a command rules out: each fault of another command. Assumes nothing.
-use Rattle.std.specs.Prelude.{◌≡◌, false, List, ℕ, ◌≤◌, eqb, length}
+use Rattle.std.specs.Prelude.{◌≡◌, false, List, ℕ, ◌≤◌, eqb, length, Some, None}
 use Rattle.std.proofs.Common.{sym, ap, ◌∙◌, inl, inr, arith}
 use Rattle.std.proofs.lemmas.Bool.{eqb-false}
 use Rattle.systems.specs.Questions.{Question}
 use Rattle.format.specs.declared.Shape.{Shape}
-use Rattle.format.specs.declared.Entry.TheVariants.{Known, Unknown}
 use Rattle.format.specs.Format.{operands}
 use Rattle.format.specs.Faults.{Announced, after, NoByte, CutShort, UnknownByte, OutOfPlace, UnfitHead}
 use Rattle.format.specs.Faults.{ConstantTooMany, ClauseTooMany, NamesNothing, ForeignClause}
@@ -18,7 +17,7 @@ sort (Shape.Clause σ t) = 3
 
 -- one shape at most is announced
 pub one_shape : {s : List ℕ} {at : ℕ} {h h' : Shape} → Announced s at h → Announced s at h' → h ≡ h'
-one_shape {h} {h'} a b = let e : Known h ≡ Known h' = sym a.known ∙ b.known in cc
+one_shape {h} {h'} a b = let e : Some h ≡ Some h' = sym a.known ∙ b.known in cc
 
 -- a byte that announces a shape is there and is known, and not cut short where its operands are there
 module _ {s : List ℕ} {at : ℕ} {h : Shape} (a : Announced s at h) where
@@ -27,7 +26,7 @@ module _ {s : List ℕ} {at : ℕ} {h : Shape} (a : Announced s at h) where
 
   pub byte_known : UnknownByte s at → ⊥
   byte_known u =
-      let e : Known h ≡ Unknown = sym a.known ∙ u.1 in
+      let e : Some h ≡ None = sym a.known ∙ u.1 in
       let z : ◌≡◌ {A = ℕ} 0 1 = cc in
       omega arith
 

@@ -1,10 +1,9 @@
 -- What a byte string is, not how it is read: the faults of docs/SPEC.md, 7.1, and the order of 7.3. Assumes nothing.
-use Rattle.std.specs.Prelude.{◌≡◌, true, List, [], ◌∷◌, ◌⊎◌, ℕ, ◌+◌, ◌≤◌, ◌<◌, length, get_or}
+use Rattle.std.specs.Prelude.{◌≡◌, true, List, [], ◌∷◌, ◌⊎◌, ℕ, ◌+◌, ◌≤◌, ◌<◌, length, get_or, Some, None}
 use Rattle.systems.specs.Questions.{satisfiability, Question, Defined}
 use Rattle.format.specs.declared.Section.{Section}
 use Rattle.format.specs.declared.Test.{Test}
 use Rattle.format.specs.declared.Shape.{Shape}
-use Rattle.format.specs.declared.Entry.TheVariants.{Known, Unknown}
 use Rattle.format.specs.Format.{most_variables, most_constants, entry_of, term_count, operands, command_of}
 use Rattle.format.specs.Format.{is_second, most_of, in_section, term_of, variables_for, taken, opened}
 
@@ -13,7 +12,7 @@ use Rattle.format.specs.Format.{is_second, most_of, in_section, term_of, variabl
 -- its byte is there and announces this shape
 pub record Announced (s : List ℕ) (at : ℕ) (h : Shape) : Type 0 where
   pub there : at < length s
-  pub known : entry_of (get_or s at 0) ≡ Known h
+  pub known : entry_of (get_or s at 0) ≡ Some h
 
 -- where it ends, if its operands are there
 abbrev pub after : ℕ → Shape → ℕ
@@ -35,7 +34,7 @@ CutShort s at = (h : Shape) × Announced s at h × (length s < after at h)
 
 -- 7.1.4: an unknown command byte
 abbrev pub UnknownByte : List ℕ → ℕ → Type 0
-UnknownByte s at = (at < length s) × (entry_of (get_or s at 0) ≡ Unknown)
+UnknownByte s at = (at < length s) × (entry_of (get_or s at 0) ≡ None)
 
 -- 7.1.5: a second head, or a constant after a clause of either system
 abbrev pub OutOfPlace : List ℕ → ℕ → Question → Type 0

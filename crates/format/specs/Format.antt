@@ -8,18 +8,24 @@ use Rattle.format.specs.declared.Section.TheVariants.{FirstPositive, FirstDisequ
 use Rattle.format.specs.declared.Test.{Test}
 use Rattle.format.specs.declared.Test.TheVariants.{Join, Equality, Full, Empty, Together}
 use Rattle.format.specs.declared.Shape.{Shape}
-use Rattle.format.specs.declared.Entry.{Entry}
-use Rattle.format.specs.declared.Entry.TheVariants.{Known, Unknown}
+use Rattle.std.specs.Prelude.{Option, Some, None}
+use Rattle.format.specs.declared.Terms.{Terms}
 use Rattle.format.specs.declared.Command.{Command}
-use Rattle.format.specs.declared.Head.{Head}
-use Rattle.format.specs.declared.Head.TheVariants.{Opens, Wrong}
-use Rattle.format.specs.declared.Step.{Step}
-use Rattle.format.specs.declared.Step.TheVariants.{Take, Refused}
 
 -- what reading gives: the number and the place of a refusal, or a question of the model
 pub data Result : Type 0 where
   refused : ℕ → ℕ → Result
   accepted : Question → Result
+
+-- what a string starts with: a head of this kind with so many free and own variables, or the number of its refusal
+pub data Head : Type 0 where
+  Opens : ℕ → ℕ → ℕ → Head
+  Wrong : ℕ → Head
+
+-- what reading one command gives: the command and the offset after it, or the number of its refusal
+pub data Step : Type 0 where
+  Take : Command → ℕ → Step
+  Refused : ℕ → Step
 
 -- ---- the limits
 
@@ -38,26 +44,26 @@ most_disequations = 31
 -- ---- the table of commands
 
 -- what a command byte announces: each clause with its system, positive or a disequation, and its test
-unfoldable pub entry_of : ℕ → Entry
+unfoldable pub entry_of : ℕ → Option Shape
 entry_of b =
-    cond (eqb b 0x00) (Known Shape.End)
-    (cond (eqb b 0x01) (Known Shape.Head)
-    (cond (eqb b 0x03) (Known Shape.Constant)
-    (cond (eqb b 0x10) (Known (Shape.Clause FirstPositive Join))
-    (cond (eqb b 0x11) (Known (Shape.Clause FirstDisequation Join))
-    (cond (eqb b 0x12) (Known (Shape.Clause FirstPositive Equality))
-    (cond (eqb b 0x13) (Known (Shape.Clause FirstDisequation Equality))
-    (cond (eqb b 0x20) (Known (Shape.Clause SecondPositive Join))
-    (cond (eqb b 0x21) (Known (Shape.Clause SecondDisequation Join))
-    (cond (eqb b 0x22) (Known (Shape.Clause SecondPositive Equality))
-    (cond (eqb b 0x23) (Known (Shape.Clause SecondDisequation Equality))
-    (cond (eqb b 0x30) (Known (Shape.Clause FirstPositive Full))
-    (cond (eqb b 0x31) (Known (Shape.Clause FirstDisequation Empty))
-    (cond (eqb b 0x32) (Known (Shape.Clause FirstPositive Together))
-    (cond (eqb b 0x38) (Known (Shape.Clause SecondPositive Full))
-    (cond (eqb b 0x39) (Known (Shape.Clause SecondDisequation Empty))
-    (cond (eqb b 0x3A) (Known (Shape.Clause SecondPositive Together))
-    Unknown))))))))))))))))
+    cond (eqb b 0x00) (Some Shape.End)
+    (cond (eqb b 0x01) (Some Shape.Head)
+    (cond (eqb b 0x03) (Some Shape.Constant)
+    (cond (eqb b 0x10) (Some (Shape.Clause FirstPositive Join))
+    (cond (eqb b 0x11) (Some (Shape.Clause FirstDisequation Join))
+    (cond (eqb b 0x12) (Some (Shape.Clause FirstPositive Equality))
+    (cond (eqb b 0x13) (Some (Shape.Clause FirstDisequation Equality))
+    (cond (eqb b 0x20) (Some (Shape.Clause SecondPositive Join))
+    (cond (eqb b 0x21) (Some (Shape.Clause SecondDisequation Join))
+    (cond (eqb b 0x22) (Some (Shape.Clause SecondPositive Equality))
+    (cond (eqb b 0x23) (Some (Shape.Clause SecondDisequation Equality))
+    (cond (eqb b 0x30) (Some (Shape.Clause FirstPositive Full))
+    (cond (eqb b 0x31) (Some (Shape.Clause FirstDisequation Empty))
+    (cond (eqb b 0x32) (Some (Shape.Clause FirstPositive Together))
+    (cond (eqb b 0x38) (Some (Shape.Clause SecondPositive Full))
+    (cond (eqb b 0x39) (Some (Shape.Clause SecondDisequation Empty))
+    (cond (eqb b 0x3A) (Some (Shape.Clause SecondPositive Together))
+    None))))))))))))))))
 
 -- how many terms a test takes
 abbrev pub term_count : Test → ℕ
@@ -84,6 +90,10 @@ term_byte s i n k = cond (ltb k n) (get_or s (i + k) 0) 0
 abbrev pub clause_at : List ℕ → ℕ → Section → Test → Command
 clause_at s i σ t = Command.Clause σ t (term_byte s i (term_count t) 0) (term_byte s i (term_count t) 1) (term_byte s i (term_count t) 2)
 
+-- the bytes of its terms
+abbrev pub terms_at : List ℕ → ℕ → Test → Terms
+terms_at s i t = record { a = term_byte s i (term_count t) 0; b = term_byte s i (term_count t) 1; c = term_byte s i (term_count t) 2 }
+
 -- the command whose operands start at an offset; a constant's leaf i is bit i of its number
 unfoldable pub command_of : List ℕ → ℕ → Shape → Command
 command_of s i Shape.End = Command.End
@@ -92,9 +102,9 @@ command_of s i Shape.Constant = Command.Constant (number (take (bytes_at constan
 command_of s i (Shape.Clause σ t) = clause_at s i σ t
 
 -- an unknown byte is refused first (3), then operands that are cut short (2); else the command and the offset after it
-unfoldable pub whole_at : List ℕ → ℕ → Entry → Step
-whole_at s at Unknown = Refused 3
-whole_at s at (Known h) =
+unfoldable pub whole_at : List ℕ → ℕ → Option Shape → Step
+whole_at s at None = Refused 3
+whole_at s at (Some h) =
     cond (ltb (length s - (at + 1)) (operands h)) (Refused 2) (Take (command_of s (at + 1) h) (at + 1 + operands h))
 
 -- what stands at an offset where a command is due

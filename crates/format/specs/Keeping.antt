@@ -5,12 +5,9 @@ use Rattle.shares.specs.Constant.{constant_levels, number_of, number, bytes_at}
 use Rattle.format.specs.declared.Section.{Section}
 use Rattle.format.specs.declared.LeafJoin.{LeafJoin}
 use Rattle.format.specs.declared.Command.{Command}
-use Rattle.format.specs.declared.Step.{Step}
-use Rattle.format.specs.declared.Step.TheVariants.{Take, Refused}
-use Rattle.format.specs.declared.Head.{Head}
-use Rattle.format.specs.declared.Head.TheVariants.{Opens, Wrong}
-use Rattle.format.specs.Format.{most_constants, is_second, most_of, all_named, variables_for, clause_fault, constant_fault}
-use Rattle.format.specs.Stored.{constant_at, place_of, section_number, join_for, clause_bytes, section_start, count_of, clause_written}
+use Rattle.format.specs.Format.{Step, Take, Refused, most_constants, is_second, most_of, all_named, variables_for, clause_fault, constant_fault}
+use Rattle.format.specs.Numbers.{section_number}
+use Rattle.format.specs.Stored.{constant_at, place_of, join_for, clause_bytes, section_start, count_of, clause_written}
 
 -- ---- one command kept
 
@@ -98,18 +95,8 @@ judged_of kind free own n counts (Refused f) = Refused f
 judged_of kind free own n counts (Take c next) =
     cond (eqb (fault_of kind free own n counts c) 0) (Take c next) (Refused (fault_of kind free own n counts c))
 
--- the number of a refusal, 0 where there is none
-abbrev pub refusal_of : Step → ℕ
-refusal_of (Take c next) = 0
-refusal_of (Refused n) = n
-
 abbrev pub is_end : Command → Bool
 is_end Command.End = true
 is_end Command.Head = false
 is_end (Command.Constant x) = false
 is_end (Command.Clause σ t a b c) = false
-
--- the number of a head's refusal, 0 where there is none
-abbrev pub wrong_of : Head → ℕ
-wrong_of (Opens kind free own) = 0
-wrong_of (Wrong n) = n

@@ -2,7 +2,9 @@ pub mod Format
 pub mod Faults
 pub mod AnnouncedLaws
 pub mod WorkedFaults
+pub mod Numbers
 pub mod Stored
+pub mod Told
 pub mod Worked
 pub mod Keeping
 pub mod SectionLaws

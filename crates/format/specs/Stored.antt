@@ -6,19 +6,18 @@ use Rattle.shares.specs.Parts.{empty_part, full_part}
 use Rattle.systems.specs.Clauses.{variable, constant}
 use Rattle.systems.specs.Questions.{Kind, satisfiability, entailment, Question as Asked, named_by, is_among}
 use Rattle.systems.specs.AtLeaves.{Part, of, always, LeafReading, joins_to, apart, read_as}
+use Rattle.std.specs.Prelude.{Option, Some, None}
+use Rattle.format.specs.declared.Kind.{Kind as HeldKind}
+use Rattle.format.specs.declared.Kind.TheVariants.{Satisfiability, Entailment}
 use Rattle.format.specs.declared.Section.{Section}
 use Rattle.format.specs.declared.Section.TheVariants.{FirstPositive, FirstDisequation, SecondPositive, SecondDisequation}
 use Rattle.format.specs.declared.Test.{Test}
 use Rattle.format.specs.declared.LeafJoin.{LeafJoin}
 use Rattle.format.specs.declared.Command.{Command}
-use Rattle.format.specs.declared.Step.{Step}
-use Rattle.format.specs.declared.Step.TheVariants.{Take, Refused}
+use Rattle.format.specs.Numbers.{section_number}
+use Rattle.format.specs.Format.{Step, Take, Refused, Head, Opens, Wrong}
 use Rattle.format.specs.declared.Leading.{Leading}
-use Rattle.format.specs.declared.Leading.TheVariants.{Other}
-use Rattle.format.specs.declared.Head.{Head}
-use Rattle.format.specs.declared.Head.TheVariants.{Opens, Wrong}
 use Rattle.format.specs.declared.Question.{Question}
-use Rattle.format.specs.declared.Reading.{Reading}
 use Rattle.format.specs.Format.{Result, refused, accepted, most_variables, most_constants, most_of, in_section, term_of, names, variables_for, atom_of, read_at, judged, taken, opened, head_of}
 
 -- ---- the numbers of the cases
@@ -27,11 +26,10 @@ abbrev pub kind_number : Kind → ℕ
 kind_number satisfiability = 0
 kind_number entailment = 1
 
-abbrev pub section_number : Section → ℕ
-section_number FirstPositive = 0
-section_number FirstDisequation = 1
-section_number SecondPositive = 2
-section_number SecondDisequation = 3
+-- a kind of the model as the code holds it
+abbrev pub kind_held : Kind → HeldKind
+kind_held satisfiability = Satisfiability
+kind_held entailment = Entailment
 
 -- ---- a clause in four bytes: how it reads as a join at one leaf
 
@@ -158,7 +156,7 @@ pub record Stands (k : ℕ) (x : Stored) (q : Asked) : Type 0 where
 -- the struct of a question: its constants, then 0, how many there are, which of them some clause names, and its number of clauses in each section
 abbrev pub held_as : Asked → Question
 held_as q = record {
-  kind = kind_number q.kind;
+  kind = kind_held q.kind;
   free = q.free;
   own = q.own;
   constants = q.constants.numbers ++ replicate (most_constants - defined_by q) 0;
@@ -172,13 +170,14 @@ held_as q = record {
       ∷ [];
 }
 
--- a refusal holds no question: each field is 0
-abbrev pub no_question : Question
-no_question = record { kind = 0; free = 0; own = 0; constants = replicate most_constants 0; defined = 0; named = 0; counts = replicate 4 0 }
+-- what is handed over: the number and the place of a refusal, or the struct of a question
+pub data Reading : Type 0 where
+  refused_with : ℕ → ℕ → Reading
+  held : Question → Reading
 
 abbrev pub reading_of : Result → Reading
-reading_of (refused n place) = record { refusal = n; place = place; question = no_question }
-reading_of (accepted q) = record { refusal = 0; place = 0; question = held_as q }
+reading_of (refused n place) = refused_with n place
+reading_of (accepted q) = held (held_as q)
 
 -- four bytes written at an offset
 abbrev pub clause_written : List ℕ → ℕ → LeafJoin → List ℕ
@@ -219,16 +218,16 @@ abbrev pub constant_size : ℕ
 constant_size = 1 + bytes_at constant_levels
 
 -- the constant that was read at an offset, with the offset after it, or something else
-abbrev pub leading_of : Step → Leading
-leading_of (Refused n) = Other
-leading_of (Take Command.End next) = Other
-leading_of (Take Command.Head next) = Other
-leading_of (Take (Command.Constant x) next) = Leading.Constant x next
-leading_of (Take (Command.Clause σ t a b c) next) = Other
+abbrev pub leading_of : Step → Option Leading
+leading_of (Refused n) = None
+leading_of (Take Command.End next) = None
+leading_of (Take Command.Head next) = None
+leading_of (Take (Command.Constant x) next) = Some (record { number = x; next = next })
+leading_of (Take (Command.Clause σ t a b c) next) = None
 
-abbrev pub is_leading : Leading → Bool
-is_leading (Leading.Constant x next) = true
-is_leading Other = false
+abbrev pub is_leading : Option Leading → Bool
+is_leading (Some x) = true
+is_leading None = false
 
 -- a constant stands at an offset, with all its bytes
 abbrev pub constant_at : List ℕ → ℕ → Bool

@@ -1,13 +1,13 @@
 -- Worked byte strings: each refusal, each order of two faults at one command, and the limits, computed. Assumes nothing.
-use Rattle.std.specs.Prelude.{◌≡◌, refl, List, [], ◌∷◌, ◌++◌, map, ℕ, zero, suc, replicate}
+use Rattle.std.specs.Prelude.{◌≡◌, refl, List, [], ◌∷◌, ◌++◌, map, ℕ, zero, suc, replicate, Some, None}
 use Rattle.shares.specs.Constant.{constant_levels, number_of, number}
 use Rattle.systems.specs.Clauses.{variable, constant, joined, equal, is_full, is_empty, together, positive, negated, positives, disequations}
 use Rattle.systems.specs.Questions.{Question, satisfiability, entailment, named_in, is_among}
+use Rattle.format.specs.declared.Kind.TheVariants.{Entailment}
 use Rattle.format.specs.declared.Section.TheVariants.{FirstPositive, FirstDisequation, SecondPositive, SecondDisequation}
 use Rattle.format.specs.declared.Shape.{Shape}
-use Rattle.format.specs.declared.Entry.TheVariants.{Known, Unknown}
 use Rattle.format.specs.Format.{Result, refused, accepted, most_of, entry_of, command_of, whole_at, read_at, term_of, names, fault, taken, ended, turn, run, head_fits, opened, head_of, read}
-use Rattle.format.specs.Stored.{clause_bytes, named_word, reading_of, written_by, clauses_after}
+use Rattle.format.specs.Stored.{clause_bytes, named_word, Reading, refused_with, held, reading_of, written_by, clauses_after}
 
 pub record Worked : Type 0 where
   pub bytes : List ℕ
@@ -30,7 +30,7 @@ itself = 0x12 ∷ 0x00 ∷ 0x00 ∷ []
 -- ---- short ones, each by itself, so that a wrong definition shows in two values
 
 -- what a byte announces
-announced : map entry_of (0x02 ∷ 0x03 ∷ 0x14 ∷ []) ≡ Unknown ∷ Known Shape.Constant ∷ Unknown ∷ []
+announced : map entry_of (0x02 ∷ 0x03 ∷ 0x14 ∷ []) ≡ None ∷ Some Shape.Constant ∷ None ∷ []
 unfolding entry_of
 announced = refl
 
@@ -217,18 +217,16 @@ nines = replicate clause_bytes 9
 abbrev second : List ℕ
 second = alone ++ itself ++ (0x12 ∷ 0x00 ∷ 0x01 ∷ [])
 
--- the struct of a question, and of a refusal; the clauses' bytes after a question, after a string that is refused at its second clause, and after
+-- the word of the constants that a question names
+abbrev names_held : Reading → ℕ
+names_held (refused_with n place) = 0
+names_held (held x) = x.named
+
+-- the struct of a question, and a refusal; the clauses' bytes after a question, after a string that is refused at its second clause, and after
 -- one whose head is refused; and after one with policies in both systems. Of 32 constants the longest question names the first and the last
-pub stored_right : (reading_of (read entails) ≡ record {
-  refusal = 0;
-  place = 0;
-  question = record { kind = 1; free = 1; own = 1; constants = 0x80000001 ∷ replicate 31 0; defined = 1; named = 1; counts = 0 ∷ 1 ∷ 1 ∷ 1 ∷ [] };
-})
-    × (reading_of (read second) ≡ record {
-      refusal = 8;
-      place = 7;
-      question = record { kind = 0; free = 0; own = 0; constants = replicate 32 0; defined = 0; named = 0; counts = 0 ∷ 0 ∷ 0 ∷ 0 ∷ [] };
-    })
+pub stored_right : (reading_of (read entails)
+    ≡ held (record { kind = Entailment; free = 1; own = 1; constants = 0x80000001 ∷ replicate 31 0; defined = 1; named = 1; counts = 0 ∷ 1 ∷ 1 ∷ 1 ∷ [] }))
+    × (reading_of (read second) ≡ refused_with 8 7)
     × (map (λ s. clauses_after s nines) (entails ∷ second ∷ (0x01 ∷ 0x02 ∷ []) ∷ policies ∷ [])
     ≡ (replicate 256 9 ++ (0x00 ∷ 0x00 ∷ 0x0C ∷ 0x20 ∷ replicate 124 9) ++ (0x00 ∷ 0x01 ∷ 0x0C ∷ 0x00 ∷ replicate 252 9) ++ (0x00 ∷ 0x00 ∷ 0x01 ∷ 0x20 ∷ replicate 124 9))
     ∷ (0x00 ∷ 0x00 ∷ 0x0C ∷ 0x00 ∷ replicate 764 9)
@@ -238,6 +236,6 @@ pub stored_right : (reading_of (read entails) ≡ record {
     ++ (0x00 ∷ 0x01 ∷ 0x0C ∷ 0x0D ∷ 0x01 ∷ 0x00 ∷ 0x01 ∷ 0x0C ∷ replicate 248 9) ++ (0x00 ∷ 0x00 ∷ 0x0C ∷ 0x0C ∷ replicate 124 9)
     )
     ∷ [])
-    × ((reading_of (read (full ++ (0x00 ∷ [])))).question.named ≡ 0x80000001)
+    × (names_held (reading_of (read (full ++ (0x00 ∷ [])))) ≡ 0x80000001)
 unfolding times read head_of head_fits opened run turn ended taken fault names term_of read_at whole_at command_of entry_of number positives disequations written_by clauses_after named_word number_of is_among named_in
 stored_right = (refl, refl, refl, refl)

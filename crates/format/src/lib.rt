@@ -1,13 +1,56 @@
-// The byte format of a question: its types; what reading gives, and how a question is stored, in specs/. No functions.
-// The positive clauses and the disequations of each system.
+// The byte format of a question: its types; what reading gives, and how a question is stored, in specs/.
 #![tactic(auto)]
 
-#[derive(Clone, Copy)]
+ghost use Rattle.std.specs.Prelude.{◌≡◌, true, ◌+◌, ◌≤◌};
+ghost use Rattle.format.specs.Format.{head_fits};
+ghost use Rattle.format.specs.Numbers.{fault_number, kind_value, section_number};
+
+// Why a byte string is no question. Each has the number that the paper gives it.
+#[derive(Clone, Copy, PartialEq, Eq, Debug)]
+pub enum Fault {
+    NoHead = 1,
+    CutShort = 2,
+    UnknownCommand = 3,
+    OutOfPlace = 4,
+    UnfitHead = 5,
+    ConstantTooMany = 6,
+    ClauseTooMany = 7,
+    NamesNothing = 8,
+    ForeignClause = 9,
+    BytesAfter = 10,
+}
+
+impl From<Fault> for u8 {
+    ghost from_gives = { λ fault number. number ≡ fault_number fault };
+
+    fn from(fault: Fault) -> u8 {
+        fault as u8
+    }
+}
+
+// What a question asks: whether its system can be satisfied, or whether its first system entails its second.
+#[derive(Clone, Copy, PartialEq, Eq)]
+pub enum Kind {
+    Satisfiability,
+    Entailment,
+}
+
+// The positive clauses and the disequations of each system.
+#[derive(Clone, Copy, PartialEq, Eq)]
 pub enum Section {
     FirstPositive,
     FirstDisequation,
     SecondPositive,
     SecondDisequation,
+}
+
+// The sections are counted in this order.
+impl From<Section> for usize {
+    ghost from_gives = { λ section number. number ≡ section_number section };
+
+    fn from(section: Section) -> usize {
+        section as usize
+    }
 }
 
 // What a clause says or denies: "a join b is c", "a is b", "a is full", "a is empty", or "a and b may be held together".
@@ -39,10 +82,12 @@ pub enum Shape {
     Clause(Section, Test),
 }
 
+// The bytes of a clause's terms, 0 for each that it has not.
 #[derive(Clone, Copy)]
-pub enum Entry {
-    Known(Shape),
-    Unknown,
+pub struct Terms {
+    pub a: u8,
+    pub b: u8,
+    pub c: u8,
 }
 
 // A command with its operands.
@@ -60,33 +105,36 @@ pub enum Command {
     },
 }
 
-// What reading one command gives: the command and the offset after it, or the number of its refusal.
+// A command that was read, and the offset after it.
 #[derive(Clone, Copy)]
-pub enum Step {
-    Take { command: Command, next: usize },
-    Refused(u8),
+pub struct Taken {
+    pub command: Command,
+    pub next: usize,
 }
 
-// What stands where one more constant may stand: the constant with the offset after it, or something else.
+// A constant that stands where one more may stand, and the offset after it.
 #[derive(Clone, Copy)]
-pub enum Leading {
-    Constant { number: u64, next: usize },
-    Other,
+pub struct Leading {
+    pub number: u64,
+    pub next: usize,
 }
 
+// A head that fits: the kind of the question, and how many free and own variables it has.
 #[derive(Clone, Copy)]
-pub enum Head {
-    Opens { kind: u8, free: usize, own: usize },
-    Wrong(u8),
+pub struct Head {
+    pub kind: Kind,
+    pub free: usize,
+    pub own: usize,
+    pub ghost fits: { head_fits (kind_value kind) free own ≡ true },
+    pub ghost own_bound: { free + own ≤ 12 },
 }
 
-// A question that was read: its kind (0 satisfiability, 1 entailment), its free and own variables, its constants, of which so many are
-// defined, which of them some clause names, constant i at bit i, and how many clauses each section has. The clauses themselves are bytes
+// A question that was read: its kind, its free and own variables, its constants, of which so many are defined, which of them some clause names, constant i at bit i, and how many clauses each section has. The clauses themselves are bytes
 // beside it, four a clause: how it reads as a join at a leaf. Sections: 0 first positive, from byte 0; 1 first disequations, from 256;
 // 2 second positive, from 384; 3 second disequations, from 640.
 #[derive(Clone, Copy)]
 pub struct Question {
-    pub kind: u8,
+    pub kind: Kind,
     pub free: usize,
     pub own: usize,
     pub constants: [u64; 32],
@@ -95,10 +143,9 @@ pub struct Question {
     pub counts: [usize; 4],
 }
 
-// What reading gives: refusal 0 and the question, or a refusal with its place and a question whose fields are 0.
+// Why reading refuses a byte string, and at which offset.
 #[derive(Clone, Copy)]
-pub struct Reading {
-    pub refusal: u8,
+pub struct Refused {
+    pub fault: Fault,
     pub place: usize,
-    pub question: Question,
 }

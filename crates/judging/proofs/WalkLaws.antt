@@ -1,7 +1,7 @@
 -- Going over the commands of an accepted question meets the clauses of its first system one by one. Assumes nothing.
 use Rattle.std.proofs.Math.Path.{◌≡◌, refl, ap}
 use Rattle.std.proofs.Common.{sym, ◌∙◌, subst, true≢false, inl, inr, eq-or-lt_of_le, le_of_suc-le-suc, not-suc-le-zero, arith, length-append}
-use Rattle.std.specs.Prelude.{Bool, not, cond, ◌⊎◌, eqb, ltb, get_or, take}
+use Rattle.std.specs.Prelude.{Bool, not, cond, ◌⊎◌, eqb, ltb, get_or, take, Some, None}
 use Rattle.std.proofs.Math.Bool.{true, false, not-not}
 use mathlib.Core.List.{List, [], ◌∷◌, ◌++◌, append-nil, append_assoc}
 use Prim.Native.Nat.{ℕ, zero, suc, ◌+◌, ◌-◌, ◌^◌, ◌≤◌, ◌<◌}
@@ -21,9 +21,8 @@ use Rattle.systems.specs.SystemLaws.{in_system}
 use Rattle.format.specs.declared.Section.{Section}
 use Rattle.format.specs.declared.Section.TheVariants.{FirstPositive, FirstDisequation, SecondPositive, SecondDisequation}
 use Rattle.format.specs.declared.Shape.{Shape}
-use Rattle.format.specs.declared.Entry.TheVariants.{Known, Unknown}
 use Rattle.format.specs.declared.Command.{Command}
-use Rattle.format.specs.declared.Step.TheVariants.{Take, Refused}
+use Rattle.format.specs.Format.{Take, Refused}
 use Rattle.format.specs.Format.{most_positive, most_disequations, accepted, read, entry_of, operands, command_of, whole_at, read_at, atom_of}
 use Rattle.format.specs.SectionLaws.{both_counts}
 use Rattle.format.specs.Limits.{Limited}
@@ -50,11 +49,11 @@ module _ (s : List ℕ) (at : ℕ) where
   read_past l = rw (le-ltb at (length s) l) refl
 
   module _ (l : at < length s) where
-    pub read_unknown : entry_of (get_or s at 0) ≡ Unknown → read_at s at ≡ Refused 3
+    pub read_unknown : entry_of (get_or s at 0) ≡ None → read_at s at ≡ Refused 3
     unfolding read_at whole_at
     read_unknown e = rw (lt-ltb at (length s) l, e) refl
 
-    module _ (h : Shape) (e : entry_of (get_or s at 0) ≡ Known h) where
+    module _ (h : Shape) (e : entry_of (get_or s at 0) ≡ Some h) where
       pub read_short : length s - (at + 1) < operands h → read_at s at ≡ Refused 2
       unfolding read_at whole_at
       read_short m = rw (lt-ltb at (length s) l, e, lt-ltb (length s - (at + 1)) (operands h) m) refl

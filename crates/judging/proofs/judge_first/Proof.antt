@@ -4,8 +4,7 @@ use Prim.Native.Nat.{◌+◌, ◌-◌}
 use native.Mathlib.Omega.{arith}
 use borrow.Author.Rules.{rules}
 use lib.ListN.{length}
-use Rattle.format.specs.Format.{command_of, read_at}
-use Rattle.format.specs.declared.Step.TheVariants.{Take}
+use Rattle.format.specs.Format.{command_of, read_at, Take}
 use Rattle.shares.specs.Constant.{constant_levels}
 use Rattle.judging.specs.Walk.{Gone}
 use Rattle.judging.proofs.WalkLaws.{read_past, read_unknown, read_short, read_take, moves, gone_start, gone_led, first_refused, first_end, gone_other, gone_fits, first_broken, gone_first, first_few}
