@@ -2,6 +2,7 @@
 use mathlib.Core.Path.{◌≡◌, sym, ap, ◌∙◌, subst}
 use mathlib.Core.Bool.{Bool, true, false}
 use mathlib.Core.List.{List}
+use Rattle.std.specs.Prelude.{Ok, Err}
 use Prim.Native.Nat.{ℕ, ◌+◌, ◌-◌, ◌≤◌, zero-le}
 use native.Mathlib.Omega.{arith}
 use borrow.Author.Tests.{eq-eqb, ne_eqb, leb-true}
@@ -14,7 +15,7 @@ use Rattle.rows.specs.Blocks.{Inside, block_tree}
 use Rattle.rows.proofs.BlockLaws.{leaf_inside, block_row}
 use Rattle.text.specs.Texts.{row_text, text_answer, text_after}
 use Rattle.text.specs.Put.{Put}
-use Rattle.text.specs.declared.Written.TheVariants.{Length, Refused}
+use Rattle.text.specs.declared.TextRefusal.TheVariants.{TooLong, NotARow}
 use Rattle.text.proofs.Steps.{put_first}
 
 -- a whole row is one block
@@ -33,16 +34,16 @@ module _ (k : ℕ) (row buffer : List ℕ) where
     room e = let l = leb-true (length (row_text k row)) (length buffer) (sym test ∙ e) in omega (arith, ap length (row_text_lem k row))
 
     pub written : t ≡ true → (n : ℕ) (after : List ℕ) → Put (text (block_tree row k 0)) buffer 0 n after
-        → (Length n ≡ text_answer k row buffer) × (after ≡ text_after k row buffer)
+        → (Ok n ≡ text_answer k row buffer) × (after ≡ text_after k row buffer)
     unfolding text_answer text_after
     written e n after w =
         let (end, bytes) = put_first (row_text k row) buffer after n (leb-true (length (row_text k row)) (length buffer) (sym test ∙ e)) (rw (row_text_lem k row) at w) in
         (rw (eq-eqb (length row) (bytes_at k) whole, ← test, e, end), rw (eq-eqb (length row) (bytes_at k) whole, ← test, e) bytes)
 
-    pub too_long : t ≡ false → (Refused 13 ≡ text_answer k row buffer) × (buffer ≡ text_after k row buffer)
+    pub too_long : t ≡ false → (Err TooLong ≡ text_answer k row buffer) × (buffer ≡ text_after k row buffer)
     unfolding text_answer text_after
     too_long e = (rw (eq-eqb (length row) (bytes_at k) whole, ← test, e), rw (eq-eqb (length row) (bytes_at k) whole, ← test, e))
 
-  pub not_a_row : (length row ≡ bytes_at k → ⊥) → (Refused 14 ≡ text_answer k row buffer) × (buffer ≡ text_after k row buffer)
+  pub not_a_row : (length row ≡ bytes_at k → ⊥) → (Err NotARow ≡ text_answer k row buffer) × (buffer ≡ text_after k row buffer)
   unfolding text_answer text_after
   not_a_row n = (rw (ne_eqb (length row) (bytes_at k) n), rw (ne_eqb (length row) (bytes_at k) n))

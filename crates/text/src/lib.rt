@@ -6,7 +6,7 @@ ghost use Rattle.shares.specs.Constant.{constant_levels};
 ghost use Rattle.shares.specs.Text.{text};
 ghost use Rattle.rows.specs.Rows.{row_levels, row_bytes};
 ghost use Rattle.rows.specs.Blocks.{Inside, block_tree};
-ghost use Rattle.text.specs.Texts.{row_text, text_answer, text_after};
+ghost use Rattle.text.specs.Texts.{refusal_number, row_text, text_answer, text_after};
 ghost use Rattle.text.specs.Put.{Put};
 
 use rows::blocks::is_uniform;
@@ -15,11 +15,23 @@ use rows::{ROW_BYTES, ROW_LEVELS};
 // No text of a row is longer than this.
 pub const LONGEST_TEXT: usize = 3070;
 
-// What writing a text gives: its length, or the number of the refusal.
-#[derive(Clone, Copy)]
-pub enum Written {
-    Length(usize),
-    Refused(u8),
+// Why no text is written.
+#[derive(Clone, Copy, PartialEq, Eq, Debug)]
+pub enum TextRefusal {
+    TooLong,
+    NotARow,
+}
+
+// The number of a refusal.
+impl From<TextRefusal> for u8 {
+    ghost from_gives = { λ refusal number. number ≡ refusal_number refusal };
+
+    fn from(refusal: TextRefusal) -> u8 {
+        match refusal {
+            TextRefusal::TooLong => 13,
+            TextRefusal::NotARow => 14,
+        }
+    }
 }
 
 // The first sign of the text of block q: the leaf that it is, or a bracket.
@@ -79,16 +91,16 @@ fn text_fits(row: &[u8], room: usize) -> bool
     text_length(row, ROW_LEVELS, 0) <= room
 }
 
-// Writes the text of a row to the buffer.
-pub fn tree_text(row: &[u8], buffer: &mut [u8]) -> Written
+// Writes the text of a row to the buffer, and gives its length.
+pub fn tree_text(row: &[u8], buffer: &mut [u8]) -> Result<usize, TextRefusal>
     ensures answer { result ≡ text_answer (row_levels constant_levels) row.now buffer.old }
     ensures buffer { buffer.new ≡ text_after (row_levels constant_levels) row.now buffer.old }
 {
-    if row.len() == ROW_BYTES {
-        if text_fits(row, buffer.len()) {
-            return Written::Length(write_text(row, ROW_LEVELS, 0, buffer, 0));
-        }
-        return Written::Refused(13);
+    if row.len() != ROW_BYTES {
+        return Err(TextRefusal::NotARow);
     }
-    Written::Refused(14)
+    if !text_fits(row, buffer.len()) {
+        return Err(TextRefusal::TooLong);
+    }
+    Ok(write_text(row, ROW_LEVELS, 0, buffer, 0))
 }

@@ -55,31 +55,6 @@ fn say(rt: &impl Print, judgement: Judgement) -> io::Result<()> {
     }
 }
 
-// Reads until the buffer is full, the input ends or a read fails, and gives how many bytes it put at the buffer's start.
-fn read_full<R: Read>(input: &mut R, buffer: &mut [u8]) -> usize
-    ensures within { result ≤ length buffer.new }
-    ensures prefix { result ≡ length (take result buffer.new) }
-{
-    let mut done: usize = 0;
-    while done < buffer.len() {
-        let Ok(n) = input.read(&mut buffer[done..]) else {
-            return done;
-        };
-        if n == 0 {
-            return done;
-        }
-        done += n;
-    }
-    done
-}
-
-// Whether the bytes that were read are all that the input has, or as many as there is room for. At its end one more read gives 0;
-// after a read that failed it fails, or gives bytes that were not read.
-fn is_all<R: Read>(input: &mut R, read: usize, room: usize) -> bool {
-    let mut rest = [0u8; 1];
-    read == room || matches!(input.read(&mut rest), Ok(0))
-}
-
 // Reads the question, and gives its length. Where the rows are not all there, input has ended and there is none: on a terminal it could go on.
 fn read_question<R: Read>(input: &mut R, rows: usize, question: &mut [u8]) -> usize
     ensures within { result ≤ length question.new }
@@ -88,16 +63,16 @@ fn read_question<R: Read>(input: &mut R, rows: usize, question: &mut [u8]) -> us
     if rows < 1536 {
         return 0;
     }
-    read_full(input, question)
+    input::read_full(input, question)
 }
 
 fn main(rt: HostRuntime) {
     let mut rows = [0u8; 1536];
     let mut question = [0u8; 1024];
     let mut input = rt.stdin();
-    let m = read_full(&mut input, &mut rows);
+    let m = input::read_full(&mut input, &mut rows);
     let n = read_question(&mut input, m, &mut question);
-    if !is_all(&mut input, n, 1024) {
+    if !input::is_all(&mut input, n, 1024) {
         let _ = rt.eprintln("zimorgal_judge_cli: standard input could not be read");
         return;
     }
