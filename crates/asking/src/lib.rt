@@ -8,6 +8,7 @@ ghost use Rattle.systems.specs.Answers.{verdict, reason, disequation_number, hei
 ghost use Rattle.rows.specs.Rows.{answer_bytes, zeros};
 ghost use Rattle.decide.specs.Decision.{answer_of, SizedFor, DecidedFor};
 ghost use Rattle.asking.specs.Asking.{work_bytes, answered, asked_with, answer_outcome, outcome_of, answer_after, work_after};
+ghost use Rattle.asking.specs.declared.Refusal.TheVariants.{Question};
 ghost use Rattle.asking.specs.Told.{refusal_number, refusal_place, told};
 ghost use Rattle.asking.specs.Exact.{Exact};
 ghost use Rattle.asking.specs.Demand3.{Demand3};
@@ -15,6 +16,7 @@ ghost use Rattle.asking.specs.Demand3.{Demand3};
 use basics::CLAUSE_BYTES;
 use beside::Sizes;
 use decide::Finding;
+use format::Refused;
 use rows::ANSWER_BYTES;
 use words::{FIRST_WORDS, LEAF_WORDS};
 
@@ -65,9 +67,18 @@ impl Answer {
 // Why a question is not answered: its bytes are none, the answer buffer is too short, or the work area is.
 #[derive(Clone, Copy)]
 pub enum Refusal {
-    Question { fault: u8, place: usize },
+    Question(Refused),
     ShortAnswer,
     ShortWork,
+}
+
+// A refusal of the reader is one.
+impl From<Refused> for Refusal {
+    ghost from_gives = { λ refused refusal. refusal ≡ Question refused };
+
+    fn from(refused: Refused) -> Refusal {
+        Refusal::Question(refused)
+    }
 }
 
 // The number of a refusal.
@@ -76,7 +87,7 @@ impl From<Refusal> for u8 {
 
     fn from(refusal: Refusal) -> u8 {
         match refusal {
-            Refusal::Question { fault, place: _ } => fault,
+            Refusal::Question(refused) => u8::from(refused.fault),
             Refusal::ShortAnswer => 11,
             Refusal::ShortWork => 12,
         }
@@ -89,7 +100,7 @@ impl Refusal {
         ensures { result ≡ refusal_place self }
     {
         match self {
-            Refusal::Question { fault: _, place } => place,
+            Refusal::Question(refused) => refused.place,
             Refusal::ShortAnswer | Refusal::ShortWork => 0,
         }
     }
@@ -138,27 +149,21 @@ pub fn ask(question: &[u8], answer: &mut [u8], work: &mut [u8]) -> Result<Answer
     ensures model { (q : model.Question) → asked_with question.now answer.old work.old ≡ answered q → Exact q (told result) × Demand3 q (told result) answer.new }
 {
     let mut clauses = [0u8; CLAUSE_BYTES];
-    let reading = questions::read(question, &mut clauses);
-    if reading.refusal != 0 {
-        return Err(Refusal::Question {
-            fault: reading.refusal,
-            place: reading.place,
-        });
-    }
+    let read = questions::read(question, &mut clauses)?;
     if answer.len() < ANSWER_BYTES {
         return Err(Refusal::ShortAnswer);
     }
     if work.len() < WORK_BYTES {
         return Err(Refusal::ShortWork);
     }
-    let sizes = decide::sizes_of(reading.question, &reading.question.constants);
+    let sizes = decide::sizes_of(read, &read.constants);
     let mut firsts = [0u64; FIRST_WORDS];
     let mut leaves = [0u64; LEAF_WORDS];
     let finding = decide::decide(
-        reading.question,
+        read,
         sizes,
         &clauses,
-        &reading.question.constants,
+        &read.constants,
         &mut firsts,
         &mut leaves,
     );

@@ -87,7 +87,7 @@ pub fn fill_failing(
     for i in 0..count {
         let y = words::failing_word(terms, clauses, FIRST_DISEQUATIONS + 4 * i, x);
         rows[32 + i] = y;
-        any = any | y;
+        any |= y;
     }
     any
 }

@@ -116,7 +116,7 @@ pub fn section_word(
         if r == 0 {
             return 0;
         }
-        r = r & clause_word(terms, clauses, start + 4 * k);
+        r &= clause_word(terms, clauses, start + 4 * k);
     }
     r
 }
@@ -128,7 +128,7 @@ fn leaf_values(constants: &[u64; 32], named: u64, leaf: usize) -> u64
 {
     let mut r: u64 = 0;
     for i in bits(named) {
-        r = r | (((constants[i] >> leaf) & 1) << i);
+        r |= ((constants[i] >> leaf) & 1) << i;
     }
     r
 }
@@ -222,7 +222,7 @@ pub fn move_terms(n: usize, m: usize, w: usize, terms: &mut [u64; 64])
 pub fn lowest(x: u64) -> usize
     ensures { result ≡ first_below 64 (bit x) }
 {
-    u64::trailing_zeros(x) as usize
+    x.trailing_zeros() as usize
 }
 
 // A word that is not 0, without its lowest bit that is set.

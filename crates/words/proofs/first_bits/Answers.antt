@@ -1,6 +1,6 @@
 -- A word of that many ones takes the first bits. Assumes nothing.
 use Rattle.std.proofs.Common.{◌-◌, ◌^◌, arith, pow_pos, pow_mono}
-use lib.Bits.{and_le_r}
+use Rattle.std.proofs.lemmas.Nat.{and_le_r}
 use Rattle.shares.specs.Shifts.{power_shift}
 use Rattle.words.specs.LowestLaws.{first_bits}
 use Rattle.words.proofs.first_bits.Goals as goal
