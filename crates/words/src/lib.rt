@@ -145,7 +145,7 @@ pub fn values_at(constants: &[u64; 32], named: u64, h: usize, b: usize) -> u32
 }
 
 // All ones where b is set, else 0.
-fn spread(b: bool) -> u64
+pub fn spread(b: bool) -> u64
     ensures { (i : ℕ) → i < 64 → bit result i ≡ b }
 {
     if b { 0xFFFF_FFFF_FFFF_FFFF } else { 0 }
