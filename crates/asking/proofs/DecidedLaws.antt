@@ -18,8 +18,9 @@ use Rattle.asking.specs.Asking.{Outcome, work_bytes, answered, answer_outcome, o
 use Rattle.asking.specs.AskingLaws.{asked_answered}
 use Rattle.asking.specs.Given.{Given}
 use Rattle.asking.proofs.AskedRight.{given}
+use Rattle.words.specs.declared.Passing.{Passing}
 
-module _ (q : Question) (x : Stored) (f : Finding) (firsts leaves : List ℕ) (D : Decided x q f firsts leaves) where
+module _ (q : Question) (x : Stored) (f : Finding) (firsts leaves : List Passing) (D : Decided x q f firsts leaves) where
   -- the answer that was found is the question's, and so is the height given with it
   pub outcome_same : answer_outcome (answer_of f) (height_given (question_height q) q (answer_of f)) ≡ outcome_of (answered q)
   outcome_same = ap (λ a. answer_outcome a (height_given (question_height q) q a)) D.answer
@@ -39,7 +40,7 @@ module _ (q : Question) (x : Stored) (f : Finding) (firsts leaves : List ℕ) (D
 
 -- asking, once a question was read that both buffers are long enough for, and decided
 pub given_answer : (s answer work : List ℕ) (x : Held) (clauses : List ℕ) (T : Taken s x clauses) → answer_bytes T.question.constants.levels ≤ length answer → work_bytes ≤ length work
-    → (sizes : Sizes) (f : Finding) (firsts leaves : List ℕ) → DecidedFor sizes f firsts leaves T.question
+    → (sizes : Sizes) (f : Finding) (firsts leaves : List Passing) → DecidedFor sizes f firsts leaves T.question
     → (r : Outcome)
     → ((q : Question) → SizedFor sizes q → r ≡ answer_outcome (answer_of f) (height_given (question_height q) q (answer_of f)))
     → (answer' : List ℕ) → ((q : Question) → DecidedFor sizes f firsts leaves q → answer' ≡ answer_after (answered q) answer)
@@ -57,6 +58,6 @@ module _ (s : List ℕ) (x : Held) (clauses : List ℕ) (T : Taken s x clauses) 
   pub sized_for : SizedFor sizes T.question
   sized_for = record { question = x; standing = record { clauses = clauses; stands = T.stands }; sized = e }
 
-  pub decided_for : (f : Finding) (firsts leaves : List ℕ) → Decided (stored_of x clauses) T.question f firsts leaves → DecidedFor sizes f firsts leaves T.question
+  pub decided_for : (f : Finding) (firsts leaves : List Passing) → Decided (stored_of x clauses) T.question f firsts leaves → DecidedFor sizes f firsts leaves T.question
   unfolding sized_for
   decided_for f firsts leaves D = record { sizing = sized_for; decided = D }

@@ -18,7 +18,7 @@ use beside::Sizes;
 use decide::Finding;
 use format::Refused;
 use rows::ANSWER_BYTES;
-use words::{FIRST_WORDS, LEAF_WORDS};
+use words::{FIRST_WORDS, LEAF_WORDS, Passing};
 
 // This many bytes of the work area are zero after a yes or no.
 const WORK_BYTES: usize = 4096;
@@ -120,8 +120,8 @@ fn show_solution(
     answer: &mut [u8],
     sizes: Sizes,
     finding: Finding,
-    firsts: &[u64; FIRST_WORDS],
-    leaves: &[u64; LEAF_WORDS],
+    firsts: &[Passing; FIRST_WORDS],
+    leaves: &[Passing; LEAF_WORDS],
 )
     requires constant_levels_in_bounds { answer_bytes constant_levels ≤ length answer.old }
     requires decided_for { (q : model.Question) × DecidedFor sizes finding firsts.now leaves.now q }
@@ -157,8 +157,8 @@ pub fn ask(question: &[u8], answer: &mut [u8], work: &mut [u8]) -> Result<Answer
         return Err(Refusal::ShortWork);
     }
     let sizes = decide::sizes_of(read, &read.constants);
-    let mut firsts = [0u64; FIRST_WORDS];
-    let mut leaves = [0u64; LEAF_WORDS];
+    let mut firsts = [Passing::NONE; FIRST_WORDS];
+    let mut leaves = [Passing::NONE; LEAF_WORDS];
     let finding = decide::decide(
         read,
         sizes,

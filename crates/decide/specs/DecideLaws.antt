@@ -29,6 +29,7 @@ use Rattle.decide.specs.StandsLaws.{with_variables, Same, same_first, same_unmet
 use Rattle.decide.specs.Decision.{answer_of, search_of, Decided}
 use Rattle.decide.specs.declared.Finding.{Finding}
 use Rattle.decide.specs.declared.Finding.TheVariants.{Satisfied, Unsatisfied, Vacuous, Entailed, Unmet, Missed}
+use Rattle.words.specs.declared.Passing.{Passing}
 
 -- a test and its negation
 pub flip : (a : Bool) {b : Bool} → not a ≡ b → a ≡ not b
@@ -72,15 +73,15 @@ module _ {k : ℕ} (x : Stored) (q : Question) (St : Stands k x q) where
 
   -- ---- a finding with which a solution is shown, and one with which none is
 
-  with_pairs : (f : Finding) (firsts leaves : List ℕ) → decide q ≡ answer_of f → SolvedAs x H (search_of f) true firsts leaves → Decided x q f firsts leaves
+  with_pairs : (f : Finding) (firsts leaves : List Passing) → decide q ≡ answer_of f → SolvedAs x H (search_of f) true firsts leaves → Decided x q f firsts leaves
   with_pairs f firsts leaves d D = record { answer = sym d; solved = λ _. D }
 
-  without_pairs : (f : Finding) (firsts leaves : List ℕ) → shows (answer_of f) ≡ false → decide q ≡ answer_of f → Decided x q f firsts leaves
+  without_pairs : (f : Finding) (firsts leaves : List Passing) → shows (answer_of f) ≡ false → decide q ≡ answer_of f → Decided x q f firsts leaves
   without_pairs f firsts leaves s d = record { answer = sym d; solved = λ t. absurd (rw (d, s) at t) }
 
   -- ---- of satisfiability
 
-  module _ (found : Bool) (firsts leaves : List ℕ) (D : SolvedAs x H First found firsts leaves) (kind : q.kind ≡ satisfiability) where
+  module _ (found : Bool) (firsts leaves : List Passing) (D : SolvedAs x H First found firsts leaves) (kind : q.kind ≡ satisfiability) where
     pub decided_satisfied : found ≡ true → Decided x q Satisfied firsts leaves
     unfolding decide_kind
     decided_satisfied e =
@@ -95,7 +96,7 @@ module _ {k : ℕ} (x : Stored) (q : Question) (St : Stands k x q) where
 
   -- ---- of an entailment
 
-  module _ (r : Survey) (firsts leaves : List ℕ) (E : SurveyedAs x H r firsts leaves) (kind : q.kind ≡ entailment) where
+  module _ (r : Survey) (firsts leaves : List Passing) (E : SurveyedAs x H r firsts leaves) (kind : q.kind ≡ entailment) where
     pub decided_vacuous : r.solvable ≡ false → Decided x q Vacuous firsts leaves
     unfolding decide_kind
     decided_vacuous e =

@@ -22,6 +22,7 @@ use Rattle.steps.specs.declared.Search.TheVariants.{First, Unmet, Missed}
 use Rattle.search.specs.Found.{SolvedAs}
 use Rattle.decide.specs.declared.Finding.{Finding}
 use Rattle.decide.specs.declared.Finding.TheVariants.{Satisfied, Unsatisfied, Vacuous, Entailed, Unmet, Missed}
+use Rattle.words.specs.declared.Passing.{Passing}
 
 -- a question that was read and its clauses' bytes stand for some well-formed question of the model
 abbrev pub Standing : Question → List ℕ → Type 0
@@ -69,7 +70,7 @@ search_of (Missed j) = Missed j
 -- ---- the decision of a question
 
 -- what is stored as x stands for q: the answer is q's, and where a solution is shown its search is solved, by these first words
-pub record Decided (x : Stored) (q : Asked) (r : Finding) (firsts leaves : List ℕ) : Type 0 where
+pub record Decided (x : Stored) (q : Asked) (r : Finding) (firsts leaves : List Passing) : Type 0 where
   pub answer : answer_of r ≡ decide q
   pub solved : T (shows (decide q)) → SolvedAs x (question_height q) (search_of r) true firsts leaves
 
@@ -91,7 +92,7 @@ pub record SizedFor (sizes : Sizes) (q : Asked) : Type 0 where
   pub sized : sizes ≡ sizes_of question
 
 -- and this was found, with these first words
-pub record DecidedFor (sizes : Sizes) (r : Finding) (firsts leaves : List ℕ) (q : Asked) : Type 0 where
+pub record DecidedFor (sizes : Sizes) (r : Finding) (firsts leaves : List Passing) (q : Asked) : Type 0 where
   pub sizing : SizedFor sizes q
   pub decided : Decided (stored_of sizing.question sizing.standing.clauses) q r firsts leaves
 

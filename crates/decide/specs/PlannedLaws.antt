@@ -45,6 +45,7 @@ use Rattle.decide.specs.OutlineLaws.{extra_most, room_enough, count_is, count_fe
 use Rattle.decide.specs.Decision.{answer_of, search_of, outline_of, Planned, Decided}
 use Rattle.decide.specs.declared.Finding.{Finding}
 use Rattle.decide.specs.declared.Finding.TheVariants.{Satisfied, Unsatisfied, Vacuous, Entailed, Unmet, Missed}
+use Rattle.words.specs.declared.Passing.{Passing}
 
 -- ---- the answer that a disequation is missed names one of the second system's
 
@@ -79,7 +80,7 @@ module _ {kind : ℕ} (x : Stored) (q : Question) (St : Stands kind x q) (room_f
   abbrev Q : Stored
   Q = with_variables x q.free q.own
 
-  solved_at : {search : Search} {found : Bool} {firsts leaves : List ℕ} → SolvedAs x H search found firsts leaves → SolvedAs Q H search found firsts leaves
+  solved_at : {search : Search} {found : Bool} {firsts leaves : List Passing} → SolvedAs x H search found firsts leaves → SolvedAs Q H search found firsts leaves
   solved_at D = rw (← St.free, ← St.own) D
 
   module _ (search : Search) where
@@ -97,7 +98,7 @@ module _ {kind : ℕ} (x : Stored) (q : Question) (St : Stands kind x q) (room_f
 
     module _ (can : T (solvable_in Q H search)) where
       -- pairs of it can be planned
-      fitting : {firsts leaves : List ℕ} → PairsOf q.free H R (extra_of search) firsts leaves → Fitting (outline_of q search) firsts × LeavesFit (outline_of q search) leaves
+      fitting : {firsts leaves : List Passing} → PairsOf q.free H R (extra_of search) firsts leaves → Fitting (outline_of q search) firsts × LeavesFit (outline_of q search) leaves
       fitting P = (
         record {
           variables = omega (arith, St.variables, St.free);
@@ -167,7 +168,7 @@ module _ {kind : ℕ} (x : Stored) (q : Question) (St : Stands kind x q) (room_f
 
   -- ---- of a decision
 
-  module _ (f : Finding) (firsts leaves : List ℕ) (D : Decided x q f firsts leaves) (t : T (shows (answer_of f))) where
+  module _ (f : Finding) (firsts leaves : List Passing) (D : Decided x q f firsts leaves) (t : T (shows (answer_of f))) where
     solved : SolvedAs Q H (search_of f) true firsts leaves
     solved = solved_at (D.solved (rw D.answer at t))
 

@@ -16,7 +16,7 @@ use beside::Sizes;
 use format::{Kind, Question};
 use plans::{Outline, Plan};
 use steps::Search;
-use words::{FIRST_WORDS, LEAF_WORDS};
+use words::{FIRST_WORDS, LEAF_WORDS, Passing};
 
 // What deciding finds. Of a question of satisfiability: a solution; none. Of an entailment: the first system has no solution; every
 // solution extends; some solution cannot meet the second's positive clauses; some solution cannot have this disequation of the second
@@ -79,8 +79,8 @@ fn decide_satisfiability(
     clauses: &[u8; CLAUSE_BYTES],
     sizes: Sizes,
     constants: &[u64; 32],
-    firsts: &mut [u64; FIRST_WORDS],
-    leaves: &mut [u64; LEAF_WORDS],
+    firsts: &mut [Passing; FIRST_WORDS],
+    leaves: &mut [Passing; LEAF_WORDS],
 ) -> Finding
     requires { Readable clauses.now sizes.counts sizes.free sizes.own × (sizes.named < 2 ^ 32) × (sizes.height ≤ 5) }
     ensures { DecidedAs satisfiability sizes clauses.now constants.now result firsts.new leaves.new }
@@ -96,8 +96,8 @@ fn decide_entailment(
     clauses: &[u8; CLAUSE_BYTES],
     sizes: Sizes,
     constants: &[u64; 32],
-    firsts: &mut [u64; FIRST_WORDS],
-    leaves: &mut [u64; LEAF_WORDS],
+    firsts: &mut [Passing; FIRST_WORDS],
+    leaves: &mut [Passing; LEAF_WORDS],
 ) -> Finding
     requires { Readable clauses.now sizes.counts sizes.free sizes.own × (sizes.named < 2 ^ 32) × (sizes.height ≤ 5) }
     ensures { DecidedAs entailment sizes clauses.now constants.now result firsts.new leaves.new }
@@ -125,8 +125,8 @@ pub fn decide(
     sizes: Sizes,
     clauses: &[u8; CLAUSE_BYTES],
     constants: &[u64; 32],
-    firsts: &mut [u64; FIRST_WORDS],
-    leaves: &mut [u64; LEAF_WORDS],
+    firsts: &mut [Passing; FIRST_WORDS],
+    leaves: &mut [Passing; LEAF_WORDS],
 ) -> Finding
     requires { Standing question clauses.now × (sizes ≡ sizes_of question) × (constants.now ≡ question.constants) }
     ensures { (q : Asked) → Stands (kind_value question.kind) (stored_of question clauses.now) q → WellFormed q → Decided (stored_of question clauses.now) q result firsts.new leaves.new }
@@ -220,8 +220,8 @@ pub fn height_given(sizes: Sizes, finding: Finding) -> usize
 pub fn plan(
     sizes: Sizes,
     finding: Finding,
-    firsts: &[u64; FIRST_WORDS],
-    leaves: &[u64; LEAF_WORDS],
+    firsts: &[Passing; FIRST_WORDS],
+    leaves: &[Passing; LEAF_WORDS],
 ) -> Plan
     requires decided_for { (q : Asked) × DecidedFor sizes finding firsts.now leaves.now q }
     requires t { T (shows (answer_of finding)) }

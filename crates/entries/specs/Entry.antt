@@ -3,11 +3,12 @@ use Rattle.std.specs.Prelude.{◌≡◌, Bool, true, false, ◌&&◌, ◌||◌, 
 use Rattle.shares.specs.Below.{some_below, first_below}
 use Rattle.shares.specs.Constant.{bit}
 use Rattle.words.specs.Kept.{number_at}
+use Rattle.words.specs.declared.Passing.{Passing}
 
 -- ---- the first number that passes
 
 -- entry e after t words: its bit says whether some number passes p, and then its number is the first
-pub record Entry (p : ℕ → Bool) (t met : ℕ) (firsts : List ℕ) (e : ℕ) : Type 0 where
+pub record Entry (p : ℕ → Bool) (t met : ℕ) (firsts : List Passing) (e : ℕ) : Type 0 where
   pub found : bit met e ≡ some_below (64 * t) p
   pub stored : T (bit met e) → number_at firsts e ≡ first_below (64 * t) p
 
@@ -16,19 +17,19 @@ abbrev pub WordOf : (ℕ → Bool) → (ℕ → Bool) → ℕ → Type 0
 WordOf word p t = (i : ℕ) → i < 64 → word i ≡ p (64 * t + i)
 
 -- entry e after word t, of which `word` has the bits. Nothing else changes
-pub record Kept (e t : ℕ) (word : ℕ → Bool) (met : ℕ) (firsts : List ℕ) (met' : ℕ) (firsts' : List ℕ) : Type 0 where
+pub record Kept (e t : ℕ) (word : ℕ → Bool) (met : ℕ) (firsts : List Passing) (met' : ℕ) (firsts' : List Passing) : Type 0 where
   pub entry : (p : ℕ → Bool) → WordOf word p t → Entry p t met firsts e → Entry p (t + 1) met' firsts' e
   pub met_kept : (k : ℕ) → (k ≡ e → ⊥) → bit met' k ≡ bit met k
   pub firsts_kept : (k : ℕ) → (k ≡ e → ⊥) → number_at firsts' k ≡ number_at firsts k
 
 -- the same of the first `count` entries
-pub record KeptAll (count t : ℕ) (word : ℕ → ℕ → Bool) (met : ℕ) (firsts : List ℕ) (met' : ℕ) (firsts' : List ℕ) : Type 0 where
+pub record KeptAll (count t : ℕ) (word : ℕ → ℕ → Bool) (met : ℕ) (firsts : List Passing) (met' : ℕ) (firsts' : List Passing) : Type 0 where
   pub entry : (e : ℕ) → e < count → (p : ℕ → Bool) → WordOf (word e) p t → Entry p t met firsts e → Entry p (t + 1) met' firsts' e
   pub met_kept : (k : ℕ) → count ≤ k → bit met' k ≡ bit met k
   pub firsts_kept : (k : ℕ) → count ≤ k → number_at firsts' k ≡ number_at firsts k
 
 -- the same, but for those whose bits of `rest` are set, which are as they were
-pub record KeptBut (rest count t : ℕ) (word : ℕ → ℕ → Bool) (met : ℕ) (firsts : List ℕ) (met' : ℕ) (firsts' : List ℕ) : Type 0 where
+pub record KeptBut (rest count t : ℕ) (word : ℕ → ℕ → Bool) (met : ℕ) (firsts : List Passing) (met' : ℕ) (firsts' : List Passing) : Type 0 where
   pub entry : (e : ℕ) → e < count → bit rest e ≡ false → (p : ℕ → Bool) → WordOf (word e) p t → Entry p t met firsts e → Entry p (t + 1) met' firsts' e
   pub met_kept : (k : ℕ) → (k < count → T (bit rest k)) → bit met' k ≡ bit met k
   pub firsts_kept : (k : ℕ) → (k < count → T (bit rest k)) → number_at firsts' k ≡ number_at firsts k

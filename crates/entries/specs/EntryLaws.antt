@@ -16,6 +16,7 @@ use Rattle.words.specs.LowestLaws.{lowest_lt}
 use Rattle.entries.specs.BitLaws.{bit_added}
 use Rattle.entries.specs.SearchLaws.{found_in_word}
 use Rattle.entries.specs.Entry.{Entry, WordOf, Kept, KeptAll, KeptBut}
+use Rattle.words.specs.declared.Passing.{Passing}
 
 -- one word more of a test
 pub some_word : (t : ℕ) (p : ℕ → Bool) → some_below (64 * (t + 1)) p ≡ (some_below (64 * t) p || some_below 64 (λ i. p (64 * t + i)))
@@ -28,7 +29,7 @@ module _ (p : ℕ → Bool) (t : ℕ) where
       let (i, m, u) = Rattle.shares.specs.BelowLaws.some_found (64 * t) p s in
       is_true (some_below (64 * t') p) (some_intro (64 * t') p i (omega arith) u)
 
-  pub entry_stays : (t' met : ℕ) (firsts : List ℕ) (e : ℕ) → t ≤ t' → bit met e ≡ true → Entry p t met firsts e → Entry p t' met firsts e
+  pub entry_stays : (t' met : ℕ) (firsts : List Passing) (e : ℕ) → t ≤ t' → bit met e ≡ true → Entry p t met firsts e → Entry p t' met firsts e
   entry_stays t' met firsts e l b E =
       let s : T (some_below (64 * t) p) = of_true (sym E.found ∙ b) in
       record {
@@ -37,7 +38,7 @@ module _ (p : ℕ → Bool) (t : ℕ) where
       }
 
   -- nothing passes in this word
-  pub entry_none : (met : ℕ) (firsts : List ℕ) (e : ℕ) → ((i : ℕ) → i < 64 → p (64 * t + i) ≡ false) → Entry p t met firsts e → Entry p (t + 1) met firsts e
+  pub entry_none : (met : ℕ) (firsts : List Passing) (e : ℕ) → ((i : ℕ) → i < 64 → p (64 * t + i) ≡ false) → Entry p t met firsts e → Entry p (t + 1) met firsts e
   entry_none met firsts e none E = go (bit met e) refl
     where
       same : some_below (64 * (t + 1)) p ≡ some_below (64 * t) p
@@ -48,7 +49,7 @@ module _ (p : ℕ → Bool) (t : ℕ) where
       go false q = record { found = E.found ∙ sym same; stored = λ u. absurd (T_not (bit met e) (of_false q) u) }
 
   -- nothing has passed yet, and the word y is not 0
-  pub entry_found : (met y : ℕ) (firsts : List ℕ) (e : ℕ) → 2 * e + 1 < length firsts → y < 2 ^ 64 → (y ≡ 0 → ⊥) → bit met e ≡ false → WordOf (bit y) p t
+  pub entry_found : (met y : ℕ) (firsts : List Passing) (e : ℕ) → e < length firsts → y < 2 ^ 64 → (y ≡ 0 → ⊥) → bit met e ≡ false → WordOf (bit y) p t
       → Entry p t met firsts e → Entry p (t + 1) (bit_or met (2 ^ e)) (kept_in firsts e t y) e
   entry_found met y firsts e room small n q w E = record {
     found = bit_added met e true refl e ∙ rw (eq-eqb e e refl) (or-true (bit met e)) ∙ sym (is_true (some_below (64 * (t + 1)) p) there);
@@ -69,7 +70,7 @@ module _ (p : ℕ → Bool) (t : ℕ) where
           Rattle.shares.specs.BelowLaws.first_some (64 * (t + 1)) p
           (rw (← first) (omega (arith, lowest_lt y small n)))
 
-module _ (e t : ℕ) (word : ℕ → Bool) (met : ℕ) (firsts : List ℕ) where
+module _ (e t : ℕ) (word : ℕ → Bool) (met : ℕ) (firsts : List Passing) where
   -- it has found one already
   pub kept_before : bit met e ≡ true → Kept e t word met firsts met firsts
   kept_before q = record { entry = λ p w E. entry_stays p t (t + 1) met firsts e (omega arith) q E; met_kept = λ k n. refl; firsts_kept = λ k n. refl }
@@ -83,7 +84,7 @@ module _ (e t : ℕ) (word : ℕ → Bool) (met : ℕ) (firsts : List ℕ) where
   }
 
 -- it finds one
-pub kept_found : (e t y met : ℕ) (firsts : List ℕ) → 2 * e + 1 < length firsts → y < 2 ^ 64 → (y ≡ 0 → ⊥) → bit met e ≡ false
+pub kept_found : (e t y met : ℕ) (firsts : List Passing) → e < length firsts → y < 2 ^ 64 → (y ≡ 0 → ⊥) → bit met e ≡ false
     → Kept e t (bit y) met firsts (bit_or met (2 ^ e)) (kept_in firsts e t y)
 kept_found e t y met firsts room small n q = record {
   entry = λ p w E. entry_found p t met y firsts e room small n q w E;
@@ -92,7 +93,7 @@ kept_found e t y met firsts room small n q = record {
 }
 
 -- the bits of a word may be said otherwise
-pub kept_as : (e t : ℕ) (word word' : ℕ → Bool) (met : ℕ) (firsts : List ℕ) (met' : ℕ) (firsts' : List ℕ) → ((i : ℕ) → i < 64 → word i ≡ word' i)
+pub kept_as : (e t : ℕ) (word word' : ℕ → Bool) (met : ℕ) (firsts : List Passing) (met' : ℕ) (firsts' : List Passing) → ((i : ℕ) → i < 64 → word i ≡ word' i)
     → Kept e t word met firsts met' firsts' → Kept e t word' met firsts met' firsts'
 kept_as e t word word' met firsts met' firsts' same K = record {
   entry = λ p w E. K.entry p (λ i l. same i l ∙ w i l) E;
@@ -102,7 +103,7 @@ kept_as e t word word' met firsts met' firsts' same K = record {
 
 -- ---- all of them, by the bits of those that are left
 
-module _ (count t : ℕ) (word : ℕ → ℕ → Bool) (met : ℕ) (firsts : List ℕ) where
+module _ (count t : ℕ) (word : ℕ → ℕ → Bool) (met : ℕ) (firsts : List Passing) where
   -- those that have found one already are done
   pub but_start : (rest : ℕ) → ((k : ℕ) → k < count → bit rest k ≡ not (bit met k)) → KeptBut rest count t word met firsts met firsts
   but_start rest bits = record {
@@ -112,7 +113,7 @@ module _ (count t : ℕ) (word : ℕ → ℕ → Bool) (met : ℕ) (firsts : Lis
   }
 
   -- one of them more
-  pub but_more : (i rest rest' met' : ℕ) (firsts' : List ℕ) (met'' : ℕ) (firsts'' : List ℕ) → i < count → T (bit rest i)
+  pub but_more : (i rest rest' met' : ℕ) (firsts' : List Passing) (met'' : ℕ) (firsts'' : List Passing) → i < count → T (bit rest i)
       → ((k : ℕ) → bit rest' k ≡ (bit rest k && not (eqb k i))) → KeptBut rest count t word met firsts met' firsts'
       → Kept i t (word i) met' firsts' met'' firsts'' → KeptBut rest' count t word met firsts met'' firsts''
   but_more i rest rest' met' firsts' met'' firsts'' small set out A K = record {
@@ -143,7 +144,7 @@ module _ (count t : ℕ) (word : ℕ → ℕ → Bool) (met : ℕ) (firsts : Lis
           }
 
   -- none is left
-  pub but_none : (rest met' : ℕ) (firsts' : List ℕ) → rest ≡ 0 → KeptBut rest count t word met firsts met' firsts' → KeptAll count t word met firsts met' firsts'
+  pub but_none : (rest met' : ℕ) (firsts' : List Passing) → rest ≡ 0 → KeptBut rest count t word met firsts met' firsts' → KeptAll count t word met firsts met' firsts'
   but_none rest met' firsts' z A = record {
     entry = λ e l. A.entry e l (ap (λ x. bit x e) z ∙ bit_zero e);
     met_kept = λ k l. A.met_kept k (λ m. absurd (omega arith));
@@ -151,6 +152,6 @@ module _ (count t : ℕ) (word : ℕ → ℕ → Bool) (met : ℕ) (firsts : Lis
   }
 
 -- an entry that is as it was
-pub entry_same : (p : ℕ → Bool) (t met : ℕ) (firsts : List ℕ) (met' : ℕ) (firsts' : List ℕ) (e : ℕ) → bit met' e ≡ bit met e → number_at firsts' e ≡ number_at firsts e
+pub entry_same : (p : ℕ → Bool) (t met : ℕ) (firsts : List Passing) (met' : ℕ) (firsts' : List Passing) (e : ℕ) → bit met' e ≡ bit met e → number_at firsts' e ≡ number_at firsts e
     → Entry p t met firsts e → Entry p t met' firsts' e
 entry_same p t met firsts met' firsts' e b v E = record { found = b ∙ E.found; stored = λ u. v ∙ E.stored (rw b at u) }

@@ -8,14 +8,14 @@ ghost use Rattle.words.specs.Clause.{clause_test, Clauses};
 ghost use Rattle.entries.specs.Entry.{Kept, KeptAll, common, InAny, Settling, Marked, MarkedAll};
 
 use basics::{CLAUSE_BYTES, FIRST_DISEQUATIONS};
-use words::FIRST_WORDS;
+use words::{FIRST_WORDS, Passing};
 
 // The rows of a leaf are so many words: of up to 32 disequations of the second system the choices left, of up to 32 of the first the choices in which they
 // hold, and a mark for each of the second.
 pub const ROWS: usize = 96;
 
 // Keeps word number `turn` as that of search e, with the choices y in it that pass, if there are any and the search has found none yet.
-pub fn keep_word(e: usize, turn: usize, y: u64, met: u64, firsts: &mut [u64; FIRST_WORDS]) -> u64
+pub fn keep_word(e: usize, turn: usize, y: u64, met: u64, firsts: &mut [Passing; FIRST_WORDS]) -> u64
     requires { e < 33 }
     ensures { Kept e turn (bit y) met firsts.old result firsts.new }
 {
@@ -25,8 +25,10 @@ pub fn keep_word(e: usize, turn: usize, y: u64, met: u64, firsts: &mut [u64; FIR
     if y == 0 {
         return met;
     }
-    firsts[2 * e] = turn as u64;
-    firsts[2 * e + 1] = y;
+    firsts[e] = Passing {
+        word: turn,
+        choices: y,
+    };
     met | (1 << e)
 }
 
@@ -38,7 +40,7 @@ fn keep_one(
     turn: usize,
     x: u64,
     met: u64,
-    firsts: &mut [u64; FIRST_WORDS],
+    firsts: &mut [Passing; FIRST_WORDS],
 ) -> u64
     requires i_bound { i < 33 }
     requires clauses { Clauses clauses.now (256 + 4 * i) 1 }
@@ -56,7 +58,7 @@ pub fn keep_all(
     turn: usize,
     x: u64,
     met: u64,
-    firsts: &mut [u64; FIRST_WORDS],
+    firsts: &mut [Passing; FIRST_WORDS],
 ) -> u64
     requires count_bound { count ≤ 31 }
     requires clauses { Clauses clauses.now 256 count }

@@ -1,11 +1,5 @@
 -- The least choice that passes, and a choice as the values of its variables. Assumes nothing.
 use Rattle.std.specs.Prelude.{List, ℕ, zero, suc, ◌+◌, ◌*◌, ◌<◌, get_or}
-use Rattle.words.specs.Kept.{lowest_in}
-use Rattle.guesses.specs.declared.Passing.{Passing}
-
--- the number of the least choice that passes: bit i of the word says whether choice 64 * word + i does
-abbrev pub least_number : Passing → ℕ
-least_number passing = 64 * passing.word + lowest_in passing.choices
 
 -- every value is empty, 0, or full, 1
 abbrev pub Values : List ℕ → Type 0

@@ -3,14 +3,10 @@
 #![tactic(auto)]
 
 ghost use Rattle.std.specs.Prelude.{◌≡◌, ◌^◌, ◌<◌, ◌≤◌, ltb};
-ghost use Rattle.guesses.specs.Guesses.{Values, choice_number, least_number};
+ghost use Rattle.words.specs.Kept.{least_number};
+ghost use Rattle.guesses.specs.Guesses.{Values, choice_number};
 
-// A word of choices in which some pass: its number, and the bits of those that do. In no word before it any do.
-#[derive(Clone, Copy, PartialEq, Eq)]
-pub struct Passing {
-    pub word: usize,
-    pub choices: u64,
-}
+use words::Passing;
 
 // Whether the least choice that passes lies below number `end`: a test of bits in the words up to there.
 fn passes_below(passing: Passing, end: usize) -> bool

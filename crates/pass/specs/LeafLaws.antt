@@ -28,6 +28,7 @@ use Rattle.pass.specs.Pass.{missed_below, Done, After, Put, Copied, Visited}
 use Rattle.steps.specs.declared.Search.{Search}
 use Rattle.steps.specs.declared.Search.TheVariants.{Unmet, Missed}
 use Rattle.steps.specs.declared.Seen.{Seen}
+use Rattle.words.specs.declared.Passing.{Passing}
 
 -- the words of b leaves and one more
 leaf_more : (b c : ℕ) → b * c + c ≡ (b + 1) * c
@@ -49,7 +50,7 @@ module _ (S : Stored) (h : ℕ) (search : Search) (b : ℕ) where
   searches_fresh : (met : ℕ) → bit (searches met) 32 ≡ false
   searches_fresh met = bit_of_and met 0xFFFFFFFF 32 ∙ ap (λ c. bit met 32 && c) (bit_beyond 32 0xFFFFFFFF 32 (omega arith) (omega arith)) ∙ and-false (bit met 32)
 
-  pub amid_start : (seen : Seen) (firsts plains rows : List ℕ) → get_or S.counts 1 0 ≤ 31 → After S h search b seen firsts plains rows
+  pub amid_start : (seen : Seen) (firsts plains : List Passing) (rows : List ℕ) → get_or S.counts 1 0 ≤ 31 → After S h search b seen firsts plains rows
       → Amid S h search b 0 (record { met = searches seen.met; possible = seen.possible; here = 0; wanted = seen.possible }) firsts rows
   unfolding some_below
   amid_start seen firsts plains rows few A = record {
@@ -67,7 +68,7 @@ module _ (S : Stored) (h : ℕ) (search : Search) (b : ℕ) where
 
   -- ---- where nothing is sought any more
 
-  pub amid_done : (w w' : ℕ) (seen : Seen) (firsts rows : List ℕ) → w ≤ w' → Done search seen.met (get_or S.counts 1 0)
+  pub amid_done : (w w' : ℕ) (seen : Seen) (firsts : List Passing) (rows : List ℕ) → w ≤ w' → Done search seen.met (get_or S.counts 1 0)
       → Amid S h search b w seen firsts rows → Amid S h search b w' seen firsts rows
   amid_done w w' seen firsts rows l D A = record {
     plain = entry_stays _ w w' seen.met firsts 32 l D.plain A.plain;
@@ -80,9 +81,9 @@ module _ (S : Stored) (h : ℕ) (search : Search) (b : ℕ) where
 
   -- ---- after the last word
 
-  module _ (seen : Seen) (firsts plains rows : List ℕ) (A : After S h search b seen firsts plains rows) (seen₁ : Seen) (firsts₁ rows₁ : List ℕ)
+  module _ (seen : Seen) (firsts plains : List Passing) (rows : List ℕ) (A : After S h search b seen firsts plains rows) (seen₁ : Seen) (firsts₁ : List Passing) (rows₁ : List ℕ)
       (M : Amid S h search b (word_count n) seen₁ firsts₁ rows₁) (possible_kept : seen₁.possible ≡ seen.possible)
-      (plains₁ : List ℕ) (P : Put b firsts₁ 32 plains plains₁) where
+      (plains₁ : List Passing) (P : Put b firsts₁ 32 plains plains₁) where
     -- an unmet choice stays found
     before : search ≡ Unmet → T (not (bit seen₁.met 31)) → T (not (bit seen.met 31))
     before e t =
@@ -153,7 +154,7 @@ module _ (S : Stored) (h : ℕ) (search : Search) (b : ℕ) where
             some_intro (64 * (b * word_count n)) (on_pairs S h f) (like * leaf_width n + z) below
             (subst T (ap (on_pairs S h f) e ∙ at b z small ∙ ap (λ values. f values z) (sym same) ∙ sym (at like z small)) v)
 
-    skip : (f : ℕ → ℕ → Bool) (met : ℕ) (firsts : List ℕ) (e : ℕ) → Entry (on_pairs S h f) (b * word_count n) met firsts e → Entry (on_pairs S h f) ((b + 1) * word_count n) met firsts e
+    skip : (f : ℕ → ℕ → Bool) (met : ℕ) (firsts : List Passing) (e : ℕ) → Entry (on_pairs S h f) (b * word_count n) met firsts e → Entry (on_pairs S h f) ((b + 1) * word_count n) met firsts e
     skip f met firsts e E = record {
       found = E.found ∙ sym (repeated f);
       stored = λ u.
@@ -161,7 +162,7 @@ module _ (S : Stored) (h : ℕ) (search : Search) (b : ℕ) where
           ∙ sym (first_longer (64 * (b * word_count n)) (64 * ((b + 1) * word_count n)) (on_pairs S h f) (omega (arith, sym (leaf_more b (word_count n)))) (subst T E.found u));
     }
 
-    pub leaf_copied : (seen : Seen) (firsts plains rows : List ℕ) (seen₁ : Seen) (plains₁ : List ℕ) → get_or S.counts 1 0 ≤ 31 → Copied b like seen plains seen₁ plains₁
+    pub leaf_copied : (seen : Seen) (firsts plains : List Passing) (rows : List ℕ) (seen₁ : Seen) (plains₁ : List Passing) → get_or S.counts 1 0 ≤ 31 → Copied b like seen plains seen₁ plains₁
         → After S h search b seen firsts plains rows → Visited S h search b seen₁ firsts plains₁ rows
     leaf_copied seen firsts plains rows seen₁ plains₁ few C A = record {
       done = λ _. record {
@@ -206,7 +207,7 @@ put_entry b from a old room = record {
   kept = λ k n. kept_others old b (get_or from (2 * a) 0) (get_or from (2 * a + 1) 0) k n;
 }
 
-pub copied : (b a : ℕ) (seen : Seen) (plains plains' : List ℕ) → Put b plains a plains plains'
+pub copied : (b a : ℕ) (seen : Seen) (plains plains' : List Passing) → Put b plains a plains plains'
     → Copied b a seen plains (record { met = bit_or seen.met (2 ^ 32); possible = seen.possible; here = 0; wanted = 0 }) plains'
 copied b a seen plains plains' P = record {
   possible_kept = refl;

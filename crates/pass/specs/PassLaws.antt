@@ -21,6 +21,7 @@ use Rattle.pass.specs.Pass.{After, Visited, Passed}
 use Rattle.steps.specs.declared.Search.{Search}
 use Rattle.steps.specs.declared.Search.TheVariants.{Missed}
 use Rattle.steps.specs.declared.Seen.{Seen}
+use Rattle.words.specs.declared.Passing.{Passing}
 
 -- only the values of the constants that are named are set
 pub values_within : (levels : ℕ) (constants : List ℕ) (named h b : ℕ) → Within named (values_at levels constants named h b)
@@ -46,10 +47,10 @@ module _ (S : Stored) (h : ℕ) (search : Search) where
   unfolding some_below
   none f = ap (λ k. some_below (64 * k) (on_pairs S h f)) (zero-mul (word_count S.free))
 
-  entry_start : (f : ℕ → ℕ → Bool) (firsts : List ℕ) (e : ℕ) → Entry (on_pairs S h f) (0 * word_count S.free) 0 firsts e
+  entry_start : (f : ℕ → ℕ → Bool) (firsts : List Passing) (e : ℕ) → Entry (on_pairs S h f) (0 * word_count S.free) 0 firsts e
   entry_start f firsts e = record { found = bit_zero e ∙ sym (none f); stored = λ t. absurd (T_not (bit 0 e) (of_false (bit_zero e)) t) }
 
-  pub after_none : (firsts plains rows : List ℕ) → ((k : ℕ) → get_or rows k 0 ≡ 0)
+  pub after_none : (firsts plains : List Passing) (rows : List ℕ) → ((k : ℕ) → get_or rows k 0 ≡ 0)
       → After S h search 0 (record { met = 0; possible = 2 ^ get_or S.counts 3 0 - 1; here = 0; wanted = 0 }) firsts plains rows
   unfolding every_below
   after_none firsts plains rows zero = record {
@@ -62,14 +63,14 @@ module _ (S : Stored) (h : ℕ) (search : Search) where
   }
 
   -- after the last
-  pub passed_all : (seen : Seen) (firsts plains rows : List ℕ) → After S h search (2 ^ h) seen firsts plains rows → Passed S h search seen firsts plains rows
+  pub passed_all : (seen : Seen) (firsts plains : List Passing) (rows : List ℕ) → After S h search (2 ^ h) seen firsts plains rows → Passed S h search seen firsts plains rows
   passed_all seen firsts plains rows A = record {
     all = is_true _ (A.found (pow_pos h)) ∙ sym (is_true _ (every_intro (2 ^ h) _ (λ b l. (A.least b l).0)));
     after = λ _. A;
   }
 
   -- a leaf has no choice
-  pub passed_none : (b : ℕ) (seen : Seen) (firsts plains rows : List ℕ) → b < 2 ^ h → bit seen.met 32 ≡ false → Visited S h search b seen firsts plains rows
+  pub passed_none : (b : ℕ) (seen : Seen) (firsts plains : List Passing) (rows : List ℕ) → b < 2 ^ h → bit seen.met 32 ≡ false → Visited S h search b seen firsts plains rows
       → Passed S h search seen firsts plains rows
   passed_none b seen firsts plains rows l e W = record {
     all = e ∙ sym (every_fails (λ b. some_below (leaf_width S.free) (allowed_in S search (leaf_values S h b))) (W.none (of_false e)));

@@ -10,7 +10,7 @@ ghost use Rattle.pass.specs.Pass.{Done, After, Copied, Visited, Passed};
 
 use beside::Searchable;
 use steps::{Search, Seen, Spot};
-use words::{FIRST_WORDS, LEAF_WORDS};
+use words::{FIRST_WORDS, LEAF_WORDS, Passing};
 
 // A leaf: what is searched for, its number, the first of the leaves before it that looks like it, and the values of the constants there.
 #[derive(Clone, Copy)]
@@ -22,7 +22,7 @@ pub struct Leaf {
 }
 
 // Puts a word and its choices into a table as entry `number`.
-fn put_entry(plains: &mut [u64; LEAF_WORDS], number: usize, word: u64, choices: u64)
+fn put_entry(plains: &mut [Passing; LEAF_WORDS], number: usize, word: u64, choices: u64)
     requires { number < 64 }
     ensures { plains.new ≡ set (set plains.old (2 * number) word) (2 * number + 1) choices }
 {
@@ -55,7 +55,7 @@ fn pass_words(
     search: Search,
     number: usize,
     start: Seen,
-    firsts: &mut [u64; FIRST_WORDS],
+    firsts: &mut [Passing; FIRST_WORDS],
     rows: &mut [u64; 96],
 ) -> Seen
     requires { Named question.now.sizes.counts search × (number < 64) × Placed question.now.sizes.free question.now.sizes.own terms.old }
@@ -86,8 +86,8 @@ fn pass_leaf(
     terms: &mut [u64; 64],
     leaf: Leaf,
     seen: Seen,
-    firsts: &mut [u64; FIRST_WORDS],
-    plains: &mut [u64; LEAF_WORDS],
+    firsts: &mut [Passing; FIRST_WORDS],
+    plains: &mut [Passing; LEAF_WORDS],
     rows: &mut [u64; 96],
 ) -> Seen
     requires { Named question.now.sizes.counts leaf.search × (leaf.number < 64) × Placed question.now.sizes.free question.now.sizes.own terms.old }
@@ -119,7 +119,7 @@ fn pass_leaf(
 }
 
 // A leaf that looks like an earlier one has its least choice, and no other search finds anything there.
-fn copy_leaf(number: usize, like: usize, seen: Seen, plains: &mut [u64; LEAF_WORDS]) -> Seen
+fn copy_leaf(number: usize, like: usize, seen: Seen, plains: &mut [Passing; LEAF_WORDS]) -> Seen
     requires { (like < number) × (number < 64) }
     ensures { Copied number like seen plains.old result plains.new }
 {
@@ -140,8 +140,8 @@ fn visit(
     terms: &mut [u64; 64],
     leaf: Leaf,
     seen: Seen,
-    firsts: &mut [u64; FIRST_WORDS],
-    plains: &mut [u64; LEAF_WORDS],
+    firsts: &mut [Passing; FIRST_WORDS],
+    plains: &mut [Passing; LEAF_WORDS],
     rows: &mut [u64; 96],
 ) -> Seen
     requires { Named question.now.sizes.counts leaf.search × (leaf.number < 64) × IfSome leaf.like (λ a. a < leaf.number) × Within question.now.sizes.named leaf.values × PlacedWithin question.now.sizes.free question.now.sizes.own question.now.sizes.named terms.old }
@@ -167,8 +167,8 @@ pub fn first_like(keys: &[u32; 64], values: u32, b: usize) -> Option<usize>
 pub fn pass_leaves(
     question: &Searchable<'_>,
     search: Search,
-    firsts: &mut [u64; FIRST_WORDS],
-    plains: &mut [u64; LEAF_WORDS],
+    firsts: &mut [Passing; FIRST_WORDS],
+    plains: &mut [Passing; LEAF_WORDS],
     rows: &mut [u64; 96],
 ) -> Seen
     requires { Named question.now.sizes.counts search × ((k : ℕ) → get_or rows.old k 0 ≡ 0) }

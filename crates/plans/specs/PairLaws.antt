@@ -1,24 +1,26 @@
 -- Laws of pairs: how wide a leaf is, where a pair stands, and the plan once some disequations have their sub-leaves. Assumes nothing.
-use Rattle.std.specs.Prelude.{◌≡◌, refl, List, ℕ, suc, ◌+◌, ◌-◌, ◌*◌, ◌/◌, ◌%◌, ◌^◌, ◌≤◌, ◌<◌, eqb, length, get_or, set, replicate}
+use Rattle.std.specs.Prelude.{◌≡◌, refl, ◌&&◌, T, List, ℕ, suc, ◌+◌, ◌-◌, ◌*◌, ◌/◌, ◌%◌, ◌^◌, ◌≤◌, ◌<◌, eqb, length, get_or, set, replicate}
 use Rattle.std.proofs.Math.Path.{sym, ap}
-use Rattle.std.proofs.Common.{ap₂, get_or-set_same, get_or-set_other, ◌∙◌, le_trans, div-add-mod', div-lt_iff_lt-mul, mul_left_comm, arith, pow-add, pow_mono, pow_pos, lt-ltb, le-ltb, eq-eqb, ne_eqb}
+use Rattle.std.proofs.Common.{ap₂, get_or-set_same, get_or-set_other, ◌∙◌, le_trans, div-add-mod', div-lt_iff_lt-mul, mul_left_comm, arith, pow-add, pow_mono, pow_pos, lt-ltb, le-ltb, eq-eqb, eqb→eq, ne_eqb}
 use Rattle.std.proofs.Math.Nat.{mod-lt, add-zero}
 use Rattle.std.proofs.Math.Numerals.{add-one}
 use Rattle.std.proofs.Math.Decide.{dec_lt, ℕ_discrete}
 use Rattle.std.proofs.Math.ListN.{get_or-replicate}
 use Rattle.std.proofs.Math.Arith.{digits_div, digits_mod}
+use Rattle.shares.specs.Test.{and_left, and_right}
 use Rattle.shares.specs.Below.{one, count_below}
 use Rattle.shares.specs.BelowLaws.{count_ext, count_le}
 use Rattle.leaves.specs.Problem.{Problem}
 use Rattle.leaves.specs.Numbers.{leaf_for, rank_for, special_choice}
 use Rattle.plans.specs.NumberLaws.{rank_here}
 use Rattle.words.specs.Choices.{word_count}
-use Rattle.words.specs.Kept.{number_at}
+use Rattle.words.specs.Kept.{lowest_in, least_number, number_at}
 use Rattle.words.specs.Stores.{store_law}
 use Rattle.plans.specs.declared.Entry.{Entry}
 use Rattle.plans.specs.declared.Outline.{Outline}
 use Rattle.plans.specs.Shown.{entry_at}
 use Rattle.plans.specs.Pairs.{leaf_width, slot_of, pair_leaf, Fitting, PairsOf, Filled, Made}
+use Rattle.words.specs.declared.Passing.{Passing}
 
 -- ---- a leaf is as wide as a power of two
 
@@ -49,6 +51,12 @@ width_enough n = go (dec_lt n 6)
     go (yes l) = rw (← (width_few n l)) (pow_mono {j = 6} (omega arith))
     go (no l) = omega (arith, width_many n (omega arith))
 
+-- words that are the same have the same least choice
+pub same_least : (a b : Passing) → T (eqb a.word b.word && eqb a.choices b.choices) → least_number a ≡ least_number b
+same_least a b t =
+    ap₂ (λ w y. 64 * w + lowest_in y) (eqb→eq a.word b.word (and_left (eqb a.word b.word) _ t))
+    (eqb→eq a.choices b.choices (and_right (eqb a.word b.word) _ t))
+
 -- the number of a word among those of all leaves says the leaf, and the word there
 module _ (t r n : ℕ) (small : r < 64) where
   within : 64 * (t % word_count n) + r < 64 * word_count n
@@ -76,7 +84,7 @@ slot_lt extra e h = go (dec_lt e extra)
     go (yes l) = rw (lt-ltb e extra l) (omega arith)
     go (no l) = rw (le-ltb e extra (omega arith)) (omega arith)
 
-module _ (o : Outline) (firsts : List ℕ) (fits : Fitting o firsts) where
+module _ (o : Outline) (firsts : List Passing) (fits : Fitting o firsts) where
   pub leaves_le : 2 ^ o.height ≤ 64
   leaves_le = pow_mono {j = 6} fits.low
 
@@ -85,7 +93,7 @@ module _ (o : Outline) (firsts : List ℕ) (fits : Fitting o firsts) where
 
 -- ---- one disequation after another gets its sub-leaf
 
-module _ (o : Outline) (firsts : List ℕ) where
+module _ (o : Outline) (firsts : List Passing) where
   -- how many of the first e disequations have a leaf
   abbrev pub leaf_count : ℕ → ℕ → ℕ
   leaf_count e b = count_below e (λ i. eqb (pair_leaf o firsts i) b)
@@ -134,7 +142,7 @@ module _ (o : Outline) (firsts : List ℕ) where
 
 -- ---- a table of a problem's pairs gives the problem's plan
 
-module _ (o : Outline) (firsts leaves : List ℕ) (R : Problem ℕ) (P : PairsOf o.free o.height R o.extra firsts leaves) where
+module _ (o : Outline) (firsts leaves : List Passing) (R : Problem ℕ) (P : PairsOf o.free o.height R o.extra firsts leaves) where
   leaf_is : (j : ℕ) → j < R.count → pair_leaf o firsts j ≡ leaf_for o.free o.height R j
   leaf_is j l = ap (λ x. x / leaf_width o.free) (P.entries j l) ∙ digits_div (leaf_for o.free o.height R j) (le_trans (P.within j l) (width_enough o.free))
 

@@ -9,6 +9,7 @@ use Rattle.plans.specs.declared.Entry.{Entry}
 use Rattle.plans.specs.declared.Plan.{Plan}
 use Rattle.plans.specs.declared.Outline.{Outline}
 use Rattle.plans.specs.Shown.{entry_at}
+use Rattle.words.specs.declared.Passing.{Passing}
 
 -- how many choices the words of a leaf hold, with n free variables: the pair of leaf b and choice z is the number b * leaf_width n + z
 abbrev pub leaf_width : ℕ → ℕ
@@ -19,7 +20,7 @@ abbrev pub slot_of : ℕ → ℕ → ℕ
 slot_of extra e = cond (ltb e extra) 31 (e - extra)
 
 -- a table that can be planned: its numbers are of leaves and choices that there are
-pub record Fitting (o : Outline) (firsts : List ℕ) : Type 0 where
+pub record Fitting (o : Outline) (firsts : List Passing) : Type 0 where
   pub variables : o.free ≤ 12
   pub low : o.height ≤ 6
   pub splits : o.splits ≤ 5
@@ -29,21 +30,21 @@ pub record Fitting (o : Outline) (firsts : List ℕ) : Type 0 where
   pub choices : (e : ℕ) → e < o.extra + o.count → number_at firsts (slot_of o.extra e) % leaf_width o.free < 2 ^ o.free
 
 -- so are those of a table of leaves
-abbrev pub LeavesFit : Outline → List ℕ → Type 0
+abbrev pub LeavesFit : Outline → List Passing → Type 0
 LeavesFit o leaves = (b : ℕ) → b < 2 ^ o.height → number_at leaves b < 2 ^ o.free
 
 -- two tables stand for the pairs of a solvable problem: the least choice of each leaf, and the leaf and the choice of each disequation
-pub record PairsOf (n h : ℕ) (R : Problem ℕ) (extra : ℕ) (firsts leaves : List ℕ) : Type 0 where
+pub record PairsOf (n h : ℕ) (R : Problem ℕ) (extra : ℕ) (firsts leaves : List Passing) : Type 0 where
   pub plains : (b : ℕ) → b < 2 ^ h → number_at leaves b ≡ plain_choice n h R b
   pub entries : (e : ℕ) → e < R.count → number_at firsts (slot_of extra e) ≡ leaf_for n h R e * leaf_width n + special_choice n h R e (leaf_for n h R e)
   pub within : (e : ℕ) → e < R.count → special_choice n h R e (leaf_for n h R e) < 2 ^ n
 
 -- the leaf of disequation e by its pair
-abbrev pub pair_leaf : Outline → List ℕ → ℕ → ℕ
+abbrev pub pair_leaf : Outline → List Passing → ℕ → ℕ
 pair_leaf o firsts e = number_at firsts (slot_of o.extra e) / leaf_width o.free
 
 -- the first e disequations have their sub-leaves and choices
-pub record Filled (o : Outline) (firsts : List ℕ) (e : ℕ) (entries : List Entry) : Type 0 where
+pub record Filled (o : Outline) (firsts : List Passing) (e : ℕ) (entries : List Entry) : Type 0 where
   pub sub_leaves : (i : ℕ) → i < e
       → (entry_at entries i).subleaf ≡ pair_leaf o firsts i * 2 ^ o.splits + count_below i (λ j. eqb (pair_leaf o firsts j) (pair_leaf o firsts i))
   pub choices : (i : ℕ) → i < e → (entry_at entries i).choice ≡ number_at firsts (slot_of o.extra i) % leaf_width o.free

@@ -4,13 +4,11 @@
 ghost use Rattle.std.specs.Prelude.{◌≡◌, ℕ, ◌+◌, ◌-◌, ◌*◌, ◌/◌, ◌%◌, ◌^◌, ◌<◌, ◌≤◌, ◌&&◌, eqb, length, get_or, set};
 ghost use Rattle.leaves.specs.Heights.{c};
 ghost use Rattle.leaves.specs.Problem.{Problem};
-ghost use Rattle.guesses.specs.Guesses.{least_number};
 ghost use Rattle.words.specs.Choices.{word_count};
-ghost use Rattle.words.specs.Kept.{number_at};
+ghost use Rattle.words.specs.Kept.{least_number, number_at};
 ghost use Rattle.plans.specs.Pairs.{leaf_width, slot_of, Fitting, LeavesFit, PairsOf, Filled, Made};
 
-use guesses::Passing;
-use words::{FIRST_WORDS, LEAF_WORDS};
+use words::{FIRST_WORDS, LEAF_WORDS, Passing};
 
 // A sub-leaf that holds another choice than its leaf does.
 #[derive(Clone, Copy)]
@@ -72,20 +70,6 @@ fn word_digits(n: usize) -> usize
     n.saturating_sub(6)
 }
 
-// The word of an entry of a table, with its number: in a table of first words that among the words of all leaves, and
-// in one of leaves that among the words of the leaf.
-#[tactic(auto, unfolding(words::specs::Kept::number_at))]
-fn word_at(table: &[u64], entry: usize) -> Passing
-    requires { 2 * entry + 1 < length table.now }
-    ensures { least_number result ≡ number_at table.now entry }
-{
-    // the two words of an entry are a number, which fits a `usize`, and bits
-    Passing {
-        word: table[2 * entry] as usize,
-        choices: table[2 * entry + 1],
-    }
-}
-
 // The leaf of a word.
 fn leaf_of(kept: Passing, free: usize) -> usize
     requires { free ≤ 12 }
@@ -127,20 +111,20 @@ fn take_rank(taken: &mut [u8], leaf: usize) -> usize
 }
 
 // The least choice of leaf b: that of the leaf before it, if it has the same word.
-fn plain_at(leaves: &[u64; LEAF_WORDS], b: usize, free: usize, plain: &[u16]) -> u16
+fn plain_at(leaves: &[Passing; LEAF_WORDS], b: usize, free: usize, plain: &[u16]) -> u16
     requires b_bound { (b < 64) × (free ≤ 12) × (length plain.now ≡ 64) }
     requires b_bound_2 { (number_at leaves.now b < 2 ^ free) × (0 < b → get_or plain.now (b - 1) 0 ≡ number_at leaves.now (b - 1)) }
     ensures { result ≡ number_at leaves.now b }
 {
-    let kept = word_at(leaves, b);
-    if b > 0 && word_at(leaves, b - 1) == kept {
+    let kept = leaves[b];
+    if b > 0 && leaves[b - 1] == kept {
         return plain[b - 1];
     }
     choice_of(kept, free)
 }
 
 // Puts the least choices of the first `count` leaves into the plan.
-fn fill_plain(leaves: &[u64; LEAF_WORDS], count: usize, free: usize, plain: &mut [u16])
+fn fill_plain(leaves: &[Passing; LEAF_WORDS], count: usize, free: usize, plain: &mut [u16])
     requires { (count ≤ 64) × (free ≤ 12) × (length plain.old ≡ 64) × ((b : ℕ) → b < count → number_at leaves.now b < 2 ^ free) }
     ensures { (b : ℕ) → b < count → get_or plain.new b 0 ≡ number_at leaves.now b }
 {
@@ -150,14 +134,14 @@ fn fill_plain(leaves: &[u64; LEAF_WORDS], count: usize, free: usize, plain: &mut
 }
 
 // Gives each disequation its sub-leaf: from the left those of a leaf stand in order.
-fn fill_entries(firsts: &[u64; FIRST_WORDS], outline: Outline, entries: &mut [Entry])
+fn fill_entries(firsts: &[Passing; FIRST_WORDS], outline: Outline, entries: &mut [Entry])
     requires fitting { Fitting outline firsts.now }
     requires entries_len { length entries.old ≡ 32 }
     ensures { Filled outline firsts.now (outline.extra + outline.count) entries.new }
 {
     let mut taken = [0u8; 64];
     for e in 0..outline.extra + outline.count {
-        let kept = word_at(firsts, slot_of(outline.extra, e));
+        let kept = firsts[slot_of(outline.extra, e)];
         let leaf = leaf_of(kept, outline.free);
         let rank = take_rank(&mut taken, leaf);
         entries[e] = Entry {
@@ -168,7 +152,7 @@ fn fill_entries(firsts: &[u64; FIRST_WORDS], outline: Outline, entries: &mut [En
 }
 
 // The plan of the solution that a table of first words and one of the leaves' least words hold.
-pub fn plan_of(firsts: &[u64; FIRST_WORDS], leaves: &[u64; LEAF_WORDS], outline: Outline) -> Plan
+pub fn plan_of(firsts: &[Passing; FIRST_WORDS], leaves: &[Passing; LEAF_WORDS], outline: Outline) -> Plan
     requires { Fitting outline firsts.now × LeavesFit outline leaves.now }
     ensures { (R : Problem ℕ) → R.count ≡ outline.extra + outline.count → PairsOf outline.free outline.height R outline.extra firsts.now leaves.now → Made outline.free outline.height R outline.splits result }
 {

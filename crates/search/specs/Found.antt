@@ -11,6 +11,7 @@ use Rattle.steps.specs.Tests.{extra_of, tests_of}
 use Rattle.steps.specs.declared.Search.{Search}
 use Rattle.steps.specs.declared.Search.TheVariants.{First, Unmet, Missed}
 use Rattle.search.specs.declared.Survey.{Survey}
+use Rattle.words.specs.declared.Passing.{Passing}
 
 -- the problem of a search is solvable
 abbrev pub solvable_in : Stored → ℕ → Search → Bool
@@ -25,7 +26,7 @@ abbrev pub all_found : ℕ → ℕ → Bool
 all_found count met = bit met 32 && every_below count (bit met)
 
 -- a search: whether its problem is solvable, and then the first words of its solution
-pub record SolvedAs (S : Stored) (h : ℕ) (search : Search) (found : Bool) (firsts leaves : List ℕ) : Type 0 where
+pub record SolvedAs (S : Stored) (h : ℕ) (search : Search) (found : Bool) (firsts leaves : List Passing) : Type 0 where
   pub found_is : found ≡ solvable_in S h search
   pub pairs_are : T found → PairsOf S.free h (tests_of S h search) (extra_of search) firsts leaves
 

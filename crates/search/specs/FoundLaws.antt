@@ -26,6 +26,7 @@ use Rattle.search.specs.Found.{solvable_in, lowest_missed_in, all_found, is_miss
 use Rattle.search.specs.declared.Survey.{Survey}
 use Rattle.search.specs.WideLaws.{pair_at, solvable_wide, pairs_of}
 use Rattle.search.specs.TestLaws.{tests_periodic, special_stored}
+use Rattle.words.specs.declared.Passing.{Passing}
 
 -- the second of two tests counts only where the first passes
 and_same : (a a' b b' : Bool) → a ≡ a' → (T a → b ≡ b') → (a && b) ≡ (a' && b')
@@ -61,7 +62,7 @@ module _ (S : Stored) (h : ℕ) where
   pairs_words = mul_left_comm 64 (2 ^ h) (word_count S.free)
 
   -- an entry after the last leaf
-  module _ (p : ℕ → Bool) (met : ℕ) (firsts : List ℕ) (e : ℕ) (E : Entry p (2 ^ h * word_count S.free) met firsts e) where
+  module _ (p : ℕ → Bool) (met : ℕ) (firsts : List Passing) (e : ℕ) (E : Entry p (2 ^ h * word_count S.free) met firsts e) where
     entry_found : bit met e ≡ some_below pair_count p
     entry_found = E.found ∙ ap (λ k. some_below k p) pairs_words
 
@@ -118,14 +119,14 @@ module _ (S : Stored) (h : ℕ) where
       × (number_at firsts (slot_of (extra_of search) e) ≡ first_below pair_count (pair_at S.free (tests_of S h search) e))
 
   -- an entry that has found a pair, of a test that disequation e is
-  has_pair : (search : Search) (p : ℕ → Bool) (met : ℕ) (firsts : List ℕ) (slot e : ℕ) → Entry p (2 ^ h * word_count S.free) met firsts slot
+  has_pair : (search : Search) (p : ℕ → Bool) (met : ℕ) (firsts : List Passing) (slot e : ℕ) → Entry p (2 ^ h * word_count S.free) met firsts slot
       → slot_of (extra_of search) e ≡ slot → ((u : ℕ) → pair_at S.free (tests_of S h search) e u ≡ p u) → T (bit met slot) → HasPair search firsts e
   has_pair search p met firsts slot e E at same t = (
     rw (some_ext pair_count (pair_at S.free (tests_of S h search) e) p (λ u l. same u), ← (entry_found p met firsts slot E)) t,
     rw at (entry_pair p met firsts slot E t ∙ sym (first_ext pair_count (pair_at S.free (tests_of S h search) e) p (λ u l. same u))),
   )
 
-  module _ (search : Search) (seen : Seen) (firsts leaves rows : List ℕ) (P : Passed S h search seen firsts leaves rows) where
+  module _ (search : Search) (seen : Seen) (firsts leaves : List Passing) (rows : List ℕ) (P : Passed S h search seen firsts leaves rows) where
     all_found_lem : all_found (get_or S.counts 1 0) seen.met ≡ (leaves_allow search && every_below (get_or S.counts 1 0) (pair_meets search))
     all_found_lem =
         and_same _ _ _ _ P.all (λ t. every_ext (get_or S.counts 1 0) _ _ (λ i l. entry_found _ _ _ _ ((P.after t).entries i l)))
@@ -163,7 +164,7 @@ module _ (S : Stored) (h : ℕ) where
 
   -- ---- after a pass for an unmet choice
 
-  module _ (seen : Seen) (firsts leaves rows : List ℕ) (P : Passed S h Unmet seen firsts leaves rows) where
+  module _ (seen : Seen) (firsts leaves : List Passing) (rows : List ℕ) (P : Passed S h Unmet seen firsts leaves rows) where
     -- the same leaves and stored disequations as in a search of the first system
     first_solvable : all_found (get_or S.counts 1 0) seen.met ≡ solvable_in S h First
     first_solvable = all_found_lem Unmet seen firsts leaves rows P ∙ sym (solvable_plain First refl)

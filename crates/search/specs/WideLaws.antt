@@ -17,6 +17,7 @@ use Rattle.beside.specs.GatherLaws.{periodic_some, periodic_first}
 use Rattle.plans.specs.Pairs.{leaf_width, slot_of, PairsOf}
 use Rattle.plans.specs.PairLaws.{width_pos}
 use Rattle.search.specs.PairLaws.{pairs_some, pairs_first}
+use Rattle.words.specs.declared.Passing.{Passing}
 
 -- a choice is allowed at leaf b, and disequation e holds
 abbrev pub both_at : Problem ℕ → ℕ → ℕ → ℕ → Bool
@@ -88,7 +89,7 @@ module _ (n h : ℕ) (R : Problem ℕ) (P : PeriodicIn n R) where
         (first_passes (2 ^ n) (both_at R e (leaf_for n h R e)) z l v).0
 
   -- a table of first choices and first pairs
-  pub pairs_of : (extra : ℕ) (firsts leaves : List ℕ)
+  pub pairs_of : (extra : ℕ) (firsts leaves : List Passing)
       → ((b : ℕ) → b < 2 ^ h → T (some_below (leaf_width n) (R.pos b)) × (number_at leaves b ≡ first_below (leaf_width n) (R.pos b)))
       → ((e : ℕ) → e < R.count → T (some_below (2 ^ h * leaf_width n) (pair_at n R e))
       × (number_at firsts (slot_of extra e) ≡ first_below (2 ^ h * leaf_width n) (pair_at n R e)))

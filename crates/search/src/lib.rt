@@ -10,7 +10,7 @@ ghost use Rattle.search.specs.Found.{all_found, is_missed, LowestOf, SolvedAs, S
 
 use beside::Searchable;
 use steps::Search;
-use words::{FIRST_WORDS, LEAF_WORDS};
+use words::{FIRST_WORDS, LEAF_WORDS, Passing};
 
 // What a pass over an entailment finds.
 #[derive(Clone, Copy)]
@@ -66,8 +66,8 @@ fn lowest_missed(
 pub fn solve(
     question: &Searchable<'_>,
     search: Search,
-    firsts: &mut [u64; FIRST_WORDS],
-    leaves: &mut [u64; LEAF_WORDS],
+    firsts: &mut [Passing; FIRST_WORDS],
+    leaves: &mut [Passing; LEAF_WORDS],
 ) -> bool
     requires { Named question.now.sizes.counts search × (extra_of search ≡ 0) }
     ensures { SolvedAs (posed question.now) question.now.sizes.height search result firsts.new leaves.new }
@@ -80,8 +80,8 @@ pub fn solve(
 // Surveys an entailment, with the first words of a solution that has an unmet choice, if there is one.
 pub fn survey_leaves(
     question: &Searchable<'_>,
-    firsts: &mut [u64; FIRST_WORDS],
-    leaves: &mut [u64; LEAF_WORDS],
+    firsts: &mut [Passing; FIRST_WORDS],
+    leaves: &mut [Passing; LEAF_WORDS],
 ) -> Survey
     ensures { SurveyedAs (posed question.now) question.now.sizes.height result firsts.new leaves.new }
 {

@@ -20,9 +20,10 @@ use Rattle.steps.specs.TestLaws.{differs_bits}
 use Rattle.steps.specs.declared.Search.TheVariants.{Missed}
 use Rattle.steps.specs.declared.Seen.{Seen}
 use Rattle.steps.specs.declared.Allowed.{Allowed}
+use Rattle.words.specs.declared.Passing.{Passing}
 
 -- an unmet choice was found before
-pub second_before : (sizes : Sizes) (clauses constants : List ℕ) (values : ℕ) (at : Allowed) (seen : Seen) (firsts rows : List ℕ) → bit seen.met 31 ≡ true
+pub second_before : (sizes : Sizes) (clauses constants : List ℕ) (values : ℕ) (at : Allowed) (seen : Seen) (firsts : List Passing) (rows : List ℕ) → bit seen.met 31 ≡ true
     → Settled (stored_by sizes clauses constants) seen rows → Second (stored_by sizes clauses constants) values at seen firsts rows seen firsts rows
 second_before sizes clauses constants values at seen firsts rows e Z = record {
   unmet = λ p w E. entry_stays p at.turn (at.turn + 1) seen.met firsts 31 (omega arith) e E;
@@ -41,11 +42,11 @@ both_left true false false = refl
 both_left false d e = refl
 
 module _ (sizes : Sizes) (clauses constants : List ℕ) (R : Readable clauses sizes.counts sizes.free sizes.own) (values : ℕ) (at : Allowed) (seen : Seen)
-    (firsts rows : List ℕ) (first : (i : ℕ) → i < 64 → bit at.choices i ≡ first_meets (stored_by sizes clauses constants) values (64 * at.word + i))
+    (firsts : List Passing) (rows : List ℕ) (first : (i : ℕ) → i < 64 → bit at.choices i ≡ first_meets (stored_by sizes clauses constants) values (64 * at.word + i))
     (none : ℕ) (rows₁ : List ℕ)
     (M : Missing clauses sizes.counts sizes.free sizes.own values at.word at.choices seen.wanted none rows₁)
     (kept₁ : (k : ℕ) → 32 ≤ k → get_or rows₁ k 0 ≡ get_or rows k 0) (apart : bit seen.met 31 ≡ false)
-    (Z : Settled (stored_by sizes clauses constants) seen rows) (met : ℕ) (firsts' : List ℕ) (K : Kept 31 at.turn (bit none) seen.met firsts met firsts') where
+    (Z : Settled (stored_by sizes clauses constants) seen rows) (met : ℕ) (firsts' : List Passing) (K : Kept 31 at.turn (bit none) seen.met firsts met firsts') where
   -- what is left, as tests
   none_bits : (i : ℕ) → i < 64 → bit none i ≡ unmet_here (stored_by sizes clauses constants) values (64 * at.word + i)
   none_bits i l = M.none i l ∙ ap (λ b. b && not (second_meets (stored_by sizes clauses constants) values (64 * at.word + i))) (first i l)

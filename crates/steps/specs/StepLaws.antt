@@ -24,6 +24,7 @@ use Rattle.steps.specs.TestLaws.{differs_bits}
 use Rattle.steps.specs.declared.Search.{Search}
 use Rattle.steps.specs.declared.Search.TheVariants.{Unmet, Missed}
 use Rattle.steps.specs.declared.Seen.{Seen}
+use Rattle.words.specs.declared.Passing.{Passing}
 
 -- ---- pairs
 
@@ -42,7 +43,7 @@ on_pairs_lem S h b w k f l m = let (e, r) = pair_parts S.free b w k l m in ap₂
 next : (c b w : ℕ) → (b * c + w) + 1 ≡ b * c + (w + 1)
 next c b w = omega arith
 
-module _ (sizes : Sizes) (clauses constants : List ℕ) (h b w : ℕ) (search : Search) (seen : Seen) (firsts rows : List ℕ) (l : w < word_count sizes.free)
+module _ (sizes : Sizes) (clauses constants : List ℕ) (h b w : ℕ) (search : Search) (seen : Seen) (firsts : List Passing) (rows : List ℕ) (l : w < word_count sizes.free)
     (A : Amid (stored_by sizes clauses constants) h search b w seen firsts rows) where
   abbrev S : Stored
   S = stored_by sizes clauses constants
@@ -102,8 +103,8 @@ module _ (sizes : Sizes) (clauses constants : List ℕ) (h b w : ℕ) (search : 
   module _ (R : Readable clauses sizes.counts sizes.free sizes.own) (terms : List ℕ)
       (table : Terms sizes.free sizes.own values w terms)
       (x : ℕ) (bits : (k : ℕ) → k < 64 → bit x k ≡ allowed_in S search values (64 * w + k))
-      (met₁ : ℕ) (firsts₁ : List ℕ) (K : Kept 32 w (bit x) seen.met firsts met₁ firsts₁)
-      (met₂ : ℕ) (firsts₂ : List ℕ)
+      (met₁ : ℕ) (firsts₁ : List Passing) (K : Kept 32 w (bit x) seen.met firsts met₁ firsts₁)
+      (met₂ : ℕ) (firsts₂ : List Passing)
       (L : KeptAll (get_or sizes.counts 1 0) turn (λ i k. bit x k && not (clause_test clauses (λ t. bit (get_or terms t 0) k) (256 + 4 * i))) met₁ firsts₁ met₂ firsts₂) where
     -- the choices of a disequation
     meeting : (i : ℕ) → i < get_or sizes.counts 1 0
@@ -143,7 +144,7 @@ module _ (sizes : Sizes) (clauses constants : List ℕ) (h b w : ℕ) (search : 
     }
 
     -- a search for an unmet choice
-    module _ (e : search ≡ Unmet) (seen₃ : Seen) (firsts₃ rows₃ : List ℕ)
+    module _ (e : search ≡ Unmet) (seen₃ : Seen) (firsts₃ : List Passing) (rows₃ : List ℕ)
         (Q : Second (stored_by sizes clauses constants) values (record { word = w; turn = turn; choices = x }) (record { met = met₂; possible = seen.possible; here = seen.here; wanted = seen.wanted }) firsts₂ rows seen₃ firsts₃ rows₃)
         (possible_kept : seen₃.possible ≡ seen.possible)
         (met_kept : (k : ℕ) → (k ≡ 31 → ⊥) → bit seen₃.met k ≡ bit met₂ k) (firsts_kept : (k : ℕ) → (k ≡ 31 → ⊥) → number_at firsts₃ k ≡ number_at firsts₂ k) where

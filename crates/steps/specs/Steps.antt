@@ -15,6 +15,7 @@ use Rattle.steps.specs.declared.Search.{Search}
 use Rattle.steps.specs.declared.Search.TheVariants.{Unmet, Missed}
 use Rattle.steps.specs.declared.Seen.{Seen}
 use Rattle.steps.specs.declared.Allowed.{Allowed}
+use Rattle.words.specs.declared.Passing.{Passing}
 
 -- what is stored of a question, from its numbers, its clauses' bytes and its constants
 abbrev pub stored_by : Sizes → List ℕ → List ℕ → Stored
@@ -57,7 +58,7 @@ abbrev pub Settled : Stored → Seen → List ℕ → Type 0
 Settled S seen rows = (j : ℕ) → j < get_or S.counts 3 0 → T (bit seen.possible j) → bit seen.wanted j ≡ false
     → (bit seen.here j ≡ true) × FullMark (get_or S.counts 1 0) (get_or rows (64 + j) 0)
 
-pub record Amid (S : Stored) (h : ℕ) (search : Search) (b w : ℕ) (seen : Seen) (firsts rows : List ℕ) : Type 0 where
+pub record Amid (S : Stored) (h : ℕ) (search : Search) (b w : ℕ) (seen : Seen) (firsts : List Passing) (rows : List ℕ) : Type 0 where
   -- the least choice of the leaf, in entry 32
   pub plain : Entry (allowed_in S search (leaf_values S h b)) w seen.met firsts 32
   -- the least pair of each disequation of the first system, and of an unmet choice
@@ -73,7 +74,7 @@ pub record Amid (S : Stored) (h : ℕ) (search : Search) (b w : ℕ) (seen : See
 
 -- what the second system says of one word, whose choices the first system allows: the search for an unmet choice has seen it and, unless there is one, each
 -- disequation of the second that is possible has its bit and its mark for it
-pub record Second (S : Stored) (values : ℕ) (at : Allowed) (seen : Seen) (firsts rows : List ℕ) (seen' : Seen) (firsts' rows' : List ℕ) : Type 0 where
+pub record Second (S : Stored) (values : ℕ) (at : Allowed) (seen : Seen) (firsts : List Passing) (rows : List ℕ) (seen' : Seen) (firsts' : List Passing) (rows' : List ℕ) : Type 0 where
   pub unmet : (p : ℕ → Bool) → WordOf (λ i. unmet_here S values (64 * at.word + i)) p at.turn → Entry p at.turn seen.met firsts 31
       → Entry p (at.turn + 1) seen'.met firsts' 31
   pub stays : T (not (bit seen'.met 31)) → T (not (bit seen.met 31))

@@ -12,7 +12,7 @@ ghost use Rattle.steps.specs.Steps.{posed, Tabled, Settled, Amid, Second};
 
 use beside::Searchable;
 use entries::Marks;
-use words::FIRST_WORDS;
+use words::{FIRST_WORDS, Passing};
 
 // What is searched for.
 #[derive(Clone, Copy)]
@@ -112,7 +112,7 @@ fn second_word(
     terms: &mut [u64; 64],
     at: Allowed,
     seen: Seen,
-    firsts: &mut [u64; FIRST_WORDS],
+    firsts: &mut [Passing; FIRST_WORDS],
     rows: &mut [u64; 96],
 ) -> Seen
     requires { (at.word < word_count question.now.sizes.free) × SameFree question.now.sizes.free at.choices }
@@ -148,7 +148,7 @@ pub fn pass_word(
     terms: &mut [u64; 64],
     spot: Spot,
     seen: Seen,
-    firsts: &mut [u64; FIRST_WORDS],
+    firsts: &mut [Passing; FIRST_WORDS],
     rows: &mut [u64; 96],
 ) -> Seen
     requires { Named question.now.sizes.counts spot.search × (spot.leaf < 64) × (spot.word < word_count question.now.sizes.free) × Tabled question.now.sizes.free question.now.sizes.own spot.word terms.old }

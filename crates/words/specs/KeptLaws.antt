@@ -1,6 +1,6 @@
 -- Laws of the table of first words. Assumes nothing.
 use Rattle.std.specs.Prelude.{◌≡◌, false, List, ℕ, ◌+◌, ◌*◌, ◌^◌, ◌<◌, length, set}
-use Rattle.std.proofs.Math.Path.{ap₂}
+use Rattle.std.proofs.Math.Path.{ap}
 use Rattle.std.proofs.Common.{◌∙◌, suc-le-suc, arith, length-set}
 use Rattle.std.proofs.Math.Decide.{dec_lt}
 use Rattle.std.proofs.Math.ListN.{get_or}
@@ -10,7 +10,8 @@ use Rattle.shares.specs.Below.{first_below}
 use Rattle.shares.specs.BelowLaws.{first_le, first_least, first_below_lem, first_is, first_none}
 use Rattle.shares.specs.Constant.{bit}
 use Rattle.words.specs.LowestLaws.{lowest_lt}
-use Rattle.words.specs.Kept.{lowest_in, number_at}
+use Rattle.words.specs.Kept.{lowest_in, least_number, nothing_kept, number_at}
+use Rattle.words.specs.declared.Passing.{Passing}
 
 pub lowest_in_lt : (x : ℕ) → lowest_in x < 64
 unfolding lowest_in
@@ -30,22 +31,15 @@ lowest_in_lem x small n = go (dec_lt r 63)
     go (yes l) = first_is 63 (bit x) r l before (is_true (bit x r) (first_below_lem 64 (bit x) (lowest_lt x small n)))
     go (no l) = first_none 63 (bit x) (λ i k. before i (omega arith)) ∙ omega (arith, lowest_lt x small n)
 
-module _ (firsts : List ℕ) (e t y : ℕ) where
+module _ (firsts : List Passing) (e t y : ℕ) where
   -- word y with the number t is kept as entry e
-  abbrev pub kept_in : List ℕ
-  kept_in = set (set firsts (2 * e) t) (2 * e + 1) y
+  abbrev pub kept_in : List Passing
+  kept_in = set firsts e (record { word = t; choices = y })
 
-  pub kept_there : 2 * e + 1 < length firsts → number_at kept_in e ≡ 64 * t + lowest_in y
+  pub kept_there : e < length firsts → number_at kept_in e ≡ 64 * t + lowest_in y
   unfolding number_at
-  kept_there room =
-      ap₂ (λ a b. 64 * a + lowest_in b)
-      (get_or-set_other (set firsts (2 * e) t) (2 * e + 1) (2 * e) y 0 (λ q. omega arith) ∙ get_or-set_same firsts (2 * e) t 0 (omega arith))
-      (get_or-set_same (set firsts (2 * e) t) (2 * e + 1) y 0 (rw (length-set firsts (2 * e) t) room))
+  kept_there room = ap least_number (get_or-set_same firsts e (record { word = t; choices = y }) nothing_kept room)
 
   pub kept_others : (k : ℕ) → (k ≡ e → ⊥) → number_at kept_in k ≡ number_at firsts k
   unfolding number_at
-  kept_others k n =
-      ap₂ (λ a b. 64 * a + lowest_in b) (other (2 * k) (λ q. n (omega arith)) (λ q. omega arith)) (other (2 * k + 1) (λ q. omega arith) (λ q. n (omega arith)))
-    where
-      other : (i : ℕ) → (i ≡ 2 * e → ⊥) → (i ≡ 2 * e + 1 → ⊥) → get_or kept_in i 0 ≡ get_or firsts i 0
-      other i a b = get_or-set_other (set firsts (2 * e) t) (2 * e + 1) i y 0 b ∙ get_or-set_other firsts (2 * e) i t 0 a
+  kept_others k n = ap least_number (get_or-set_other firsts e k (record { word = t; choices = y }) nothing_kept n)

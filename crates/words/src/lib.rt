@@ -13,12 +13,27 @@ ghost use Rattle.std.specs.Iterator.{at_most};
 use basics::{CLAUSE_BYTES, FULL_PART};
 use shares::Way;
 
-// A table of first words has two numbers for each search: the word's number, and the choices in it that pass. There are up to 33 searches: one for each
-// of the first system's disequations, one for an unmet choice and one for the least of a leaf.
-pub const FIRST_WORDS: usize = 66;
+// A word of choices in which some pass: its number, and the bits of those that do. In no word before it any do.
+#[derive(Clone, Copy, PartialEq, Eq)]
+pub struct Passing {
+    pub word: usize,
+    pub choices: u64,
+}
 
-// A table of the leaves' least words has the same for each of up to 64 leaves.
-pub const LEAF_WORDS: usize = 128;
+impl Passing {
+    // What stands in a table before a word is kept.
+    pub const NONE: Passing = Passing {
+        word: 0,
+        choices: 0,
+    };
+}
+
+// A table of first words has one for each search. There are up to 33 searches: one for each of the first system's disequations, one for an unmet choice and
+// one for the least of a leaf.
+pub const FIRST_WORDS: usize = 33;
+
+// A table of the leaves' least words has one for each of up to 64 leaves.
+pub const LEAF_WORDS: usize = 64;
 
 // The word of the part whose number is byte `at`.
 fn term_word(terms: &[u64; 64], clauses: &[u8; CLAUSE_BYTES], at: usize) -> u64

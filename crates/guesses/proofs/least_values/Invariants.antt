@@ -1,6 +1,6 @@
 -- The values of the first v variables are guessed.
 use Rattle.std.proofs.Common.{◌-◌}
-use Rattle.guesses.specs.Guesses.{least_number}
+use Rattle.words.specs.Kept.{least_number}
 use Rattle.guesses.specs.GuessLaws.{Guessed}
 use Rattle.guesses.proofs.least_values.Given as goal
 

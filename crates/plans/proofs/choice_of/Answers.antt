@@ -4,8 +4,8 @@ use Rattle.std.proofs.lemmas.Nat.{and_mask}
 use Rattle.words.specs.Kept.{lowest_in}
 use Rattle.words.specs.Choices.{word_count}
 use Rattle.words.specs.KeptLaws.{lowest_in_lt}
-use Rattle.guesses.specs.declared.Passing.{Passing}
-use Rattle.guesses.specs.Guesses.{least_number}
+use Rattle.words.specs.declared.Passing.{Passing}
+use Rattle.words.specs.Kept.{least_number}
 use Rattle.plans.specs.Pairs.{leaf_width}
 use Rattle.plans.specs.PairLaws.{number_choice}
 use Rattle.plans.proofs.choice_of.Goals as goal
