@@ -1,5 +1,5 @@
 -- One leaf more: its words are done, or it looks like an earlier leaf. Assumes nothing.
-use Rattle.std.specs.Prelude.{◌≡◌, Bool, true, false, not, ◌&&◌, List, ℕ, ◌+◌, ◌-◌, ◌*◌, ◌^◌, ◌≤◌, ◌<◌, length, get_or}
+use Rattle.std.specs.Prelude.{◌≡◌, Bool, true, false, not, ◌&&◌, List, ℕ, ◌+◌, ◌-◌, ◌*◌, ◌^◌, ◌≤◌, ◌<◌, length, get_or, set}
 use Rattle.std.proofs.Math.Path.{refl, ap, subst}
 use Rattle.std.proofs.Common.{sym, ap₂, ◌∙◌, add-one, arith, T_not, eq-eqb, ne_eqb}
 use Rattle.std.proofs.Math.Bool.{and-true, and-false, or-true, or-false}
@@ -16,7 +16,7 @@ use Rattle.shares.specs.BitLaws.{bit_zero, bit_of_and}
 use Rattle.shares.specs.BitParts.{bit_ones, bit_beyond}
 use Rattle.format.specs.Stored.{Stored}
 use Rattle.words.specs.Choices.{word_count}
-use Rattle.words.specs.Kept.{number_at}
+use Rattle.words.specs.Kept.{nothing_kept, number_at}
 use Rattle.words.specs.KeptLaws.{kept_in, kept_there, kept_others}
 use Rattle.entries.specs.BitLaws.{bit_added}
 use Rattle.entries.specs.Entry.{Entry}
@@ -200,12 +200,11 @@ module _ (S : Stored) (h : ℕ) (search : Search) (b : ℕ) where
 -- ---- the table of the leaves
 
 -- the words of an entry, stored as those of entry b
-pub put_entry : (b : ℕ) (from : List ℕ) (a : ℕ) (old : List ℕ) → 2 * b + 1 < length old → Put b from a old (kept_in old b (get_or from (2 * a) 0) (get_or from (2 * a + 1) 0))
+pub put_entry : (b : ℕ) (from : List Passing) (a : ℕ) (old : List Passing) → b < length old → Put b from a old (set old b (get_or from a nothing_kept))
 unfolding number_at
-put_entry b from a old room = record {
-  stored = kept_there old b (get_or from (2 * a) 0) (get_or from (2 * a + 1) 0) room;
-  kept = λ k n. kept_others old b (get_or from (2 * a) 0) (get_or from (2 * a + 1) 0) k n;
-}
+put_entry b from a old room =
+    let word = get_or from a nothing_kept in
+    record { stored = kept_there old b word.word word.choices room; kept = kept_others old b word.word word.choices }
 
 pub copied : (b a : ℕ) (seen : Seen) (plains plains' : List Passing) → Put b plains a plains plains'
     → Copied b a seen plains (record { met = bit_or seen.met (2 ^ 32); possible = seen.possible; here = 0; wanted = 0 }) plains'

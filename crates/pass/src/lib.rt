@@ -21,15 +21,6 @@ pub struct Leaf {
     pub values: u64,
 }
 
-// Puts a word and its choices into a table as entry `number`.
-fn put_entry(plains: &mut [Passing; LEAF_WORDS], number: usize, word: u64, choices: u64)
-    requires { number < 64 }
-    ensures { plains.new ≡ set (set plains.old (2 * number) word) (2 * number + 1) choices }
-{
-    plains[2 * number] = word;
-    plains[2 * number + 1] = choices;
-}
-
 // Whether nothing is sought any more at a leaf: its least choice and a pair for each of the first system's disequations are found, and so is an unmet choice
 // where one is sought.
 fn is_done(search: Search, met: u64, count: usize) -> bool
@@ -109,7 +100,7 @@ fn pass_leaf(
         firsts,
         rows,
     );
-    put_entry(plains, leaf.number, firsts[64], firsts[65]);
+    plains[leaf.number] = firsts[32];
     Seen {
         met: r.met,
         possible: r.possible & r.here,
@@ -123,9 +114,7 @@ fn copy_leaf(number: usize, like: usize, seen: Seen, plains: &mut [Passing; LEAF
     requires { (like < number) × (number < 64) }
     ensures { Copied number like seen plains.old result plains.new }
 {
-    let word = plains[2 * like];
-    let choices = plains[2 * like + 1];
-    put_entry(plains, number, word, choices);
+    plains[number] = plains[like];
     Seen {
         met: seen.met | (1 << 32),
         possible: seen.possible,

@@ -61,7 +61,7 @@ module _ (sizes : Sizes) (clauses constants : List ℕ) (h b w : ℕ) (search : 
       sym (ap (λ t. some_below (64 * t) (on_pairs S h f)) (sym (next (word_count sizes.free) b w)) ∙ some_word turn (on_pairs S h f)
       ∙ ap (◌||◌ (some_below (64 * turn) (on_pairs S h f))) (some_none 64 _ (λ k m. on_pairs_lem S h b w k f l m ∙ none k m)) ∙ or-false (some_below (64 * turn) (on_pairs S h f)))
 
-  entry_next : (p : ℕ → Bool) (met : ℕ) (table : List ℕ) (e : ℕ) → Entry p (turn + 1) met table e → Entry p (b * word_count sizes.free + (w + 1)) met table e
+  entry_next : (p : ℕ → Bool) (met : ℕ) (table : List Passing) (e : ℕ) → Entry p (turn + 1) met table e → Entry p (b * word_count sizes.free + (w + 1)) met table e
   entry_next p met table e E = subst (λ t. Entry p t met table e) (next (word_count sizes.free) b w) E
 
   -- ---- no choice of the word is allowed
