@@ -122,7 +122,7 @@ module _ {k : ℕ} (x : Stored) (q : Question) (St : Stands k x q) where
         let d : decide q ≡ entailed = rw (kind, can e f, holds_on e f, ← lowest, ← count, le-ltb (get_or x.counts 3 0) (get_or x.counts 3 0) (le_refl (get_or x.counts 3 0))) in
         without_pairs Entailed firsts leaves refl d
 
-    pub decided_missed : (j : ℕ) → SurveyedAs x H (Survey.Missed j) firsts leaves → (found : Bool) (third fourth : List ℕ) → SolvedAs x H (Missed j) found third fourth
+    pub decided_missed : (j : ℕ) → SurveyedAs x H (Survey.Missed j) firsts leaves → (found : Bool) (third fourth : List Passing) → SolvedAs x H (Missed j) found third fourth
         → Decided x q (Missed j) third fourth
     unfolding decide_kind
     decided_missed j (e, f, l, first) found third fourth G =

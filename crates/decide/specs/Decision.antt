@@ -76,7 +76,7 @@ pub record Decided (x : Stored) (q : Asked) (r : Finding) (firsts leaves : List 
   pub solved : T (shows (decide q)) → SolvedAs x (question_height q) (search_of r) true firsts leaves
 
 -- the same of every question of a kind that a question to be searched stands for, with its height
-abbrev pub DecidedAs : Kind → Searchable → Finding → List ℕ → List ℕ → Type 0
+abbrev pub DecidedAs : Kind → Searchable → Finding → List Passing → List Passing → Type 0
 DecidedAs kind x r firsts leaves =
     (k : ℕ) (q : Asked) → Stands k (posed x) q → q.kind ≡ kind → x.sizes.height ≡ question_height q → Decided (posed x) q r firsts leaves
 

@@ -32,7 +32,7 @@ pub record SolvedAs (S : Stored) (h : ℕ) (search : Search) (found : Bool) (fir
 
 -- a survey of an entailment: the first system has no solution; it has one, and some solution leaves the second's positive clauses unmet, with the first
 -- words of one; none does, and some solution misses disequation j of the second, the lowest such; none misses any
-abbrev pub SurveyedAs : Stored → ℕ → Survey → List ℕ → List ℕ → Type 0
+abbrev pub SurveyedAs : Stored → ℕ → Survey → List Passing → List Passing → Type 0
 SurveyedAs S h Survey.Unsolvable firsts leaves = solvable_in S h First ≡ false
 SurveyedAs S h Survey.Unmet firsts leaves =
     (solvable_in S h First ≡ true) × (solvable_in S h Unmet ≡ true) × PairsOf S.free h (tests_of S h Unmet) (extra_of Unmet) firsts leaves

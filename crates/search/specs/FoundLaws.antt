@@ -113,7 +113,7 @@ module _ (S : Stored) (h : ℕ) where
   -- ---- after a pass
 
   -- the entry of disequation e holds its first pair
-  abbrev HasPair : Search → List ℕ → ℕ → Type 0
+  abbrev HasPair : Search → List Passing → ℕ → Type 0
   HasPair search firsts e =
       T (some_below pair_count (pair_at S.free (tests_of S h search) e))
       × (number_at firsts (slot_of (extra_of search) e) ≡ first_below pair_count (pair_at S.free (tests_of S h search) e))
