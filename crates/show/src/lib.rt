@@ -20,14 +20,15 @@ fn digit_of(choice: u16, p: usize) -> bool
     basics::digit(u64::from(choice), p)
 }
 
-// Writes the 2^low leaves, each with digit p of its choice, to a row that is empty.
+// Writes the 2^low leaves, each with digit p of its choice, to a row that is empty. Their number is shifted down from 64,
+// since with `1 << low` the end of the loop is made a shift and a test at each turn.
 #[tactic(auto, using(crate::proofs::LeafLaws::leaves_few))]
 fn write_leaves(row: &mut [u8], plan: &Plan, p: usize)
     requires { (plan.now.low ≤ 6) × (row.old ≡ zeros (row_bytes constant_levels)) × (p < 16) }
     ensures { (i : ℕ) → i < 2 ^ row_levels constant_levels → row_leaf row.new i ≡ bit (get_or plan.now.plain (i / 2 ^ (row_levels constant_levels - plan.now.low)) 0) p }
 {
     let height = ROW_LEVELS - plan.low;
-    let count = basics::power(plan.low);
+    let count = 64 >> (6 - plan.low);
     for (k, choice) in plan.plain[..count].iter().enumerate() {
         change_block(row, height, k, false, digit_of(*choice, p));
     }
