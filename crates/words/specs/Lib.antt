@@ -6,6 +6,7 @@ pub mod TermLaws
 pub mod Stored
 pub mod Stores
 pub mod LowestLaws
+pub mod SetBits
 pub mod Kept
 pub mod KeptLaws
 pub mod TableLaws
