@@ -7,6 +7,7 @@ use Rattle.systems.specs.Questions.{Kind, Question as Asked, WellFormed, questio
 use Rattle.systems.specs.Answers.{Answer, satisfied, unsatisfied, vacuous, entailed, unmet, missed, shows, height_given}
 use Rattle.systems.specs.Decide.{decide, shown_at}
 use Rattle.format.specs.Format.{most_constants}
+use Rattle.format.specs.Numbers.{kind_value}
 use Rattle.format.specs.Stored.{Stored, stored_of, Stands}
 use Rattle.format.specs.declared.Question.{Question}
 use Rattle.beside.specs.declared.Sizes.{Sizes}
@@ -24,7 +25,7 @@ use Rattle.decide.specs.declared.Finding.TheVariants.{Satisfied, Unsatisfied, Va
 
 -- a question that was read and its clauses' bytes stand for some well-formed question of the model
 abbrev pub Standing : Question → List ℕ → Type 0
-Standing x clauses = (q : Asked) × Stands x.kind (stored_of x clauses) q × WellFormed q
+Standing x clauses = (q : Asked) × Stands (kind_value x.kind) (stored_of x clauses) q × WellFormed q
 
 -- the greatest f i of the i below n, 0 if there is none
 unfoldable pub most_below : ℕ → (ℕ → ℕ) → ℕ
@@ -81,7 +82,7 @@ DecidedAs kind sizes clauses constants r firsts leaves =
 -- a question that was read stands for q, with some clauses
 pub record StandsFor (x : Question) (q : Asked) : Type 0 where
   pub clauses : List ℕ
-  pub stands : Stands x.kind (stored_of x clauses) q
+  pub stands : Stands (kind_value x.kind) (stored_of x clauses) q
 
 -- these are the numbers of a question that was read and stands for q
 pub record SizedFor (sizes : Sizes) (q : Asked) : Type 0 where

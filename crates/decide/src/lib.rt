@@ -5,6 +5,7 @@ ghost use Rattle.std.specs.Prelude.{◌≡◌, ℕ, ◌^◌, ◌<◌, ◌≤◌,
 ghost use Rattle.shares.specs.Constant.{constant_levels, bit};
 ghost use Rattle.systems.specs.Questions.{satisfiability, entailment, Question as Asked, WellFormed, question_height};
 ghost use Rattle.systems.specs.Answers.{shows, height_given};
+ghost use Rattle.format.specs.Numbers.{kind_value};
 ghost use Rattle.format.specs.Stored.{stored_of, Stands};
 ghost use Rattle.beside.specs.Beside.{Readable};
 ghost use Rattle.steps.specs.Tests.{extra_of, room_of};
@@ -12,7 +13,7 @@ ghost use Rattle.decide.specs.Decision.{Standing, tallest_of, sizes_of, answer_o
 
 use basics::CLAUSE_BYTES;
 use beside::Sizes;
-use format::Question;
+use format::{Kind, Question};
 use plans::{Outline, Plan};
 use steps::Search;
 use words::{FIRST_WORDS, LEAF_WORDS};
@@ -128,12 +129,12 @@ pub fn decide(
     leaves: &mut [u64; LEAF_WORDS],
 ) -> Finding
     requires { Standing question clauses.now × (sizes ≡ sizes_of question) × (constants.now ≡ question.constants) }
-    ensures { (q : Asked) → Stands question.kind (stored_of question clauses.now) q → WellFormed q → Decided (stored_of question clauses.now) q result firsts.new leaves.new }
+    ensures { (q : Asked) → Stands (kind_value question.kind) (stored_of question clauses.now) q → WellFormed q → Decided (stored_of question clauses.now) q result firsts.new leaves.new }
 {
-    if question.kind == 0 {
-        return decide_satisfiability(clauses, sizes, constants, firsts, leaves);
+    match question.kind {
+        Kind::Satisfiability => decide_satisfiability(clauses, sizes, constants, firsts, leaves),
+        Kind::Entailment => decide_entailment(clauses, sizes, constants, firsts, leaves),
     }
-    decide_entailment(clauses, sizes, constants, firsts, leaves)
 }
 
 // ---- the solution that is shown

@@ -6,16 +6,19 @@ pub mod sections;
 ghost use Rattle.std.specs.Prelude.{◌≡◌, ◌+◌, ◌≤◌};
 ghost use Rattle.format.specs.Format.{read_at, names, variables_for, term_named, all_named, clause_fault, constant_fault};
 ghost use Rattle.format.specs.Stored.{count_of, Counted};
-ghost use Rattle.format.specs.Keeping.{clause_total, foreign_to, fault_of, judged_of, refusal_of};
+ghost use Rattle.format.specs.Keeping.{clause_total, foreign_to, fault_of, judged_of};
+ghost use Rattle.format.specs.Numbers.{kind_value};
+ghost use Rattle.format.specs.Told.{fault_told, step_told};
 
 use commands::table;
-use format::{Command, Section, Step, Test};
+use format::{Command, Fault, Head, Kind, Section, Taken, Test};
 
 // Whether a term names something defined: one of the variables, or one of the constants.
+#[tactic(auto, unfolding(format::specs::Format::names))]
 fn names_it(variables: usize, constants: usize, term: u8) -> bool
     ensures { result ≡ names variables constants term }
 {
-    let t = term as usize;
+    let t = usize::from(term);
     if t < 0x20 {
         return t < variables;
     }
@@ -36,13 +39,9 @@ fn all_named(variables: usize, constants: usize, test: Test, a: u8, b: u8, c: u8
     ensures { result ≡ all_named variables constants test a b c }
 {
     let count = table::term_count(test);
-    if !term_named(variables, constants, count, 0, a) {
-        return false;
-    }
-    if !term_named(variables, constants, count, 1, b) {
-        return false;
-    }
-    term_named(variables, constants, count, 2, c)
+    term_named(variables, constants, count, 0, a)
+        && term_named(variables, constants, count, 1, b)
+        && term_named(variables, constants, count, 2, c)
 }
 
 fn variables_for(free: usize, own: usize, section: Section) -> usize
@@ -55,40 +54,40 @@ fn variables_for(free: usize, own: usize, section: Section) -> usize
     free
 }
 
-fn is_foreign(kind: u8, section: Section) -> bool
-    ensures { result ≡ foreign_to kind section }
+fn is_foreign(kind: Kind, section: Section) -> bool
+    ensures { result ≡ foreign_to (kind_value kind) section }
 {
-    if kind == 0 {
-        return sections::is_second(section);
+    match kind {
+        Kind::Satisfiability => sections::is_second(section),
+        Kind::Entailment => false,
     }
-    false
 }
 
-fn clause_fault(foreign: bool, filled: bool, named: bool) -> u8
-    ensures { result ≡ clause_fault foreign filled named }
+fn clause_fault(foreign: bool, filled: bool, named: bool) -> Result<(), Fault>
+    ensures { fault_told result ≡ clause_fault foreign filled named }
 {
     if foreign {
-        return 9;
+        return Err(Fault::ForeignClause);
     }
     if filled {
-        return 7;
+        return Err(Fault::ClauseTooMany);
     }
     if named {
-        return 0;
+        return Ok(());
     }
-    8
+    Err(Fault::NamesNothing)
 }
 
-fn constant_fault(begun: bool, spent: bool) -> u8
-    ensures { result ≡ constant_fault begun spent }
+fn constant_fault(begun: bool, spent: bool) -> Result<(), Fault>
+    ensures { fault_told result ≡ constant_fault begun spent }
 {
     if begun {
-        return 4;
+        return Err(Fault::OutOfPlace);
     }
     if spent {
-        return 6;
+        return Err(Fault::ConstantTooMany);
     }
-    0
+    Ok(())
 }
 
 fn clause_total(counts: &[usize; 4]) -> usize
@@ -105,22 +104,20 @@ pub fn section_count(counts: &[usize; 4], section: Section) -> usize
     counts[i]
 }
 
-// What is wrong with a command, by what was read before it: 0 for nothing.
+// What is wrong with a command, by what was read before it.
+#[tactic(auto, unfolding(format::specs::Keeping::fault_of))]
 fn fault_of(
-    kind: u8,
-    free: usize,
-    own: usize,
+    head: Head,
     constants: usize,
     counts: &[usize; 4],
     command: Command,
-) -> u8
-    requires own_bound { free + own ≤ 12 }
+) -> Result<(), Fault>
     requires counted { Counted counts.now }
-    ensures { result ≡ fault_of kind free own constants counts.now command }
+    ensures { fault_told result ≡ fault_of (kind_value head.kind) head.free head.own constants counts.now command }
 {
     match command {
-        Command::End => 0,
-        Command::Head => 4,
+        Command::End => Ok(()),
+        Command::Head => Err(Fault::OutOfPlace),
         Command::Constant(_) => {
             let total = clause_total(counts);
             constant_fault(0 < total, 32 <= constants)
@@ -133,10 +130,10 @@ fn fault_of(
             c,
         } => {
             let count = section_count(counts, section);
-            let variables = variables_for(free, own, section);
+            let variables = variables_for(head.free, head.own, section);
             let named = all_named(variables, constants, test, a, b, c);
             clause_fault(
-                is_foreign(kind, section),
+                is_foreign(head.kind, section),
                 sections::most_of(section) <= count,
                 named,
             )
@@ -144,39 +141,18 @@ fn fault_of(
     }
 }
 
-// The command at an offset, or its refusal.
+// The command at an offset, or why it is refused.
 pub fn read_command(
     bytes: &[u8],
     at: usize,
-    kind: u8,
-    free: usize,
-    own: usize,
+    head: Head,
     constants: usize,
     counts: &[usize; 4],
-) -> Step
-    requires own_bound { free + own ≤ 12 }
+) -> Result<Taken, Fault>
     requires counted { Counted counts.now }
-    ensures { result ≡ judged_of kind free own constants counts.now (read_at bytes.now at) }
+    ensures { step_told result ≡ judged_of (kind_value head.kind) head.free head.own constants counts.now (read_at bytes.now at) }
 {
-    let r = commands::read_at(bytes, at);
-    let Step::Take { command, next } = r else {
-        return r;
-    };
-    let fault = fault_of(kind, free, own, constants, counts, command);
-    if fault == 0 {
-        return Step::Take { command, next };
-    }
-    Step::Refused(fault)
-}
-
-pub fn refusal_of(r: Step) -> u8
-    ensures { result ≡ refusal_of r }
-{
-    match r {
-        Step::Take {
-            command: _,
-            next: _,
-        } => 0,
-        Step::Refused(n) => n,
-    }
+    let taken = commands::read_at(bytes, at)?;
+    fault_of(head, constants, counts, taken.command)?;
+    Ok(taken)
 }

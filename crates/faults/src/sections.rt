@@ -44,10 +44,8 @@ pub fn most_of(section: Section) -> usize
 pub fn is_second(section: Section) -> bool
     ensures { result ≡ is_second section }
 {
-    match section {
-        Section::FirstPositive => false,
-        Section::FirstDisequation => false,
-        Section::SecondPositive => true,
-        Section::SecondDisequation => true,
-    }
+    matches!(
+        section,
+        Section::SecondPositive | Section::SecondDisequation
+    )
 }

@@ -6,6 +6,7 @@ use Rattle.shares.specs.Constant.{constant_levels, bytes_at}
 use Rattle.shares.specs.Test.{of_true, and_left, and_right}
 use Rattle.systems.specs.Clauses.{Constants, Term, variable, constant, Atom, Clause, positive, negated, System, positives, disequations}
 use Rattle.systems.specs.Questions.{Kind, satisfiability, entailment, Question, Defined, InAtom, InSystem, Alone, WellFormed}
+use Rattle.format.specs.Worked
 use Rattle.format.specs.declared.Section.{Section}
 use Rattle.format.specs.declared.Section.TheVariants.{FirstPositive, FirstDisequation, SecondPositive, SecondDisequation}
 use Rattle.format.specs.declared.Test.{Test}

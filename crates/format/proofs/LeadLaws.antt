@@ -8,6 +8,7 @@ use Rattle.std.proofs.Math.ListN.{length-set}
 use borrow.Author.Tests.{ltb-true, ltb-false, lt-leb}
 use Rattle.shares.specs.Test.{of_true}
 use Rattle.shares.specs.Constant.{constant_levels, number, bytes_at}
+use Rattle.format.specs.Worked
 use Rattle.format.specs.declared.Shape.{Shape}
 use Rattle.format.specs.declared.Command.{Command}
 use Rattle.format.specs.Format.{Step, Take, Refused, most_constants, entry_of, term_count, clause_at, command_of, whole_at, read_at}
@@ -129,9 +130,12 @@ led_none s l h e = record { few = omega arith; place = refl; within = h; size = 
 
 module _ {s l₀ l : List ℕ} {n at : ℕ} (L : Led s l₀ n at l) where
   -- the last that may be
-  pub led_last : most_constants ≤ n → LedAll s l₀ n l
+  pub led_last : most_constants ≤ n → LedAll s l₀ most_constants l
   unfolding leading lead_into
-  led_last h = let e : most_constants - n ≡ 0 = omega arith in (rw e at L.count, rw e at L.numbers)
+  led_last h =
+      let e : most_constants - n ≡ 0 = omega arith in
+      let m : most_constants ≡ n = omega (arith, L.few) in
+      (m ∙ (rw e at L.count), rw e at L.numbers)
 
   module _ (h : n < most_constants) where
     more : most_constants - n ≡ suc (most_constants - (n + 1))

@@ -3,6 +3,7 @@ use Rattle.std.specs.Prelude.{◌≡◌, refl, List, [], ◌∷◌, ◌++◌, �
 use Rattle.std.proofs.Common.{ap, ◌∙◌, append-nil, inl, inr, arith, length-append}
 use Rattle.systems.specs.Clauses.{Atom, positive, negated, System, positives, disequations}
 use Rattle.systems.specs.Questions.{Question}
+use Rattle.format.specs.Worked
 use Rattle.format.specs.declared.Section.{Section}
 use Rattle.format.specs.declared.Section.TheVariants.{FirstPositive, FirstDisequation, SecondPositive, SecondDisequation}
 use Rattle.format.specs.Format.{most_of, in_section, variables_for, with_clause, with_constant}

@@ -15,11 +15,13 @@ use Rattle.systems.specs.AtLeaves.{read_as}
 use Rattle.format.specs.declared.Section.{Section}
 use Rattle.format.specs.declared.Section.TheVariants.{FirstPositive, FirstDisequation, SecondPositive, SecondDisequation}
 use Rattle.format.specs.declared.Command.{Command}
-use Rattle.format.specs.Format.{Head, Opens, Wrong, Step, Take, Refused}
-use Rattle.format.specs.declared.Reading.{Reading}
+use Rattle.format.specs.Format.{Opens, Wrong, Step, Take, Refused}
+use Rattle.format.specs.declared.Kind.{Kind as HeldKind}
+use Rattle.format.specs.declared.Question.{Question as Held}
+use Rattle.format.specs.Numbers.{kind_value}
 use Rattle.format.specs.Format.{most_constants, Result, refused, accepted, read_at, atom_of, fault, judged, taken, ended, go, stop, onward, turn, following, run, head_fits, kind_from, most_of, in_section, opened, head_of, read}
-use Rattle.format.specs.Stored.{kind_number, clause_bytes, section_start, readings_at, Stored, stored, stored_of, count_of, defined_by, named_word, Stands, reading_of, written_onward, command_written, written_by, clauses_after, leading_of, is_leading, constant_at, place_of, leading}
-use Rattle.format.specs.Keeping.{lead_into, kept_constants, constant_count, kept_clauses, kept_names, clause_counts, judged_of, refusal_of, is_end, wrong_of}
+use Rattle.format.specs.Stored.{kind_number, clause_bytes, section_start, readings_at, Stored, stored, stored_of, count_of, defined_by, named_word, Stands, Reading, refused_with, held, reading_of, written_onward, command_written, written_by, clauses_after, leading_of, is_leading, constant_at, place_of, leading}
+use Rattle.format.specs.Keeping.{lead_into, kept_constants, constant_count, kept_clauses, kept_names, clause_counts, judged_of, is_end}
 use Rattle.format.proofs.FormatLaws.{constant_fits, judged_take, size_some, Whole, read_whole, branch, Sound, Stay, Kept, turn_kept, head_fits_lem, opened_sound, HeadRight, head_right}
 use Rattle.format.proofs.Callers.{levels_are}
 use Rattle.format.proofs.LeadLaws.{constant_taken, leading_stops}
@@ -121,6 +123,12 @@ begins s kind n m clauses lc h e = record {
 
 -- ---- one turn
 
+pub not_end : (c : Command) → (c ≡ Command.End → ⊥) → is_end c ≡ false
+not_end Command.End n = absurd (n refl)
+not_end Command.Head n = refl
+not_end (Command.Constant x) n = refl
+not_end (Command.Clause σ t a b c) n = refl
+
 is_end_lem : (c : Command) → is_end c ≡ true → c ≡ Command.End
 is_end_lem Command.End e = refl
 is_end_lem Command.Head e = let z : ◌≡◌ {A = ℕ} 0 1 = cc in absurd (omega arith)
@@ -139,12 +147,13 @@ written_on f l Command.Head next e = refl
 written_on f l (Command.Constant x) next e = refl
 written_on f l (Command.Clause σ t a b c) next e = refl
 
--- what the whole reading hands over
+-- what the whole reading hands over, and what the clauses' bytes hold then
 abbrev pub Gives : List ℕ → Question → List ℕ → Reading → List ℕ → Type 0
-Gives s q₀ l₀ out clauses =
-    (out ≡ reading_of (run (length s) s 4 q₀)) × ((clauses ≡ written_by (length s) s 4 q₀ l₀)
-    × (((q : Question) → run (length s) s 4 q₀ ≡ accepted q → Stands out.question.kind (stored_of out.question clauses) q)
-    × ((q : Question) → run (length s) s 4 q₀ ≡ accepted q → out.question.defined ≡ leading most_constants s 0)))
+Gives s q₀ l₀ out clauses = (out ≡ reading_of (run (length s) s 4 q₀)) × (clauses ≡ written_by (length s) s 4 q₀ l₀)
+
+-- the struct of a question that is stored so
+abbrev pub held_from : HeldKind → Stored → ℕ → Held
+held_from k x defined = record { kind = k; free = x.free; own = x.own; constants = x.constants; defined = defined; named = x.named; counts = x.counts }
 
 module _ (s : List ℕ) (kind : ℕ) (x : Stored) (defined : ℕ) (q₀ : Question) (l₀ : List ℕ) (at : ℕ) (g : Going s kind x defined q₀ l₀ at) (r : Step)
     (e : r ≡ judged_of kind x.free x.own defined x.counts (read_at s at)) where
@@ -175,18 +184,12 @@ module _ (s : List ℕ) (kind : ℕ) (x : Stored) (defined : ℕ) (q₀ : Questi
           sym (ap (written_onward rest x.clauses) (sym judged_is) ∙ f rest) ∙ z
 
   -- a refusal
-  refuses : (n place : ℕ) (out : Reading) → onward s at g.q r ≡ stop (refused n place)
-      → ((f : Command → ℕ → List ℕ) → written_onward f x.clauses r ≡ x.clauses) → out ≡ reading_of (refused n place) → Gives s q₀ l₀ out x.clauses
-  refuses n place out h f o =
-      let z = stops (refused n place) h in
-      (rw z o, (left f, (λ q a. absurd (never z q a), λ q a. absurd (never z q a))))
-    where
-      never : run (length s) s 4 q₀ ≡ refused n place → (q : Question) → run (length s) s 4 q₀ ≡ accepted q → ⊥
-      never z q a = let y : refused n place ≡ accepted q = sym z ∙ a in let w : ◌≡◌ {A = ℕ} 0 1 = cc in omega arith
+  refuses : (n place : ℕ) → onward s at g.q r ≡ stop (refused n place)
+      → ((f : Command → ℕ → List ℕ) → written_onward f x.clauses r ≡ x.clauses) → Gives s q₀ l₀ (refused_with n place) x.clauses
+  refuses n place h f = (ap reading_of (sym (stops (refused n place) h)), left f)
 
-  pub refused_turn : (n m : ℕ) (out : Reading) → r ≡ Refused n → m ≡ refusal_of r → out ≡ reading_of (refused m at) → Gives s q₀ l₀ out x.clauses
-  refused_turn n m out t h o =
-      refuses n at out (ap (onward s at g.q) t) (λ f. ap (written_onward f x.clauses) t) (o ∙ ap (λ i. reading_of (refused i at)) (h ∙ ap refusal_of t))
+  pub refused_turn : (n : ℕ) → r ≡ Refused n → Gives s q₀ l₀ (refused_with n at) x.clauses
+  refused_turn n t = refuses n at (ap (onward s at g.q) t) (λ f. ap (written_onward f x.clauses) t)
 
   module _ (c : Command) (next : ℕ) (t : r ≡ Take c next) where
     pub taken_is : (read_at s at ≡ Take c next) × (fault g.q c ≡ 0)
@@ -208,26 +211,22 @@ module _ (s : List ℕ) (kind : ℕ) (x : Stored) (defined : ℕ) (q₀ : Questi
       end_leaves : (f : Command → ℕ → List ℕ) → written_onward f x.clauses r ≡ x.clauses
       end_leaves f = ap (written_onward f x.clauses) end_step
 
-      pub accepted_turn : defined ≡ leading most_constants s 0 → (out : Reading) → next ≡ length s
-          → out ≡ record {
-            refusal = 0;
-            place = 0;
-            question = record { kind = kind; free = x.free; own = x.own; constants = x.constants; defined = defined; named = x.named; counts = x.counts };
-          } → Gives s q₀ l₀ out x.clauses
+      pub accepted_turn : next ≡ length s → (k : HeldKind) → kind ≡ kind_value k → Gives s q₀ l₀ (held (held_from k x defined)) x.clauses
+          × ((q : Question) → run (length s) s 4 q₀ ≡ accepted q → Stands (kind_value k) (stored_of (held_from k x defined) x.clauses) q)
       unfolding ended
-      accepted_turn m out l o =
+      accepted_turn l k v =
           let a : ended s next g.q ≡ accepted g.q = simp (eq-eqb next (length s) l) in
           let stands = subst (λ y. Stands kind y g.q) (stored_as x g.q at g.stands g.sound) g.stands in
           let z = stops (accepted g.q) (end_is ∙ ap stop a) in (
-            rw z (o ∙ ap (λ y. record { refusal = 0; place = 0; question = y }) (held_as_lem x g.q g.stands defined g.count g.zeros)),
-            (left end_leaves, (λ q b. let y : accepted g.q ≡ accepted q = sym z ∙ b in let w : g.q ≡ q = cc in rw (o, ← w) stands, λ q b. ap (λ r. r.question.defined) o ∙ m)),
+            (ap held (held_as_lem x g.q g.stands defined g.count g.zeros k v) ∙ ap reading_of (sym z), left end_leaves),
+            λ q b. let y : accepted g.q ≡ accepted q = sym z ∙ b in let w : g.q ≡ q = cc in rw (← v, ← w) stands,
           )
 
-      pub after_end : (out : Reading) → (next ≡ length s → ⊥) → out ≡ reading_of (refused 10 next) → Gives s q₀ l₀ out x.clauses
+      pub after_end : (next ≡ length s → ⊥) → Gives s q₀ l₀ (refused_with 10 next) x.clauses
       unfolding ended
-      after_end out l o =
+      after_end l =
           let a : ended s next g.q ≡ refused 10 next = simp (ne_eqb next (length s) l) in
-          refuses 10 next out (end_is ∙ ap stop a) end_leaves o
+          refuses 10 next (end_is ∙ ap stop a) end_leaves
 
     pub goes : Bytes s → is_end c ≡ false → (g' : Going s kind (kept x defined c) (constant_count defined c) q₀ l₀ next) × (g'.q ≡ taken g.q c)
     unfolding run written_by
@@ -349,26 +348,20 @@ goes_clause s kind x defined q₀ l₀ at (g, S) r e c next t bytes h clauses na
 
 -- ---- the whole
 
--- what reading hands over
-abbrev pub GivesAll : List ℕ → List ℕ → Reading → List ℕ → Type 0
-GivesAll s l₀ out clauses =
-    (out ≡ reading_of (read s)) × ((clauses ≡ clauses_after s l₀)
-    × (((q : Question) → read s ≡ accepted q → Stands out.question.kind (stored_of out.question clauses) q)
-    × ((q : Question) → read s ≡ accepted q → out.question.defined ≡ leading most_constants s 0)))
+-- a head that is refused
+pub refused_head : (s : List ℕ) (n : ℕ) (l₀ : List ℕ) → Wrong n ≡ head_of s → (refused_with n 0 ≡ reading_of (read s)) × (l₀ ≡ clauses_after s l₀)
+unfolding read clauses_after
+refused_head s n l₀ e = rw (← e) (refl, refl)
 
-module _ (s : List ℕ) (h : Head) (e : h ≡ head_of s) where
-  pub refused_head : (n m : ℕ) (out : Reading) (l₀ : List ℕ) → h ≡ Wrong n → m ≡ wrong_of h → out ≡ reading_of (refused m 0) → GivesAll s l₀ out l₀
-  unfolding read clauses_after
-  refused_head n m out l₀ t k o =
-      rw (← e, t) (
-        o ∙ ap (λ i. reading_of (refused i 0)) (k ∙ ap wrong_of t),
-        (refl, (λ q a. let w : ◌≡◌ {A = ℕ} 0 1 = cc in absurd (omega arith), λ q a. let w : ◌≡◌ {A = ℕ} 0 1 = cc in absurd (omega arith))),
-      )
+module _ (s : List ℕ) (kind free own : ℕ) (e : Opens kind free own ≡ head_of s) where
+  pub head_taken : 4 ≤ length s
+  head_taken = (subst (HeadRight s) (sym e) (head_right s)).0
 
-  module _ (kind free own : ℕ) (t : h ≡ Opens kind free own) where
-    pub head_taken : (4 ≤ length s) × (head_fits kind free own ≡ true)
-    head_taken = subst (HeadRight s) (sym e ∙ t) (head_right s)
+  -- what the commands after it give is what the whole string gives
+  pub read_on_lem : run (length s) s 4 (opened kind free own) ≡ read s
+  unfolding read
+  read_on_lem = rw (← e) refl
 
-    pub read_on_lem : (out : Reading) (l₀ clauses : List ℕ) → Gives s (opened kind free own) l₀ out clauses → GivesAll s l₀ out clauses
-    unfolding read clauses_after
-    read_on_lem out l₀ clauses a = rw (← e, t) a
+  pub written_on_lem : (l₀ : List ℕ) → written_by (length s) s 4 (opened kind free own) l₀ ≡ clauses_after s l₀
+  unfolding clauses_after
+  written_on_lem l₀ = rw (← e) refl

@@ -22,9 +22,9 @@ fn constants_in(join: LeafJoin) -> u64
     requires { PartsSmall join }
     ensures { result ≡ constants_in join }
 {
-    let a: u64 = 1 << basics::index(join.first);
-    let b: u64 = 1 << basics::index(join.second);
-    let c: u64 = 1 << basics::index(join.sum);
+    let a: u64 = 1 << usize::from(join.first);
+    let b: u64 = 1 << usize::from(join.second);
+    let c: u64 = 1 << usize::from(join.sum);
     (a | b | c) >> 32
 }
 
@@ -34,9 +34,7 @@ pub fn keep_clause(clauses: &mut [u8], counts: &[usize; 4], named: u64, command:
     ensures { (clauses.new ≡ kept_clauses clauses.old counts.now command) × (result ≡ kept_names named command) }
 {
     match command {
-        Command::End => named,
-        Command::Head => named,
-        Command::Constant(_) => named,
+        Command::End | Command::Head | Command::Constant(_) => named,
         Command::Clause {
             section,
             test,
@@ -57,18 +55,7 @@ pub fn count_clause(counts: &mut [usize; 4], command: Command)
     ensures { counts.new ≡ clause_counts counts.old command }
 {
     match command {
-        Command::End => {}
-        Command::Head => {}
-        Command::Constant(_) => {}
-        Command::Clause {
-            section,
-            test: _,
-            a: _,
-            b: _,
-            c: _,
-        } => {
-            let i = sections::section_number(section);
-            counts[i] += 1;
-        }
+        Command::End | Command::Head | Command::Constant(_) => {}
+        Command::Clause { section, .. } => counts[sections::section_number(section)] += 1,
     }
 }

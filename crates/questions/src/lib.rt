@@ -3,95 +3,47 @@
 
 mod keep;
 
-ghost use Rattle.std.specs.Prelude.{◌≡◌, true, ◌≤◌, length};
+ghost use Rattle.std.specs.Prelude.{◌≡◌, ◌≤◌, length, IfOk};
 ghost use Rattle.systems.specs.Questions.{Question as Asked};
-ghost use Rattle.format.specs.Format.{most_constants, refused, accepted, head_fits, opened, run, read};
+ghost use Rattle.format.specs.Format.{most_constants, accepted, opened, run, read};
+ghost use Rattle.format.specs.Numbers.{kind_value};
 ghost use Rattle.format.specs.Stored.{clause_bytes, stored_of, Stands, reading_of, written_by, clauses_after, place_of, leading};
-ghost use Rattle.format.specs.Keeping.{lead_into, is_end};
+ghost use Rattle.format.specs.Keeping.{lead_into};
+ghost use Rattle.format.specs.Told.{reading_told};
 
 use basics::CLAUSE_BYTES;
 use commands::{CONSTANT_SIZE, opening};
-use format::{Command, Head, Leading, Question, Reading, Step};
+use format::{Command, Fault, Head, Question, Refused, Taken};
 
 // A question has at most this many constants.
 const MOST_CONSTANTS: usize = 32;
 
-fn refused(refusal: u8, place: usize) -> Reading
-    ensures { result ≡ reading_of (refused refusal place) }
-{
-    let question = Question {
-        kind: 0,
-        free: 0,
-        own: 0,
-        constants: [0; 32],
-        defined: 0,
-        named: 0,
-        counts: [0; 4],
-    };
-    Reading {
-        refusal,
-        place,
-        question,
-    }
-}
-
-fn accepted(question: Question) -> Reading
-    ensures { result ≡ record { refusal = 0; place = 0; question = question } }
-{
-    Reading {
-        refusal: 0,
-        place: 0,
-        question,
-    }
-}
-
-fn is_end(command: Command) -> bool
-    ensures { result ≡ is_end command }
-{
-    match command {
-        Command::End => true,
-        Command::Head => false,
-        Command::Constant(_) => false,
-        Command::Clause {
-            section: _,
-            test: _,
-            a: _,
-            b: _,
-            c: _,
-        } => false,
-    }
-}
-
-// The constants that stand first, behind the head, up to the last that may be defined: their numbers, and how many there are. These are all: one that stands behind
-// a clause, or behind as many as there may be, is a fault.
+// The constants that stand first, behind the head, up to the last that may be defined: their numbers, and how many there are. These are
+// all: one that stands behind a clause, or behind as many as there may be, is a fault.
 fn read_constants(bytes: &[u8], constants: &mut [u64]) -> usize
     requires { (4 ≤ length bytes.now) × (length constants.old ≡ most_constants) }
     ensures value { (result ≡ leading most_constants bytes.now 0) × (constants.new ≡ lead_into most_constants bytes.now 0 constants.old) }
     ensures upper_bound { (result ≤ most_constants) × (place_of result ≤ length bytes.now) }
 {
-    let mut defined: usize = 0;
     let mut at: usize = 4;
-    while defined < MOST_CONSTANTS {
-        let r = commands::constant_at(bytes, at);
-        let Leading::Constant { number, next } = r else {
+    for defined in 0..MOST_CONSTANTS {
+        let Some(constant) = commands::constant_at(bytes, at) else {
             return defined;
         };
-        constants[defined] = number;
-        defined += 1;
-        at = next;
+        constants[defined] = constant.number;
+        at = constant.next;
     }
-    defined
+    MOST_CONSTANTS
 }
 
-// The commands after a head that fits.
-fn read_commands(bytes: &[u8], kind: u8, free: usize, own: usize, clauses: &mut [u8]) -> Reading
+// The commands after a head.
+fn read_commands(bytes: &[u8], head: Head, clauses: &mut [u8]) -> Result<Question, Refused>
     requires in_bounds { 4 ≤ length bytes.now }
-    requires own_value { head_fits kind free own ≡ true }
     requires clauses_len { length clauses.old ≡ clause_bytes }
-    ensures answer { result ≡ reading_of (run (length bytes.now) bytes.now 4 (opened kind free own)) }
-    ensures clauses { clauses.new ≡ written_by (length bytes.now) bytes.now 4 (opened kind free own) clauses.old }
-    ensures stands { (q : Asked) → run (length bytes.now) bytes.now 4 (opened kind free own) ≡ accepted q → Stands result.question.kind (stored_of result.question clauses.new) q }
-    ensures first { (q : Asked) → run (length bytes.now) bytes.now 4 (opened kind free own) ≡ accepted q → result.question.defined ≡ leading most_constants bytes.now 0 }
+    ensures answer { reading_told result ≡ reading_of (run (length bytes.now) bytes.now 4 (opened (kind_value head.kind) head.free head.own)) }
+    ensures clauses { clauses.new ≡ written_by (length bytes.now) bytes.now 4 (opened (kind_value head.kind) head.free head.own) clauses.old }
+    ensures stands { IfOk result (λ x. (q : Asked) → run (length bytes.now) bytes.now 4 (opened (kind_value head.kind) head.free head.own) ≡ accepted q → Stands (kind_value x.kind) (stored_of x clauses.new) q) }
+    ensures first { IfOk result (λ x. x.defined ≡ leading most_constants bytes.now 0) }
 {
     let mut constants = [0u64; 32];
     let mut counts = [0usize; 4];
@@ -99,24 +51,29 @@ fn read_commands(bytes: &[u8], kind: u8, free: usize, own: usize, clauses: &mut 
     let mut named: u64 = 0;
     let mut at = 4 + CONSTANT_SIZE * defined;
     loop {
-        let r = faults::read_command(bytes, at, kind, free, own, defined, &counts);
-        let Step::Take { command, next } = r else {
-            return refused(faults::refusal_of(r), at);
+        let step = faults::read_command(bytes, at, head, defined, &counts);
+        let Ok(Taken { command, next }) = step else {
+            return Err(Refused {
+                fault: step.unwrap_err(),
+                place: at,
+            });
         };
-        if is_end(command) {
+        if let Command::End = command {
             if next == bytes.len() {
-                let question = Question {
-                    kind,
-                    free,
-                    own,
+                return Ok(Question {
+                    kind: head.kind,
+                    free: head.free,
+                    own: head.own,
                     constants,
                     defined,
                     named,
                     counts,
-                };
-                return accepted(question);
+                });
             }
-            return refused(10, next);
+            return Err(Refused {
+                fault: Fault::BytesAfter,
+                place: next,
+            });
         }
         named = keep::keep_clause(clauses, &counts, named, command);
         keep::count_clause(&mut counts, command);
@@ -124,16 +81,15 @@ fn read_commands(bytes: &[u8], kind: u8, free: usize, own: usize, clauses: &mut 
     }
 }
 
-// The reading of a byte string of any length. The clauses are written to the lent bytes as they are read.
-pub fn read(bytes: &[u8], clauses: &mut [u8; CLAUSE_BYTES]) -> Reading
-    ensures answer { result ≡ reading_of (read bytes.now) }
+// Reads a byte string of any length. The clauses are written to the lent bytes as they are read.
+pub fn read(bytes: &[u8], clauses: &mut [u8; CLAUSE_BYTES]) -> Result<Question, Refused>
+    ensures answer { reading_told result ≡ reading_of (read bytes.now) }
     ensures clauses { clauses.new ≡ clauses_after bytes.now clauses.old }
-    ensures stands { (q : Asked) → read bytes.now ≡ accepted q → Stands result.question.kind (stored_of result.question clauses.new) q }
-    ensures first { (q : Asked) → read bytes.now ≡ accepted q → result.question.defined ≡ leading most_constants bytes.now 0 }
+    ensures stands { IfOk result (λ x. (q : Asked) → read bytes.now ≡ accepted q → Stands (kind_value x.kind) (stored_of x clauses.new) q) }
+    ensures first { IfOk result (λ x. x.defined ≡ leading most_constants bytes.now 0) }
 {
-    let h = opening::read_head(bytes);
-    let Head::Opens { kind, free, own } = h else {
-        return refused(opening::wrong_of(h), 0);
-    };
-    read_commands(bytes, kind, free, own, clauses)
+    match opening::read_head(bytes) {
+        Ok(head) => read_commands(bytes, head, clauses),
+        Err(fault) => Err(Refused { fault, place: 0 }),
+    }
 }

@@ -1,10 +1,6 @@
 -- `questions::read_constants`: so many constants have been read, and those that follow give the rest. Assumes nothing.
-use Prim.Native.Nat.{◌-◌}
 use Rattle.format.proofs.LeadLaws.{Led}
 use Rattle.questions.proofs.read_constants.Given as goal
 
 abbrev pub invariant-loop-defined : goal.invariant-loop-defined
 invariant-loop-defined l = Led l.bytes l.fn.constants l.defined l.at l.constants
-
-abbrev pub decreases-loop-defined : goal.decreases-loop-defined
-decreases-loop-defined l = 32 - l.defined

@@ -13,12 +13,9 @@ one_bit k part e l = rw e (power_shift part l)
 
 pub returns : goal.returns
 returns c =
-    let j = c.args.join in
     let small = c.requires in
     ap (λ x. x / 2 ^ 32)
     (ap₂ bit_or
-    (ap₂ bit_or
-    (one_bit c.index.result j.first c.index.ensures.0 small.0)
-    (one_bit c.index-2.result j.second c.index-2.ensures.0 small.1))
-    (one_bit c.index-3.result j.sum c.index-3.ensures.0 small.2))
-    ∙ constants_are j small
+    (ap₂ bit_or (one_bit _ _ c.from.ensures small.0) (one_bit _ _ c.from-2.ensures small.1))
+    (one_bit _ _ c.from-3.ensures small.2))
+    ∙ constants_are c.args.join small
