@@ -17,9 +17,8 @@ use Rattle.format.specs.Limits.{Limited}
 use Rattle.format.proofs.FormatLaws.{accepted_formed, accepted_limited}
 use Rattle.rows.specs.Rows.{row_levels, answer_bytes, filled_with}
 use Rattle.rows.proofs.RowLaws.{filled_tree, filled_zero}
-use Rattle.asking.specs.Asking.{Asked, turned_away, answered, asked_with, refusal_outcome, outcome_of, shown_trees, answer_after, work_after}
+use Rattle.asking.specs.Asking.{Outcome, Asked, turned_away, answered, asked_with, refusal_outcome, outcome_of, shown_trees, answer_after, work_after}
 use Rattle.asking.specs.AskingLaws.{granted, height_low}
-use Rattle.asking.specs.declared.Outcome.{Outcome}
 use Rattle.asking.specs.Exact.{WithoutSolution, Exact}
 use Rattle.asking.specs.Demand3.{row_shares, RowsShow, Demand3}
 use Rattle.asking.specs.Given.{Given}
@@ -97,19 +96,15 @@ module _ (s answer work : List ℕ) where
   -- its meaning follows from the rest
   pub given : (g : Asked) → asked_with s answer work ≡ g → (r : Outcome) (answer' work' : List ℕ)
       → r ≡ outcome_of g → answer' ≡ answer_after g answer → work' ≡ work_after g work → Given s answer work r answer' work'
-  given g e r answer' work' er ea ew = (
-    er ∙ ap outcome_of (sym e),
-    (
-      ea ∙ ap (λ x. answer_after x answer) (sym e),
-      (
-        ew ∙ ap (λ x. work_after x work) (sym e),
-        λ q f.
-            let right = er ∙ ap outcome_of (sym e ∙ f) in
-            let shown = ea ∙ ap (λ x. answer_after x answer) (sym e ∙ f) in
-            (subst (Exact q) (sym right) (exact_asked s answer work q f), subst₂ (Demand3 q) (sym right) (sym shown) (demand_3 s answer work q f)),
-      ),
-    ),
-  )
+  given g e r answer' work' er ea ew = record {
+    outcome = er ∙ ap outcome_of (sym e);
+    answer = ea ∙ ap (λ x. answer_after x answer) (sym e);
+    work = ew ∙ ap (λ x. work_after x work) (sym e);
+    model = λ q f.
+        let right = er ∙ ap outcome_of (sym e ∙ f) in
+        let shown = ea ∙ ap (λ x. answer_after x answer) (sym e ∙ f) in
+        (subst (Exact q) (sym right) (exact_asked s answer work q f), subst₂ (Demand3 q) (sym right) (sym shown) (demand_3 s answer work q f));
+  }
 
   -- a refusal leaves every lent byte unchanged
   pub given_refused : (n place : ℕ) → asked_with s answer work ≡ turned_away n place → (r : Outcome) → r ≡ refusal_outcome n place

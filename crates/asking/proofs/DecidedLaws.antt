@@ -5,17 +5,16 @@ use Rattle.std.proofs.Math.Path.{ap}
 use Rattle.systems.specs.Questions.{Question, question_height}
 use Rattle.systems.specs.Answers.{shows, height_given}
 use Rattle.plans.specs.declared.Plan.{Plan}
-use Rattle.format.specs.Stored.{Stored}
-use Rattle.format.specs.declared.Reading.{Reading}
+use Rattle.format.specs.Stored.{Stored, stored_of}
+use Rattle.format.specs.declared.Question.{Question as Held}
 use Rattle.format.proofs.Callers.{Taken}
 use Rattle.rows.specs.Rows.{row_levels, answer_bytes, zeros}
 use Rattle.rows.proofs.RowLaws.{filled_ext}
 use Rattle.show.specs.Plans as shown
 use Rattle.beside.specs.declared.Sizes.{Sizes}
 use Rattle.decide.specs.declared.Finding.{Finding}
-use Rattle.decide.specs.Decision.{answer_of, Decided, SizedFor, DecidedFor, Planned}
-use Rattle.asking.specs.declared.Outcome.{Outcome}
-use Rattle.asking.specs.Asking.{work_bytes, answered, answer_outcome, outcome_of, answer_after, work_after}
+use Rattle.decide.specs.Decision.{sizes_of, answer_of, Decided, SizedFor, DecidedFor, Planned}
+use Rattle.asking.specs.Asking.{Outcome, work_bytes, answered, answer_outcome, outcome_of, answer_after, work_after}
 use Rattle.asking.specs.AskingLaws.{asked_answered}
 use Rattle.asking.specs.Given.{Given}
 use Rattle.asking.proofs.AskedRight.{given}
@@ -39,7 +38,7 @@ module _ (q : Question) (x : Stored) (f : Finding) (firsts leaves : List ℕ) (D
   answer_kept s answer = rw (← D.answer, s)
 
 -- asking, once a question was read that both buffers are long enough for, and decided
-pub given_answer : (s answer work : List ℕ) (x : Reading) (clauses : List ℕ) (T : Taken s x clauses) → answer_bytes T.question.constants.levels ≤ length answer → work_bytes ≤ length work
+pub given_answer : (s answer work : List ℕ) (x : Held) (clauses : List ℕ) (T : Taken s x clauses) → answer_bytes T.question.constants.levels ≤ length answer → work_bytes ≤ length work
     → (sizes : Sizes) (f : Finding) (firsts leaves : List ℕ) → DecidedFor sizes f firsts leaves T.question
     → (r : Outcome)
     → ((q : Question) → SizedFor sizes q → r ≡ answer_outcome (answer_of f) (height_given (question_height q) q (answer_of f)))
@@ -52,3 +51,12 @@ given_answer s answer work x clauses T la lw sizes f firsts leaves D r er answer
     (er q D.sizing ∙ outcome_same q _ f firsts leaves D.decided)
     (ea q D)
     ew
+
+-- what was read has these numbers, and with them this was found
+module _ (s : List ℕ) (x : Held) (clauses : List ℕ) (T : Taken s x clauses) (sizes : Sizes) (e : sizes ≡ sizes_of x) where
+  pub sized_for : SizedFor sizes T.question
+  sized_for = record { question = x; standing = record { clauses = clauses; stands = T.stands }; sized = e }
+
+  pub decided_for : (f : Finding) (firsts leaves : List ℕ) → Decided (stored_of x clauses) T.question f firsts leaves → DecidedFor sizes f firsts leaves T.question
+  unfolding sized_for
+  decided_for f firsts leaves D = record { sizing = sized_for; decided = D }

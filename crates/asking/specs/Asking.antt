@@ -6,7 +6,6 @@ use Rattle.systems.specs.Answers.{Answer, verdict, reason, disequation_number, s
 use Rattle.systems.specs.Decide.{decide, shown_at}
 use Rattle.format.specs.Format.{Result, refused, accepted, read}
 use Rattle.rows.specs.Rows.{row_levels, answer_bytes, zeros, filled_with}
-use Rattle.asking.specs.declared.Outcome.{Outcome}
 
 -- ---- whether a question is answered
 
@@ -36,6 +35,16 @@ abbrev pub asked_with : List ℕ → List ℕ → List ℕ → Asked
 asked_with s answer work = asked s (length answer) (length work)
 
 -- ---- the result
+
+-- the verdict (0 refused, 1 yes, 2 no), the refusal's number and its place, the height given, the reason and the disequation number;
+-- a field without a meaning is 0
+pub record Outcome : Type 0 where
+  pub verdict : ℕ
+  pub refusal : ℕ
+  pub place : ℕ
+  pub height : ℕ
+  pub reason : ℕ
+  pub number : ℕ
 
 -- a refusal has its number and its place
 abbrev pub refusal_outcome : ℕ → ℕ → Outcome

@@ -9,7 +9,7 @@ use Rattle.systems.specs.Answers.{Answer, Answers, shows, height_given, Shown}
 use Rattle.systems.specs.ShownWords.{ShownFixed}
 use Rattle.systems.specs.HeightRule.{HeightRule}
 use Rattle.rows.specs.Rows.{row_levels, row_bytes, row_count, row_tree, row_part, zeros}
-use Rattle.asking.specs.declared.Outcome.{Outcome}
+use Rattle.asking.specs.Asking.{Outcome}
 
 -- the shares that the rows of an answer buffer stand for, where the constants of its question have so many levels
 abbrev pub row_shares : ℕ → List ℕ → Assignment

@@ -6,7 +6,7 @@ use Rattle.systems.specs.Questions.{Kind, satisfiability, entailment, Question, 
 use Rattle.systems.specs.Answers.{Answer, Answers, Yes, verdict, reason, disequation_number}
 use Rattle.systems.specs.Decide.{decide_at}
 use Rattle.systems.specs.Policies.{WriterAndReader}
-use Rattle.asking.specs.declared.Outcome.{Outcome}
+use Rattle.asking.specs.Asking.{Outcome}
 
 -- what is given where the first system has no solution: for kind 0 no, for kind 1 yes with reason 1
 abbrev pub WithoutSolution : Kind → Outcome → Type 0

@@ -1,4 +1,5 @@
 pub mod Asking
+pub mod Told
 pub mod Worked
 pub mod Exact
 pub mod Demand3

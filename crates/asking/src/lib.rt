@@ -1,85 +1,118 @@
 // Asking: reads a question, decides it, and leaves its answer in the lent bytes.
 #![tactic(auto)]
 
-ghost use Rattle.std.specs.Prelude.{◌≡◌, ◌++◌, ◌≤◌, length, drop};
+ghost use Rattle.std.specs.Prelude.{◌≡◌, ◌++◌, ◌≤◌, length, drop, Ok};
 ghost use Rattle.shares.specs.Constant.{constant_levels};
 ghost use Rattle.systems.specs.Questions as model;
-ghost use Rattle.systems.specs.Answers.{height_given};
+ghost use Rattle.systems.specs.Answers.{verdict, reason, disequation_number, height_given};
 ghost use Rattle.rows.specs.Rows.{answer_bytes, zeros};
 ghost use Rattle.decide.specs.Decision.{answer_of, SizedFor, DecidedFor};
-ghost use Rattle.asking.specs.Asking.{work_bytes, answered, asked_with, refusal_outcome, answer_outcome, outcome_of, answer_after, work_after};
+ghost use Rattle.asking.specs.Asking.{work_bytes, answered, asked_with, answer_outcome, outcome_of, answer_after, work_after};
+ghost use Rattle.asking.specs.declared.Refusal.TheVariants.{Question};
+ghost use Rattle.asking.specs.Told.{refusal_number, refusal_place, told};
 ghost use Rattle.asking.specs.Exact.{Exact};
 ghost use Rattle.asking.specs.Demand3.{Demand3};
 
 use basics::CLAUSE_BYTES;
 use beside::Sizes;
 use decide::Finding;
+use format::Refused;
 use rows::ANSWER_BYTES;
 use words::{FIRST_WORDS, LEAF_WORDS};
 
 // This many bytes of the work area are zero after a yes or no.
 const WORK_BYTES: usize = 4096;
 
-// The verdict (0 refused, 1 yes, 2 no), the refusal's number and its place, the height given, the reason and the disequation
-// number. A field without a meaning is 0.
+// The answer to a question: what was found, and the height given with it.
 #[derive(Clone, Copy)]
-pub struct Outcome {
-    pub verdict: u8,
-    pub refusal: u8,
-    pub place: usize,
+pub struct Answer {
+    pub finding: Finding,
     pub height: usize,
-    pub reason: u8,
-    pub number: usize,
 }
 
-// The result of a refusal.
-fn refused(refusal: u8, place: usize) -> Outcome
-    ensures { result ≡ refusal_outcome refusal place }
-{
-    Outcome {
-        verdict: 0,
-        refusal,
-        place,
-        height: 0,
-        reason: 0,
-        number: 0,
+impl Answer {
+    // The number of the verdict: 1 for yes, 2 for no.
+    pub fn verdict(self) -> u8
+        ensures { result ≡ verdict (answer_of self.finding) }
+    {
+        match self.finding {
+            Finding::Satisfied | Finding::Vacuous | Finding::Entailed => 1,
+            Finding::Unsatisfied | Finding::Unmet | Finding::Missed(_) => 2,
+        }
+    }
+
+    // The number of the reason, 0 where there is none.
+    pub fn reason(self) -> u8
+        ensures { result ≡ reason (answer_of self.finding) }
+    {
+        match self.finding {
+            Finding::Satisfied | Finding::Unsatisfied | Finding::Entailed => 0,
+            Finding::Vacuous => 1,
+            Finding::Unmet => 2,
+            Finding::Missed(_) => 3,
+        }
+    }
+
+    // The number of the disequation that is missed, 0 where none is.
+    pub fn disequation(self) -> usize
+        ensures { result ≡ disequation_number (answer_of self.finding) }
+    {
+        match self.finding {
+            Finding::Missed(j) => j,
+            _ => 0,
+        }
     }
 }
 
-// The result of an answer.
-fn answer_outcome(verdict: u8, height: usize, reason: u8, number: usize) -> Outcome
-    ensures { result ≡ record { verdict = verdict; refusal = 0; place = 0; height = height; reason = reason; number = number } }
-{
-    Outcome {
-        verdict,
-        refusal: 0,
-        place: 0,
-        height,
-        reason,
-        number,
+// Why a question is not answered: its bytes are none, the answer buffer is too short, or the work area is.
+#[derive(Clone, Copy)]
+pub enum Refusal {
+    Question(Refused),
+    ShortAnswer,
+    ShortWork,
+}
+
+// A refusal of the reader is one.
+impl From<Refused> for Refusal {
+    ghost from_gives = { λ refused refusal. refusal ≡ Question refused };
+
+    fn from(refused: Refused) -> Refusal {
+        Refusal::Question(refused)
     }
 }
 
-// The result of each finding, with the height given.
-fn outcome_of(finding: Finding, height: usize) -> Outcome
-    ensures { result ≡ answer_outcome (answer_of finding) height }
-{
-    match finding {
-        Finding::Satisfied => answer_outcome(1, height, 0, 0),
-        Finding::Unsatisfied => answer_outcome(2, height, 0, 0),
-        Finding::Vacuous => answer_outcome(1, height, 1, 0),
-        Finding::Entailed => answer_outcome(1, height, 0, 0),
-        Finding::Unmet => answer_outcome(2, height, 2, 0),
-        Finding::Missed(j) => answer_outcome(2, height, 3, j),
+// The number of a refusal.
+impl From<Refusal> for u8 {
+    ghost from_gives = { λ refusal number. number ≡ refusal_number refusal };
+
+    fn from(refusal: Refusal) -> u8 {
+        match refusal {
+            Refusal::Question(refused) => u8::from(refused.fault),
+            Refusal::ShortAnswer => 11,
+            Refusal::ShortWork => 12,
+        }
     }
 }
 
-// The result of a finding of a question with these numbers.
-fn found(sizes: Sizes, finding: Finding) -> Outcome
+impl Refusal {
+    // The offset of a fault, 0 where the question has none.
+    pub fn place(self) -> usize
+        ensures { result ≡ refusal_place self }
+    {
+        match self {
+            Refusal::Question(refused) => refused.place,
+            Refusal::ShortAnswer | Refusal::ShortWork => 0,
+        }
+    }
+}
+
+// What was found of a question with these numbers, with the height given.
+fn found(sizes: Sizes, finding: Finding) -> Answer
     requires { (q : model.Question) × SizedFor sizes q }
-    ensures { (q : model.Question) → SizedFor sizes q → result ≡ answer_outcome (answer_of finding) (height_given (model.question_height q) q (answer_of finding)) }
+    ensures { (q : model.Question) → SizedFor sizes q → told (Ok result) ≡ answer_outcome (answer_of finding) (height_given (model.question_height q) q (answer_of finding)) }
 {
-    outcome_of(finding, decide::height_given(sizes, finding))
+    let height = decide::height_given(sizes, finding);
+    Answer { finding, height }
 }
 
 // Shows the solution of what was found, where there is one to show.
@@ -105,39 +138,36 @@ fn clear_work(work: &mut [u8])
     requires { work_bytes ≤ length work.old }
     ensures { work.new ≡ zeros work_bytes ++ drop work_bytes work.old }
 {
-    basics::fill(&mut work[0..WORK_BYTES], 0);
+    work[..WORK_BYTES].fill(0);
 }
 
 // Reads a question and answers it. Every byte string and all buffers may be handed over.
-pub fn ask(question: &[u8], answer: &mut [u8], work: &mut [u8]) -> Outcome
-    ensures outcome { result ≡ outcome_of (asked_with question.now answer.old work.old) }
+pub fn ask(question: &[u8], answer: &mut [u8], work: &mut [u8]) -> Result<Answer, Refusal>
+    ensures outcome { told result ≡ outcome_of (asked_with question.now answer.old work.old) }
     ensures answer { answer.new ≡ answer_after (asked_with question.now answer.old work.old) answer.old }
     ensures work { work.new ≡ work_after (asked_with question.now answer.old work.old) work.old }
-    ensures model { (q : model.Question) → asked_with question.now answer.old work.old ≡ answered q → Exact q result × Demand3 q result answer.new }
+    ensures model { (q : model.Question) → asked_with question.now answer.old work.old ≡ answered q → Exact q (told result) × Demand3 q (told result) answer.new }
 {
     let mut clauses = [0u8; CLAUSE_BYTES];
-    let reading = questions::read(question, &mut clauses);
-    if reading.refusal != 0 {
-        return refused(reading.refusal, reading.place);
-    }
+    let read = questions::read(question, &mut clauses)?;
     if answer.len() < ANSWER_BYTES {
-        return refused(11, 0);
+        return Err(Refusal::ShortAnswer);
     }
     if work.len() < WORK_BYTES {
-        return refused(12, 0);
+        return Err(Refusal::ShortWork);
     }
-    let sizes = decide::sizes_of(reading.question, &reading.question.constants);
+    let sizes = decide::sizes_of(read, &read.constants);
     let mut firsts = [0u64; FIRST_WORDS];
     let mut leaves = [0u64; LEAF_WORDS];
     let finding = decide::decide(
-        reading.question,
+        read,
         sizes,
         &clauses,
-        &reading.question.constants,
+        &read.constants,
         &mut firsts,
         &mut leaves,
     );
     show_solution(answer, sizes, finding, &firsts, &leaves);
     clear_work(work);
-    found(sizes, finding)
+    Ok(found(sizes, finding))
 }

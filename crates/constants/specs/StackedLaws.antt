@@ -4,6 +4,7 @@ use Rattle.std.proofs.Math.Path.{refl, sym, ap, subst}
 use Rattle.std.proofs.Common.{◌∙◌, le_refl, lt_of_lt_of_le, get_or-set_same, get_or-set_other}
 use Rattle.std.proofs.Math.Bool.{cond, and-true, and-false}
 use Rattle.std.specs.Bool.{beq}
+use Rattle.std.specs.Prelude as code
 use mathlib.Core.List.{List, [], ◌∷◌}
 use Rattle.std.proofs.Math.Option.{Option, none, some}
 use Rattle.shares.specs.Test.{of_true, of_false}
@@ -23,7 +24,6 @@ use Rattle.constants.specs.StackLaws.{onto_leaf, closed_law}
 use Rattle.constants.specs.PairLaws.{pair_tree_number}
 use Rattle.constants.specs.Stacks.{Item, bracket, tree, closed, onto, only, item_number, brackets, highest, all_folded, Numbered, Stacked, Stepped, pair_item, equal_leaves, is_pair, leaf_scan, open_scan, close_scan}
 use Rattle.constants.specs.declared.Scan.{Scan}
-use Rattle.constants.specs.declared.Step.{Step}
 
 -- ---- the number of a tree
 
@@ -302,7 +302,7 @@ unfolding onto
 onto_other x σ a b c d = rw (ne_eqb x 0x28 a, ne_eqb x 0x6F b, ne_eqb x 0x2A c, ne_eqb x 0x29 d)
 
 -- what a sign gives, by equal numbers
-pub steps_same : (levels x : ℕ) (σ : List Item) (i j : List ℕ) {f g : Step} → i ≡ j → f ≡ g → Stepped levels j x σ g → Stepped levels i x σ f
+pub steps_same : (levels x : ℕ) (σ : List Item) (i j : List ℕ) {f g : code.Option Scan} → i ≡ j → f ≡ g → Stepped levels j x σ g → Stepped levels i x σ f
 steps_same levels x σ i j {f} {g} d e h = subst (λ k. Stepped levels k x σ f) (sym d) (subst (λ r. Stepped levels j x σ r) (sym e) h)
 
 -- before the first sign

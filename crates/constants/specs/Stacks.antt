@@ -1,5 +1,6 @@
 -- The reader's stack: what stands on it after each sign of a text, and the numbers that it is kept in. Assumes nothing.
 use Rattle.std.specs.Prelude.{◌≡◌, Bool, true, false, not, cond, ◌&&◌, List, [], ◌∷◌, ℕ, zero, suc, ◌+◌, ◌*◌, ◌-◌, ◌%◌, ◌^◌, max, eqb, ltb, length, get_or}
+use Rattle.std.specs.Prelude as code
 use Rattle.std.proofs.Math.Option.{Option, none, some}
 use Rattle.shares.specs.Tree.{Tree, leaf, pair, height}
 use Rattle.shares.specs.Constant.{tree_number}
@@ -7,8 +8,6 @@ use Rattle.shares.specs.Text.{sign}
 use Rattle.constants.specs.FoldLaws.{is_folded}
 use Rattle.constants.specs.declared.Told.{Told}
 use Rattle.constants.specs.declared.Scan.{Scan}
-use Rattle.constants.specs.declared.Step.{Step}
-use Rattle.constants.specs.declared.Step.TheVariants as step
 
 -- ---- what stands on it
 
@@ -96,9 +95,9 @@ pub record Stacked (levels : ℕ) (items : List ℕ) (scan : Scan) (σ : List It
   pub kept : Numbered levels items σ
 
 -- what a sign more gives
-abbrev pub Stepped : ℕ → List ℕ → ℕ → List Item → Step → Type 0
-Stepped levels items x σ (step.Goes scan) = (τ : List Item) × (onto x σ ≡ some τ) × Stacked levels items scan τ
-Stepped levels items x σ step.Stops = onto x σ ≡ none
+abbrev pub Stepped : ℕ → List ℕ → ℕ → List Item → code.Option Scan → Type 0
+Stepped levels items x σ (code.Some scan) = (τ : List Item) × (onto x σ ≡ some τ) × Stacked levels items scan τ
+Stepped levels items x σ code.None = onto x σ ≡ none
 
 -- ---- what the reader computes
 

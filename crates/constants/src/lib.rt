@@ -7,22 +7,33 @@ ghost use Rattle.std.proofs.Math.Option.{some};
 ghost use Rattle.shares.specs.Tree.{Tree};
 ghost use Rattle.shares.specs.Constant.{constant_levels};
 ghost use Rattle.shares.specs.Text.{longest_text};
-ghost use Rattle.constants.specs.FromText.{from_tree, from_text};
+ghost use Rattle.constants.specs.FromText.{refusal_number, from_tree, from_text};
 ghost use Rattle.constants.specs.Stacks.{Item, runs, Stacked, Stepped, pair_number, pair_item, equal_leaves, is_pair, leaf_scan, open_scan, close_scan, Of};
-ghost use Rattle.constants.specs.declared.Step.TheVariants as step;
 
 // A constant is no taller, and no text of one is longer.
 const LEVELS: usize = 5;
 
 const LONGEST_TEXT: usize = 94;
 
-// What a text gives: the constant that it writes, or why it is turned away.
-#[derive(Clone, Copy)]
-pub enum FromText {
-    Constant(u32),
+// Why a text gives no constant.
+#[derive(Clone, Copy, PartialEq, Eq, Debug)]
+pub enum NoConstant {
     NotTreeText,
     NotFolded,
     TooTall,
+}
+
+// The number of a refusal.
+impl From<NoConstant> for u8 {
+    ghost from_gives = { λ refusal number. number ≡ refusal_number refusal };
+
+    fn from(refusal: NoConstant) -> u8 {
+        match refusal {
+            NoConstant::NotTreeText => 15,
+            NoConstant::NotFolded => 16,
+            NoConstant::TooTall => 17,
+        }
+    }
 }
 
 // What is told of a tree: its leaves as a number, its height, and whether it is folded.
@@ -40,13 +51,6 @@ struct Scan {
     pairs: usize,
     highest: usize,
     folded: bool,
-}
-
-// What a sign more gives.
-#[derive(Clone, Copy)]
-enum Step {
-    Goes(Scan),
-    Stops,
 }
 
 // A bracket is kept as 0, a tree as the number of its leaves with a bit above it: this one for a leaf, the next for a pair.
@@ -69,23 +73,11 @@ fn full_leaves(levels: usize) -> u64
 fn levels_below(pairs: usize) -> usize
     ensures { result ≡ constant_levels - pairs }
 {
-    if pairs > LEVELS {
-        return 0;
-    }
-    LEVELS - pairs
-}
-
-// The larger of two numbers.
-fn larger(a: usize, b: usize) -> usize
-    ensures { result ≡ max a b }
-{
-    if a < b {
-        return b;
-    }
-    a
+    LEVELS.saturating_sub(pairs)
 }
 
 // The leaves of a pair, from those of its halves: the right half's lie above the left half's.
+#[tactic(auto, using(crate::specs::PairLaws::pair_number_lem, crate::specs::PairLaws::pair_room, crate::specs::PairLaws::scale_room), unfolding(crate::specs::Stacks::pair_number))]
 fn pair_leaves(levels: usize, left: u64, right: u64) -> u64
     requires levels_le_constant_levels { levels ≤ constant_levels }
     requires left_bound { (left < 2 ^ (2 ^ (levels - 1))) × (right < 2 ^ (2 ^ (levels - 1))) }
@@ -105,66 +97,53 @@ fn leaves_of(item: u64) -> u64
 }
 
 // A leaf is put on the stack.
-fn put_leaf(items: &mut [u64], scan: Scan, leaves: u64) -> Step
+fn put_leaf(items: &mut [u64], scan: Scan, leaves: u64) -> Scan
     requires { (scan.top < length items.old) × (leaves < 2 ^ 32) }
-    ensures step { result ≡ step.Goes (leaf_scan scan) }
+    ensures scan { result ≡ leaf_scan scan }
     ensures items { items.new ≡ set items.old scan.top (2 ^ (2 ^ constant_levels) + leaves) }
 {
-    let top = scan.top;
-    items[top] = LEAF + leaves;
-    Step::Goes(Scan {
-        top: top + 1,
-        pairs: scan.pairs,
-        highest: scan.highest,
-        folded: scan.folded,
-    })
+    items[scan.top] = LEAF + leaves;
+    Scan {
+        top: scan.top + 1,
+        ..scan
+    }
 }
 
 // A pair is opened.
-fn open_pair(items: &mut [u64], scan: Scan) -> Step
+fn open_pair(items: &mut [u64], scan: Scan) -> Scan
     requires { (scan.top < length items.old) × (scan.pairs ≤ scan.top) }
-    ensures step { result ≡ step.Goes (open_scan scan) }
+    ensures scan { result ≡ open_scan scan }
     ensures items { items.new ≡ set items.old scan.top 0 }
 {
-    let top = scan.top;
-    items[top] = 0;
+    items[scan.top] = 0;
     let pairs = scan.pairs + 1;
-    Step::Goes(Scan {
-        top: top + 1,
+    Scan {
+        top: scan.top + 1,
         pairs,
-        highest: larger(scan.highest, pairs),
+        highest: scan.highest.max(pairs),
         folded: scan.folded,
-    })
+    }
 }
 
 // Whether two trees are kept on top of a bracket.
+#[tactic(auto, unfolding(crate::specs::Stacks::is_pair))]
 fn is_pair(items: &[u64], top: usize) -> bool
     requires { top ≤ length items.now }
     ensures { result ≡ is_pair items.now top }
 {
-    if top < 3 {
-        return false;
-    }
-    if items[top - 1] == 0 {
-        return false;
-    }
-    if items[top - 2] == 0 {
-        return false;
-    }
-    items[top - 3] == 0
+    top >= 3 && items[top - 1] != 0 && items[top - 2] != 0 && items[top - 3] == 0
 }
 
 // Whether two trees are equal leaves.
+#[tactic(auto, unfolding(crate::specs::Stacks::equal_leaves))]
 fn equal_leaves(left: u64, right: u64) -> bool
     ensures { result ≡ equal_leaves constant_levels left right }
 {
-    if left == right {
-        return left < PAIR;
-    }
-    false
+    left == right && left < PAIR
 }
 
 // The number that a pair is kept as.
+#[tactic(auto, unfolding(crate::specs::Stacks::pair_item))]
 fn pair_item(levels: usize, left: u64, right: u64) -> u64
     requires levels_le_constant_levels { levels ≤ constant_levels }
     requires constant_levels_bound { (left % 2 ^ (2 ^ constant_levels) < 2 ^ (2 ^ (levels - 1))) × (right % 2 ^ (2 ^ constant_levels) < 2 ^ (2 ^ (levels - 1))) }
@@ -181,68 +160,61 @@ fn closed_scan(scan: Scan, equal: bool) -> Scan
     Scan {
         top: scan.top - 2,
         pairs: scan.pairs - 1,
-        highest: scan.highest,
         folded: scan.folded && !equal,
+        ..scan
     }
 }
 
-// A pair is closed.
-fn close_pair(items: &mut [u64], scan: Scan) -> Step
+// A pair is closed; none where no two trees stand on top of a bracket.
+#[tactic(auto, using(crate::specs::StackedLaws::pair_sizes))]
+fn close_pair(items: &mut [u64], scan: Scan) -> Option<Scan>
     requires { (σ : List Item) × Stacked constant_levels items.old scan σ × (length σ ≤ length items.old) }
     ensures { (σ : List Item) → Stacked constant_levels items.old scan σ → length σ ≤ length items.old → Stepped constant_levels items.new 0x29 σ result }
 {
-    if is_pair(items, scan.top) {
-        let left = items[scan.top - 2];
-        let right = items[scan.top - 1];
-        let next = closed_scan(scan, equal_leaves(left, right));
-        items[next.top - 1] = pair_item(levels_below(next.pairs), left, right);
-        return Step::Goes(next);
+    if !is_pair(items, scan.top) {
+        return None;
     }
-    Step::Stops
+    let left = items[scan.top - 2];
+    let right = items[scan.top - 1];
+    let next = closed_scan(scan, equal_leaves(left, right));
+    items[next.top - 1] = pair_item(levels_below(next.pairs), left, right);
+    Some(next)
 }
 
-// A sign more.
-fn take_sign(items: &mut [u64], scan: Scan, sign: u8) -> Step
+// A sign more; none where it cannot stand there.
+#[tactic(auto, using(crate::specs::StackedLaws::brackets_few, crate::specs::StackedLaws::onto_other))]
+fn take_sign(items: &mut [u64], scan: Scan, sign: u8) -> Option<Scan>
     requires { (σ : List Item) × Stacked constant_levels items.old scan σ × (length σ < length items.old) }
     ensures { (σ : List Item) → Stacked constant_levels items.old scan σ → length σ < length items.old → Stepped constant_levels items.new sign σ result }
 {
-    if sign == b'(' {
-        return open_pair(items, scan);
+    match sign {
+        b'(' => Some(open_pair(items, scan)),
+        b'o' => Some(put_leaf(items, scan, 0)),
+        b'*' => Some(put_leaf(items, scan, full_leaves(levels_below(scan.pairs)))),
+        b')' => close_pair(items, scan),
+        _ => None,
     }
-    if sign == b'o' {
-        return put_leaf(items, scan, 0);
-    }
-    if sign == b'*' {
-        return put_leaf(items, scan, full_leaves(levels_below(scan.pairs)));
-    }
-    if sign == b')' {
-        return close_pair(items, scan);
-    }
-    Step::Stops
 }
 
 // What a text gives that is the whole text of this tree.
-fn from_told(told: Told) -> FromText
+fn from_told(told: Told) -> Result<u32, NoConstant>
     ensures { (t : Tree) → Of constant_levels t told → result ≡ from_tree constant_levels t }
 {
-    if told.folded {
-        if told.height > LEVELS {
-            return FromText::TooTall;
-        }
-        return FromText::Constant(told.leaves);
+    if !told.folded {
+        return Err(NoConstant::NotFolded);
     }
-    FromText::NotFolded
+    if told.height > LEVELS {
+        return Err(NoConstant::TooTall);
+    }
+    Ok(told.leaves)
 }
 
 // What a whole text gives that left this stack.
-fn from_stack(scan: Scan, item: u64) -> FromText
+fn from_stack(scan: Scan, item: u64) -> Result<u32, NoConstant>
     ensures { (items : List ℕ) (σ : List Item) (s : List ℕ) → Stacked constant_levels items scan σ → item ≡ get_or items 0 0 → runs s (some []) ≡ some σ → length s ≤ longest_text constant_levels → result ≡ from_text constant_levels s }
 {
-    if scan.top != 1 {
-        return FromText::NotTreeText;
-    }
-    if item == 0 {
-        return FromText::NotTreeText;
+    if scan.top != 1 || item == 0 {
+        return Err(NoConstant::NotTreeText);
     }
     from_told(Told {
         leaves: leaves_of(item) as u32,
@@ -252,12 +224,13 @@ fn from_stack(scan: Scan, item: u64) -> FromText
 }
 
 // What a text gives, of whatever length.
-pub fn from_text(text: &[u8]) -> FromText
+pub fn from_text(text: &[u8]) -> Result<u32, NoConstant>
     ensures { result ≡ from_text constant_levels text.now }
 {
     if text.len() > LONGEST_TEXT {
-        return FromText::NotTreeText;
+        return Err(NoConstant::NotTreeText);
     }
+    // An array, and not a vector of this capacity: a closing bracket puts the pair where its bracket lies.
     let mut items = [0u64; LONGEST_TEXT];
     let mut scan = Scan {
         top: 0,
@@ -265,13 +238,8 @@ pub fn from_text(text: &[u8]) -> FromText
         highest: 0,
         folded: true,
     };
-    let mut at: usize = 0;
-    while at < text.len() {
-        let Step::Goes(next) = take_sign(&mut items, scan, text[at]) else {
-            return FromText::NotTreeText;
-        };
-        scan = next;
-        at += 1;
+    for sign in text {
+        scan = take_sign(&mut items, scan, *sign).ok_or(NoConstant::NotTreeText)?;
     }
     from_stack(scan, items[0])
 }

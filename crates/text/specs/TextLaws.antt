@@ -1,5 +1,5 @@
 -- The length of the text of a row, and of what is answered, for every height. Assumes nothing.
-use Rattle.std.specs.Prelude.{Bool, true, false, cond, List, ℕ, Result, Ok, Err, ◌≤◌, eqb, leb, length}
+use Rattle.std.specs.Prelude.{Bool, true, false, cond, List, ℕ, Ok, Err, ◌≤◌, eqb, leb, length}
 use Rattle.std.proofs.Common.{zero-le}
 use Rattle.shares.proofs.TreeLaws.{tree_of_height}
 use Rattle.shares.specs.Text.{longest_text}

@@ -1,5 +1,5 @@
 -- Laws of the other calls' numbers: what they hold is read back from them, and what a join's stands for. Assumes nothing.
-use Rattle.std.specs.Prelude.{◌≡◌, refl, Bool, true, false, not, cond, List, ◌⊎◌, ℕ, ◌+◌, ◌*◌, ◌/◌, ◌%◌, ◌^◌, ◌≤◌, ◌<◌, T, length, take, drop}
+use Rattle.std.specs.Prelude.{◌≡◌, refl, Bool, true, false, not, cond, List, ◌⊎◌, ℕ, Result, Ok, ◌+◌, ◌/◌, ◌%◌, ◌^◌, ◌≤◌, ◌<◌, T, length, take, drop}
 use Rattle.std.proofs.Math.Path.{ap}
 use Rattle.std.proofs.Common.{◌∙◌, inl, inr, arith, eq-eqb, ne_eqb}
 use Rattle.std.proofs.Math.Option.{none, some}
@@ -15,12 +15,9 @@ use Rattle.rows.specs.declared.Range.{Range}
 use Rattle.rows.proofs.RowLaws.{row_tree_row_of, range_inside}
 use Rattle.text.specs.Texts.{text_length, text_refusal, row_text, text_answer}
 use Rattle.text.specs.TextLaws.{answer_length}
-use Rattle.text.specs.declared.Written.{Written}
-use Rattle.text.specs.declared.Written.TheVariants.{Length, Refused}
 use Rattle.constants.specs.FromText.{constant_refusal, constant_given, from_text}
 use Rattle.constants.specs.FromTextLaws.{written_read, read_written}
-use Rattle.constants.specs.declared.FromText.{FromText}
-use Rattle.constants.specs.declared.FromText.TheVariants as given
+use Rattle.constants.specs.declared.NoConstant.{NoConstant}
 use Rattle.zimorgal.specs.Calls.{range_number, text_number, constant_number, undefined_join, number_join}
 use Rattle.zimorgal.specs.Joins.{join_number}
 
@@ -48,7 +45,7 @@ pub text_reads_back : (row buffer : List ℕ)
 text_reads_back row buffer = (omega (arith, answer_length (row_levels constant_levels) row buffer), omega (arith, answer_length (row_levels constant_levels) row buffer))
 
 -- the constant and the refusal number of the constant call
-pub constant_reads_back : (g : FromText) → constant_given g < 2 ^ 32 → (constant_number g % 2 ^ 32 ≡ constant_given g) × (constant_number g / 2 ^ 32 ≡ constant_refusal g)
+pub constant_reads_back : (g : Result ℕ NoConstant) → constant_given g < 2 ^ 32 → (constant_number g % 2 ^ 32 ≡ constant_given g) × (constant_number g / 2 ^ 32 ≡ constant_refusal g)
 constant_reads_back g l = (omega arith, omega arith)
 
 -- the text of a constant's row is the constant's, for every number of levels
@@ -60,11 +57,11 @@ module _ (levels n : ℕ) where
       (row_tree_row_of (row_levels levels) (omega arith) (number_tree levels n) (tree_of_folded levels (bit n)) (omega (arith, tree_of_height levels (bit n))))
 
   -- so a constant that the text call writes and the constant call reads is itself
-  pub row_read : n < 2 ^ (2 ^ levels) → from_text levels (row_text (row_levels levels) (row_of (row_levels levels) (number_tree levels n))) ≡ given.Constant n
+  pub row_read : n < 2 ^ (2 ^ levels) → from_text levels (row_text (row_levels levels) (row_of (row_levels levels) (number_tree levels n))) ≡ Ok n
   row_read l = ap (from_text levels) constant_row_text ∙ written_read levels n l
 
   -- and each text that the constant call accepts is what the text call writes
-  pub row_written : (s : List ℕ) → from_text levels s ≡ given.Constant n → row_text (row_levels levels) (row_of (row_levels levels) (number_tree levels n)) ≡ s
+  pub row_written : (s : List ℕ) → from_text levels s ≡ Ok n → row_text (row_levels levels) (row_of (row_levels levels) (number_tree levels n)) ≡ s
   row_written s e = constant_row_text ∙ (read_written levels s n e).1
 
 -- the number of a join, told by the numbers, stands for the join of their trees, for every number of levels
@@ -86,12 +83,6 @@ module _ (levels a b : ℕ) (ha : a < undefined_join levels) (hb : b < undefined
           (omega arith, rw (ne_eqb r (undefined_join levels) (omega arith), j, n) refl)
 
 -- ---- the cases
-
-pub text_written : (w : Written) (n : ℕ) → w ≡ Length n → n ≡ text_number w
-text_written w n e = rw e (omega arith)
-
-pub text_refused : (w : Written) (n x : ℕ) → w ≡ Refused n → x ≡ n → 4294967296 * x ≡ text_number w
-text_refused w n x e h = rw e (omega arith)
 
 pub number_cases : (levels : ℕ) (s : Bool) (n : ℕ) → join_number levels (cond s Undefined (Constant n)) ≡ cond s (undefined_join levels) n
 number_cases levels true n = refl

@@ -1,13 +1,13 @@
 -- What the numbers of the calls other than asking stand for. Assumes nothing.
-use Rattle.std.specs.Prelude.{cond, ℕ, ◌+◌, ◌*◌, ◌^◌, ◌<◌, eqb}
+use Rattle.std.specs.Prelude.{cond, ℕ, Result, ◌+◌, ◌*◌, ◌^◌, ◌<◌, eqb}
 use Rattle.std.proofs.Math.Option.{Option, none, some}
 use Rattle.shares.specs.Tree.{Tree, way_number}
 use Rattle.shares.specs.Constant.{number_tree}
 use Rattle.rows.specs.declared.Range.{Range}
 use Rattle.text.specs.Texts.{text_length, text_refusal}
-use Rattle.text.specs.declared.Written.{Written}
+use Rattle.text.specs.declared.TextRefusal.{TextRefusal}
 use Rattle.constants.specs.FromText.{constant_refusal, constant_given}
-use Rattle.constants.specs.declared.FromText.{FromText}
+use Rattle.constants.specs.declared.NoConstant.{NoConstant}
 use Rattle.judging.specs.declared.Judgement.{Judgement}
 use Rattle.judging.specs.declared.Judgement.TheVariants as judgement
 
@@ -16,11 +16,11 @@ abbrev pub range_number : Range → ℕ
 range_number r = r.offset + 2 ^ 32 * r.bytes
 
 -- a text's length in the low 32 bits, the refusal number in the byte after them
-abbrev pub text_number : Written → ℕ
+abbrev pub text_number : Result ℕ TextRefusal → ℕ
 text_number w = text_length w + 2 ^ 32 * text_refusal w
 
 -- the constant that a text gives in the low 32 bits, the refusal number in the byte after them
-abbrev pub constant_number : FromText → ℕ
+abbrev pub constant_number : Result ℕ NoConstant → ℕ
 constant_number g = constant_given g + 2 ^ 32 * constant_refusal g
 
 -- the number of no join, where constants have so many levels: one past the largest constant, 2 ^ 32 at 5 levels

@@ -20,10 +20,10 @@ ghost use Rattle.zimorgal.specs.Calls.{range_number, text_number, constant_numbe
 ghost use Rattle.zimorgal.specs.Joins.{join_number};
 
 use asking::Outcome;
-use constants::FromText;
+use constants::NoConstant;
 use judging::Judgement;
 use shares::{Joined, Way};
-use text::Written;
+use text::TextRefusal;
 
 // The result as one number: each field is multiplied to its bytes.
 fn pack(outcome: Outcome) -> u64
@@ -108,12 +108,12 @@ pub extern "C" fn zimorgal_text(row: &[u8], text: &mut [u8]) -> u64
 }
 
 // The number of a text that was written or refused.
-fn text_number(written: Written) -> u64
+fn text_number(written: Result<usize, TextRefusal>) -> u64
     ensures { result ≡ text_number written }
 {
     match written {
-        Written::Length(n) => n as u64,
-        Written::Refused(n) => 4294967296 * basics::wide(n),
+        Ok(length) => length as u64,
+        Err(refusal) => 4294967296 * u64::from(u8::from(refusal)),
     }
 }
 
@@ -126,14 +126,12 @@ pub extern "C" fn zimorgal_constant(text: &[u8]) -> u64
 }
 
 // The number of a text that was read or refused.
-fn constant_number(read: FromText) -> u64
+fn constant_number(read: Result<u32, NoConstant>) -> u64
     ensures { result ≡ constant_number read }
 {
     match read {
-        FromText::Constant(n) => n as u64,
-        FromText::NotTreeText => 15 * 4294967296,
-        FromText::NotFolded => 16 * 4294967296,
-        FromText::TooTall => 17 * 4294967296,
+        Ok(constant) => u64::from(constant),
+        Err(why) => 4294967296 * u64::from(u8::from(why)),
     }
 }
 

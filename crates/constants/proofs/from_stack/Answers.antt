@@ -1,6 +1,5 @@
--- `constants::from_stack` meets its contract. Assumes nothing.
-use mathlib.Core.Path.{sym, ◌∙◌}
-use native.Mathlib.Omega.{arith}
+-- A stack that is no single tree is left by no tree's text, and a single tree is what the text writes.
+use Rattle.std.proofs.Common.{sym, ◌∙◌, inl, inr, arith}
 use Rattle.shares.specs.Constant.{constant_levels}
 use Rattle.constants.specs.StackLaws.{ended, whole_none, text_whole}
 use Rattle.constants.specs.StackedLaws.{not_alone, bracket_alone, tree_alone}
@@ -13,15 +12,10 @@ returns-then-scan-ne1 c items σ s S e runs-s short =
     (text_none constant_levels s
     (whole_none s
     (ended s σ runs-s
-    ∙ not_alone constant_levels items _ σ S (λ one. omega (arith, c.if-scan-ne1.true)))))
-
-pub returns-then-item-eq0 : goal.returns-then-item-eq0
-returns-then-item-eq0 c items σ s S e runs-s short =
-    sym
-    (text_none constant_levels s
-    (whole_none s
-    (ended s σ runs-s
-    ∙ bracket_alone constant_levels items _ σ S _ e c.if-scan-ne1.false c.if-item-eq0.true)))
+    ∙ elim c.then-scan-ne1.either [
+      | inl other ↦ not_alone constant_levels items _ σ S (λ one. omega (arith, other))
+      | inr (one, none) ↦ bracket_alone constant_levels items _ σ S _ e (omega (arith, one)) none
+    ])))
 
 pub returns : goal.returns
 returns c items σ s S e runs-s short =

@@ -1,54 +1,63 @@
 -- A text that is too long is no tree's. The invariant holds at the start. A sign more keeps it, or leaves no stack,
 -- and at the end the stack says what the text gives.
-use Rattle.std.proofs.Common.{◌≡◌, refl, sym, ◌∙◌, List, [], ℕ, arith}
+use Rattle.std.proofs.Common.{◌≡◌, refl, sym, ap, ◌∙◌, List, [], ℕ, arith}
+use Rattle.std.specs.Prelude.{Option, Some, None, Ok, Err}
+use Rattle.std.specs.Option.{ok_or}
+use Rattle.std.proofs.lemmas.Result.{err_from_is_err_and}
 use Rattle.std.proofs.Math.Option.{none}
 use Rattle.shares.specs.Constant.{constant_levels}
 use Rattle.constants.specs.Stacks.{Item, onto, Stepped}
 use Rattle.constants.specs.StackLaws.{whole_none, turn_goes, turn_stops, all_read}
 use Rattle.constants.specs.StackedLaws.{none_yet}
 use Rattle.constants.specs.FromTextLaws.{text_long, text_none}
+use Rattle.constants.specs.declared.NoConstant.{NoConstant}
+use Rattle.constants.specs.declared.NoConstant.TheVariants.{NotTreeText}
 use Rattle.constants.specs.declared.Scan.{Scan}
-use Rattle.constants.specs.declared.Step.{Step}
-use Rattle.constants.specs.declared.Step.TheVariants as step
 use Rattle.constants.proofs.from_text.Goals as goal
 
--- A step that does not go on stops.
-stopped : (levels : ℕ) (items : List ℕ) (x : ℕ) (σ : List Item) (s : Step) → ((n : Scan) → s ≡ step.Goes n → ⊥)
-    → Stepped levels items x σ s → onto x σ ≡ none
-stopped levels items x σ (step.Goes n) other w = absurd (other n refl)
-stopped levels items x σ step.Stops other w = w
+-- A sign that is taken leaves its stack, and one that is not leaves none.
+goes : (levels : ℕ) (items : List ℕ) (x : ℕ) (σ : List Item) (r : Option Scan) (n : Scan) → ok_or r NotTreeText ≡ Ok n
+    → Stepped levels items x σ r → Stepped levels items x σ (Some n)
+goes levels items x σ (Some m) n e w = let same : m ≡ n = cc in rw (← same) w
+goes levels items x σ None n e w = absurd (cc)
+
+stops : (levels : ℕ) (items : List ℕ) (x : ℕ) (σ : List Item) (r : Option Scan) (e : NoConstant)
+    → ok_or r NotTreeText ≡ Err e → Stepped levels items x σ r → (onto x σ ≡ none) × (e ≡ NotTreeText)
+stops levels items x σ (Some m) e t w = absurd (cc)
+stops levels items x σ None e t w = (w, cc)
 
 pub returns-then-text-gt-LONGEST_TEXT : goal.returns-then-text-gt-LONGEST_TEXT
 returns-then-text-gt-LONGEST_TEXT c =
     sym (text_long constant_levels c.args.text.now (omega (arith, c.if-text-gt-LONGEST_TEXT.true)))
 
-pub loop-at-init : goal.loop-at-init
-loop-at-init c = (refl, omega arith, ([], none_yet, omega arith, refl))
+pub loop-sign-init : goal.loop-sign-init
+loop-sign-init c = ([], none_yet, omega arith, refl)
 
-pub returns-in_default : goal.returns-in_default
-returns-in_default c =
+pub returns-in_err-scan : goal.returns-in_err-scan
+returns-in_err-scan c =
     let s = c.args.text.now in
-    let (σ, S, few, so_far) = c.loop-at.invariant.2 in
-    let stops =
-    stopped _ _ _ _ _ c.in_default.not-Goes
-    (c.take_sign.ensures σ S
-    (omega (arith, c.loop-at.invariant.0, few, c.loop-at-test.true, c.if-text-gt-LONGEST_TEXT.false))) in
-    sym (text_none constant_levels s (whole_none s (turn_stops s c.loop-at.at c.loop-at-test.true σ so_far stops)))
+    let (σ, S, few, so_far) = c.loop-sign.invariant in
+    let p = err_from_is_err_and c.from_residual.result c.from_residual.ensures.1 in
+    let (none_left, why) =
+    stops _ _ _ _ _ _ (sym c.ok_or.ensures.value ∙ c.in_err-scan.was)
+    (c.take_sign.ensures σ S (omega (arith, few, c.if-text-gt-LONGEST_TEXT.false))) in
+    p.1 ∙ ap Err (p.2 ∙ why)
+    ∙ sym
+    (text_none constant_levels s
+    (whole_none s (turn_stops s c.loop-sign.sign-index c.loop-sign-test.true σ so_far none_left)))
 
-pub loop-at-preserved : goal.loop-at-preserved
-loop-at-preserved c =
+pub loop-sign-preserved : goal.loop-sign-preserved
+loop-sign-preserved c =
     let s = c.args.text.now in
-    let (σ, S, few, so_far) = c.loop-at.invariant.2 in
-    let inside = c.loop-at-test.true in
+    let (σ, S, few, so_far) = c.loop-sign.invariant in
     let (τ, e, T) =
-    rw c.in-Goes.is at
-    (c.take_sign.ensures σ S
-    (omega (arith, c.loop-at.invariant.0, few, inside, c.if-text-gt-LONGEST_TEXT.false))) in
-    let turn = turn_goes s c.loop-at.at inside σ so_far τ e few in
-    (c.take_sign.auto.items ∙ c.loop-at.invariant.0, omega arith, (τ, T, turn.0, turn.1))
+    goes _ _ _ _ _ _ (sym c.ok_or.ensures.value ∙ c.in_ok-scan.was)
+    (c.take_sign.ensures σ S (omega (arith, few, c.if-text-gt-LONGEST_TEXT.false))) in
+    let turn = turn_goes s c.loop-sign.sign-index c.loop-sign-test.true σ so_far τ e few in
+    (τ, T, turn.0, turn.1)
 
 pub returns : goal.returns
 returns c =
-    let (σ, S, few, so_far) = c.loop-at.invariant.2 in
-    c.from_stack.ensures c.loop-at.items σ c.args.text.now S refl
-    (all_read c.args.text.now c.loop-at.at σ c.loop-at-test.false so_far) c.if-text-gt-LONGEST_TEXT.false
+    let (σ, S, few, so_far) = c.loop-sign.invariant in
+    c.from_stack.ensures c.loop-sign.items σ c.args.text.now S refl
+    (all_read c.args.text.now c.loop-sign.sign-index σ c.loop-sign-test.false so_far) c.if-text-gt-LONGEST_TEXT.false
