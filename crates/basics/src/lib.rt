@@ -39,14 +39,14 @@ pub fn digit(x: u64, p: usize) -> bool
 pub fn wide(byte: u8) -> u64
     ensures { (result ≡ byte) × (result < 256) }
 {
-    byte as u64
+    u64::from(byte)
 }
 
 // A byte as an index.
 pub fn index(byte: u8) -> usize
     ensures { (result ≡ byte) × (result < 256) }
 {
-    byte as usize
+    usize::from(byte)
 }
 
 // The number that four bytes make, the lowest first.
@@ -54,20 +54,12 @@ pub fn four_bytes(bytes: &[u8], i: usize) -> u64
     requires { i + 4 ≤ length bytes.now }
     ensures { (result ≡ number (take 4 (drop i bytes.now))) × (result < 2 ^ 32) }
 {
-    let a = wide(bytes[i]);
-    let b = wide(bytes[i + 1]);
-    let c = wide(bytes[i + 2]);
-    let d = wide(bytes[i + 3]);
-    ((d * 256 + c) * 256 + b) * 256 + a
+    u64::from(u32::from_le_bytes([bytes[i], bytes[i + 1], bytes[i + 2], bytes[i + 3]]))
 }
 
 // Sets every byte of a part.
 pub fn fill(part: &mut [u8], byte: u8)
     ensures { part.new ≡ replicate (length part.old) byte }
 {
-    let mut i: usize = 0;
-    while i < part.len() {
-        part[i] = byte;
-        i += 1;
-    }
+    part.fill(byte);
 }

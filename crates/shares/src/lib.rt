@@ -1,29 +1,22 @@
 // Constants are shares of 32 leaves, held in one number with leaf i at bit i: their join and their height, both without a loop.
 #![tactic(auto)]
 
-ghost use Rattle.std.specs.Prelude.{◌≡◌, cond, ◌+◌, ◌^◌, eqb};
+ghost use Rattle.std.specs.Prelude.{◌≡◌, cond, ◌+◌, ◌^◌, eqb, None, Some};
 ghost use Rattle.shares.specs.Tree.{height, way_number, join};
 ghost use Rattle.shares.specs.Constant.{constant_levels, number_tree, set_in_both};
 ghost use Rattle.shares.specs.Unlike as Unlike;
 ghost use Rattle.shares.specs.Answer.{join_of};
-ghost use Rattle.shares.specs.declared.Joined.TheVariants.{Constant, Undefined};
 
-// What joining two constants gives.
-#[derive(Clone, Copy)]
-pub enum Joined {
-    Constant(u32),
-    Undefined,
-}
-
-// The join of two constants, all leaves at once: undefined exactly where some bit is set in both, and otherwise their sum.
-pub fn join_constants(a: u32, b: u32) -> Joined
+// The join of two constants, all leaves at once: none, where it is undefined, exactly where some bit is set in both, and otherwise
+// their sum.
+pub fn join_constants(a: u32, b: u32) -> Option<u32>
     ensures tree { join_of constant_levels result ≡ join (number_tree constant_levels a) (number_tree constant_levels b) }
-    ensures numbers { result ≡ cond (set_in_both (2 ^ constant_levels) a b) Undefined (Constant (a + b)) }
+    ensures numbers { result ≡ cond (set_in_both (2 ^ constant_levels) a b) None (Some (a + b)) }
 {
     if overlap(a, b) {
-        return Joined::Undefined;
+        return None;
     }
-    Joined::Constant(a + b)
+    Some(a + b)
 }
 
 // Whether some bit is set in both.
@@ -35,7 +28,7 @@ fn overlap(a: u32, b: u32) -> bool
 
 // How the test of a join comes out at one leaf. It holds, or fails by overlap: both parts are full; by surplus: just one part is full and the sum is empty; or by
 // shortfall: both parts are empty and the sum is full.
-#[derive(Clone, Copy)]
+#[derive(Clone, Copy, Debug, PartialEq, Eq)]
 pub enum Way {
     Holds,
     Overlap,
@@ -44,14 +37,16 @@ pub enum Way {
 }
 
 // The number of a way.
-pub fn way_number(way: Way) -> u8
-    ensures { result ≡ way_number way }
-{
-    match way {
-        Way::Holds => 0,
-        Way::Overlap => 1,
-        Way::Surplus => 2,
-        Way::Shortfall => 3,
+impl From<Way> for u8 {
+    ghost from_gives = { λ way number. number ≡ way_number way };
+
+    fn from(way: Way) -> u8 {
+        match way {
+            Way::Holds => 0,
+            Way::Overlap => 1,
+            Way::Surplus => 2,
+            Way::Shortfall => 3,
+        }
     }
 }
 

@@ -1,5 +1,5 @@
 -- Laws of the other calls' numbers: what they hold is read back from them, and what a join's stands for. Assumes nothing.
-use Rattle.std.specs.Prelude.{◌≡◌, refl, Bool, true, false, not, cond, List, ◌⊎◌, ℕ, Result, Ok, ◌+◌, ◌/◌, ◌%◌, ◌^◌, ◌≤◌, ◌<◌, T, length, take, drop}
+use Rattle.std.specs.Prelude.{◌≡◌, refl, Result, Ok, None, Some, Bool, true, false, not, cond, List, ◌⊎◌, ℕ, ◌+◌, ◌/◌, ◌%◌, ◌^◌, ◌≤◌, ◌<◌, T, length, take, drop}
 use Rattle.std.proofs.Math.Path.{ap}
 use Rattle.std.proofs.Common.{◌∙◌, inl, inr, arith, eq-eqb, ne_eqb}
 use Rattle.std.proofs.Math.Option.{none, some}
@@ -9,7 +9,6 @@ use Rattle.shares.proofs.TreeLaws.{tree_of_folded, tree_of_height}
 use Rattle.shares.specs.Text.{text}
 use Rattle.shares.specs.Constant.{constant_levels, bit, number_tree, set_in_both}
 use Rattle.shares.proofs.ConstantLaws.{sum_lt, join_numbers}
-use Rattle.shares.specs.declared.Joined.TheVariants.{Constant, Undefined}
 use Rattle.rows.specs.Rows.{row_levels, answer_bytes, row_of, row_range, row_part}
 use Rattle.rows.specs.declared.Range.{Range}
 use Rattle.rows.proofs.RowLaws.{row_tree_row_of, range_inside}
@@ -84,6 +83,6 @@ module _ (levels a b : ℕ) (ha : a < undefined_join levels) (hb : b < undefined
 
 -- ---- the cases
 
-pub number_cases : (levels : ℕ) (s : Bool) (n : ℕ) → join_number levels (cond s Undefined (Constant n)) ≡ cond s (undefined_join levels) n
+pub number_cases : (levels : ℕ) (s : Bool) (n : ℕ) → join_number levels (cond s None (Some n)) ≡ cond s (undefined_join levels) n
 number_cases levels true n = refl
 number_cases levels false n = refl

@@ -22,7 +22,7 @@ ghost use Rattle.zimorgal.specs.Joins.{join_number};
 use asking::Outcome;
 use constants::NoConstant;
 use judging::Judgement;
-use shares::{Joined, Way};
+use shares::Way;
 use text::TextRefusal;
 
 // The result as one number: each field is multiplied to its bytes.
@@ -66,7 +66,7 @@ fn broken_number(clause: usize, way: Way, leaf: usize) -> u64
     ensures { result ≡ judgement_number (Broken clause way leaf) }
 {
     let low = 2 + 4294967296 * (clause as u64);
-    let middle = 1099511627776 * basics::wide(shares::way_number(way));
+    let middle = 1099511627776 * u64::from(u8::from(way));
     low + middle + 281474976710656 * (leaf as u64)
 }
 
@@ -145,12 +145,12 @@ pub extern "C" fn zimorgal_join(a: u32, b: u32) -> u64
 }
 
 // The number of a join.
-fn join_number(joined: Joined) -> u64
+fn join_number(joined: Option<u32>) -> u64
     ensures { result ≡ join_number constant_levels joined }
 {
     match joined {
-        Joined::Constant(n) => n as u64,
-        Joined::Undefined => 4294967296,
+        Some(n) => u64::from(n),
+        None => 4294967296,
     }
 }
 
