@@ -1,31 +1,29 @@
 // One pass over the leaves of a question, and over the words of choices of each leaf that does not look like an earlier one: no set of choices is stored.
 #![tactic(auto)]
 
-ghost use Rattle.std.specs.Prelude.{◌≡◌, true, List, ℕ, ◌+◌, ◌*◌, ◌^◌, ◌<◌, ◌≤◌, length, get_or, set};
+ghost use Rattle.std.specs.Prelude.{◌≡◌, true, ℕ, ◌+◌, ◌*◌, ◌<◌, ◌≤◌, get_or, set, IfSome};
 ghost use Rattle.words.specs.Choices.{word_count};
 ghost use Rattle.words.specs.Table.{Terms, Within};
-ghost use Rattle.beside.specs.Beside.{Readable};
 ghost use Rattle.steps.specs.Tests.{leaf_values, Named};
-ghost use Rattle.steps.specs.Steps.{stored_by, Placed, PlacedWithin, Amid};
+ghost use Rattle.steps.specs.Steps.{posed, Placed, PlacedWithin, Amid};
 ghost use Rattle.pass.specs.Pass.{Done, After, Copied, Visited, Passed};
 
-use basics::CLAUSE_BYTES;
-use beside::Sizes;
+use beside::Searchable;
 use steps::{Search, Seen, Spot};
 use words::{FIRST_WORDS, LEAF_WORDS};
 
-// A leaf: what is searched for, its number, the first leaf that looks like it, and the values of the constants there.
+// A leaf: what is searched for, its number, the first of the leaves before it that looks like it, and the values of the constants there.
 #[derive(Clone, Copy)]
 pub struct Leaf {
     pub search: Search,
     pub number: usize,
-    pub like: usize,
+    pub like: Option<usize>,
     pub values: u64,
 }
 
 // Puts a word and its choices into a table as entry `number`.
-fn put_entry(plains: &mut [u64], number: usize, word: u64, choices: u64)
-    requires { (number < 64) × (length plains.old ≡ 128) }
+fn put_entry(plains: &mut [u64; LEAF_WORDS], number: usize, word: u64, choices: u64)
+    requires { number < 64 }
     ensures { plains.new ≡ set (set plains.old (2 * number) word) (2 * number + 1) choices }
 {
     plains[2 * number] = word;
@@ -45,33 +43,29 @@ fn is_done(search: Search, met: u64, count: usize) -> bool
         return false;
     }
     match search {
-        Search::First => true,
         Search::Unmet => basics::digit(met, 31),
-        Search::Missed(_) => true,
+        Search::First | Search::Missed(_) => true,
     }
 }
 
 // The words of a leaf, as long as anything is sought.
 fn pass_words(
+    question: &Searchable<'_>,
     terms: &mut [u64; 64],
-    clauses: &[u8; CLAUSE_BYTES],
-    sizes: Sizes,
     search: Search,
     number: usize,
     start: Seen,
     firsts: &mut [u64; FIRST_WORDS],
     rows: &mut [u64; 96],
 ) -> Seen
-    requires readable { Readable clauses.now sizes.counts sizes.free sizes.own }
-    requires named { Named sizes.counts search × (number < 64) × Placed sizes.free sizes.own terms.old }
-    ensures by_index { (values v : ℕ) → Terms sizes.free sizes.own values v terms.old → (u : ℕ) × Terms sizes.free sizes.own values u terms.new }
-    ensures by_index_2 { (h : ℕ) (constants : List ℕ) (v : ℕ) → Terms sizes.free sizes.own (leaf_values (stored_by sizes clauses.now constants) h number) v terms.old → Amid (stored_by sizes clauses.now constants) h search number 0 start firsts.old rows.old → Amid (stored_by sizes clauses.now constants) h search number (word_count sizes.free) result firsts.new rows.new }
+    requires { Named question.now.sizes.counts search × (number < 64) × Placed question.now.sizes.free question.now.sizes.own terms.old }
+    ensures by_index { (values v : ℕ) → Terms question.now.sizes.free question.now.sizes.own values v terms.old → (u : ℕ) × Terms question.now.sizes.free question.now.sizes.own values u terms.new }
+    ensures by_index_2 { (h : ℕ) (v : ℕ) → Terms question.now.sizes.free question.now.sizes.own (leaf_values (posed question.now) h number) v terms.old → Amid (posed question.now) h search number 0 start firsts.old rows.old → Amid (posed question.now) h search number (word_count question.now.sizes.free) result firsts.new rows.new }
     ensures possible_value { result.possible ≡ start.possible }
 {
-    let words = words::word_count(sizes.free);
+    let sizes = question.sizes;
     let mut r = start;
-    let mut w: usize = 0;
-    while w < words {
+    for w in 0..words::word_count(sizes.free) {
         if is_done(search, r.met, sizes.counts[1]) {
             return r;
         }
@@ -81,38 +75,41 @@ fn pass_words(
             leaf: number,
             word: w,
         };
-        r = steps::pass_word(terms, clauses, sizes, spot, r, firsts, rows);
-        w += 1;
+        r = steps::pass_word(question, terms, spot, r, firsts, rows);
     }
     r
 }
 
 // All words of a leaf. The least of its choices stands in entry 32 while they are gone over, and then in the leaf's own entry of the table of leaves.
 fn pass_leaf(
+    question: &Searchable<'_>,
     terms: &mut [u64; 64],
-    clauses: &[u8; CLAUSE_BYTES],
-    sizes: Sizes,
     leaf: Leaf,
     seen: Seen,
     firsts: &mut [u64; FIRST_WORDS],
     plains: &mut [u64; LEAF_WORDS],
     rows: &mut [u64; 96],
 ) -> Seen
-    requires readable { Readable clauses.now sizes.counts sizes.free sizes.own }
-    requires named { Named sizes.counts leaf.search × (leaf.number < 64) × Placed sizes.free sizes.own terms.old }
-    ensures by_index { (values v : ℕ) → Terms sizes.free sizes.own values v terms.old → (u : ℕ) × Terms sizes.free sizes.own values u terms.new }
-    ensures by_index_2 { (h : ℕ) (constants : List ℕ) (v : ℕ) → Terms sizes.free sizes.own (leaf_values (stored_by sizes clauses.now constants) h leaf.number) v terms.old → After (stored_by sizes clauses.now constants) h leaf.search leaf.number seen firsts.old plains.old rows.old → Visited (stored_by sizes clauses.now constants) h leaf.search leaf.number result firsts.new plains.new rows.new }
+    requires { Named question.now.sizes.counts leaf.search × (leaf.number < 64) × Placed question.now.sizes.free question.now.sizes.own terms.old }
+    ensures by_index { (values v : ℕ) → Terms question.now.sizes.free question.now.sizes.own values v terms.old → (u : ℕ) × Terms question.now.sizes.free question.now.sizes.own values u terms.new }
+    ensures by_index_2 { (h : ℕ) (v : ℕ) → Terms question.now.sizes.free question.now.sizes.own (leaf_values (posed question.now) h leaf.number) v terms.old → After (posed question.now) h leaf.search leaf.number seen firsts.old plains.old rows.old → Visited (posed question.now) h leaf.search leaf.number result firsts.new plains.new rows.new }
 {
-    let search = leaf.search;
-    let number = leaf.number;
     let start = Seen {
         met: seen.met & 0xFFFF_FFFF,
         possible: seen.possible,
         here: 0,
         wanted: seen.possible,
     };
-    let r = pass_words(terms, clauses, sizes, search, number, start, firsts, rows);
-    put_entry(plains, number, firsts[64], firsts[65]);
+    let r = pass_words(
+        question,
+        terms,
+        leaf.search,
+        leaf.number,
+        start,
+        firsts,
+        rows,
+    );
+    put_entry(plains, leaf.number, firsts[64], firsts[65]);
     Seen {
         met: r.met,
         possible: r.possible & r.here,
@@ -122,8 +119,8 @@ fn pass_leaf(
 }
 
 // A leaf that looks like an earlier one has its least choice, and no other search finds anything there.
-fn copy_leaf(number: usize, like: usize, seen: Seen, plains: &mut [u64]) -> Seen
-    requires { (like < number) × (number < 64) × (length plains.old ≡ 128) }
+fn copy_leaf(number: usize, like: usize, seen: Seen, plains: &mut [u64; LEAF_WORDS]) -> Seen
+    requires { (like < number) × (number < 64) }
     ensures { Copied number like seen plains.old result plains.new }
 {
     let word = plains[2 * like];
@@ -139,84 +136,68 @@ fn copy_leaf(number: usize, like: usize, seen: Seen, plains: &mut [u64]) -> Seen
 
 // One leaf more.
 fn visit(
+    question: &Searchable<'_>,
     terms: &mut [u64; 64],
-    clauses: &[u8; CLAUSE_BYTES],
-    sizes: Sizes,
     leaf: Leaf,
     seen: Seen,
     firsts: &mut [u64; FIRST_WORDS],
     plains: &mut [u64; LEAF_WORDS],
     rows: &mut [u64; 96],
 ) -> Seen
-    requires readable { Readable clauses.now sizes.counts sizes.free sizes.own }
-    requires named { Named sizes.counts leaf.search × (leaf.number < 64) × (sizes.named < 2 ^ 32) × Within sizes.named leaf.values × PlacedWithin sizes.free sizes.own sizes.named terms.old }
-    ensures placed_within { PlacedWithin sizes.free sizes.own sizes.named terms.new }
-    ensures by_index { (h : ℕ) (constants : List ℕ) → leaf.values ≡ leaf_values (stored_by sizes clauses.now constants) h leaf.number → (leaf.like < leaf.number → leaf_values (stored_by sizes clauses.now constants) h leaf.like ≡ leaf.values) → After (stored_by sizes clauses.now constants) h leaf.search leaf.number seen firsts.old plains.old rows.old → Visited (stored_by sizes clauses.now constants) h leaf.search leaf.number result firsts.new plains.new rows.new }
+    requires { Named question.now.sizes.counts leaf.search × (leaf.number < 64) × IfSome leaf.like (λ a. a < leaf.number) × Within question.now.sizes.named leaf.values × PlacedWithin question.now.sizes.free question.now.sizes.own question.now.sizes.named terms.old }
+    ensures placed_within { PlacedWithin question.now.sizes.free question.now.sizes.own question.now.sizes.named terms.new }
+    ensures by_index { (h : ℕ) → leaf.values ≡ leaf_values (posed question.now) h leaf.number → IfSome leaf.like (λ a. leaf_values (posed question.now) h a ≡ leaf.values) → After (posed question.now) h leaf.search leaf.number seen firsts.old plains.old rows.old → Visited (posed question.now) h leaf.search leaf.number result firsts.new plains.new rows.new }
 {
-    let number = leaf.number;
-    let like = leaf.like;
-    if like < number {
-        return copy_leaf(number, like, seen, plains);
+    if let Some(like) = leaf.like {
+        return copy_leaf(leaf.number, like, seen, plains);
     }
-    words::set_constants(leaf.values, sizes.named, terms);
-    pass_leaf(terms, clauses, sizes, leaf, seen, firsts, plains, rows)
+    words::set_constants(leaf.values, question.sizes.named, terms);
+    pass_leaf(question, terms, leaf, seen, firsts, plains, rows)
 }
 
-// The first of the first b leaves whose values are these, or b.
-pub fn first_like(keys: &[u32; 64], values: u32, b: usize) -> usize
+// The first of the first b leaves whose values are these.
+pub fn first_like(keys: &[u32; 64], values: u32, b: usize) -> Option<usize>
     requires { b ≤ 64 }
-    ensures { (result ≤ b) × (result < b → get_or keys.now result 0 ≡ values) }
+    ensures { IfSome result (λ a. (a < b) × (get_or keys.now a 0 ≡ values)) }
 {
-    let mut i: usize = 0;
-    while i < b {
-        if keys[i] == values {
-            return i;
-        }
-        i += 1;
-    }
-    b
+    keys[..b].iter().position(|key| *key == values)
 }
 
 // A pass over all leaves, which ends early where a leaf has no choice. The rows are working space.
 pub fn pass_leaves(
-    clauses: &[u8; CLAUSE_BYTES],
-    sizes: Sizes,
-    constants: &[u64; 32],
+    question: &Searchable<'_>,
     search: Search,
     firsts: &mut [u64; FIRST_WORDS],
     plains: &mut [u64; LEAF_WORDS],
     rows: &mut [u64; 96],
 ) -> Seen
-    requires readable { Readable clauses.now sizes.counts sizes.free sizes.own }
-    requires named { Named sizes.counts search × (sizes.named < 2 ^ 32) × (sizes.height ≤ 5) × ((k : ℕ) → get_or rows.old k 0 ≡ 0) }
-    ensures { Passed (stored_by sizes clauses.now constants.now) sizes.height search result firsts.new plains.new rows.new }
+    requires { Named question.now.sizes.counts search × ((k : ℕ) → get_or rows.old k 0 ≡ 0) }
+    ensures { Passed (posed question.now) question.now.sizes.height search result firsts.new plains.new rows.new }
 {
+    let sizes = question.sizes;
     let mut terms = [0u64; 64];
     words::start_terms(sizes.free, sizes.own, &mut terms);
     let mut keys = [0u32; 64];
-    let leaves = basics::power(sizes.height);
     let mut seen = Seen {
         met: 0,
         possible: (1 << sizes.counts[3]) - 1,
         here: 0,
         wanted: 0,
     };
-    let mut b: usize = 0;
-    while b < leaves {
-        let values = words::values_at(constants, sizes.named, sizes.height, b);
+    for b in 0..basics::power(sizes.height) {
+        let values = words::values_at(question.constants, sizes.named, sizes.height, b);
         let like = first_like(&keys, values, b);
         keys[b] = values;
         let leaf = Leaf {
             search,
             number: b,
             like,
-            values: values as u64,
+            values: u64::from(values),
         };
-        seen = visit(&mut terms, clauses, sizes, leaf, seen, firsts, plains, rows);
+        seen = visit(question, &mut terms, leaf, seen, firsts, plains, rows);
         if !basics::digit(seen.met, 32) {
             return seen;
         }
-        b += 1;
     }
     seen
 }

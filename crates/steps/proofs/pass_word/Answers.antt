@@ -1,12 +1,11 @@
 -- `steps::pass_word` meets its contract.
-use Rattle.std.proofs.Common.{◌≡◌, sym, ap, ◌∙◌, subst, ◌+◌, ◌*◌, ◌<◌, ◌⊎◌, inl, inr, ℕ, arith}
+use Rattle.std.proofs.Common.{◌≡◌, sym, ap, ◌∙◌, subst, ◌+◌, ◌*◌, ◌<◌, ℕ, arith}
 use Rattle.shares.specs.BitLaws.{bit_zero}
 use Rattle.shares.specs.Constant.{bit}
 use Rattle.steps.specs.Steps.{posed, Settled}
 use Rattle.steps.specs.StepLaws.{turn_lt, amid_none, amid_kept, amid_second}
 use Rattle.steps.specs.Tests.{leaf_values, first_meets, allowed_in}
-use Rattle.steps.specs.declared.Search.{Search}
-use Rattle.steps.specs.declared.Search.TheVariants.{First, Unmet, Missed}
+use Rattle.steps.proofs.SearchLaws.{not_unmet}
 use Rattle.steps.proofs.pass_word.Goals as goal
 
 pub returns-then-x-eq0-clause-by_index_2 : goal.returns-then-x-eq0-clause-by_index_2
@@ -49,11 +48,6 @@ returns-in-Unmet-clause-by_index_2 c h t A =
     e _ _ _ (rw (c.word_count.ensures, same) at ((Q.by_index _ U.0).1 first (subst (λ r. Settled S a.seen r) (sym same) (A.settled e))))
     Q.possible_value.0 Q.possible_value.1 Q.possible_value.2
 
--- a search for an unmet choice is no other
-other : (s : Search) → s ≡ First ⊎ ((j : ℕ) × s ≡ Missed j) → s ≡ Unmet → ⊥
-other s (inl e) u = cc
-other s (inr (j, e)) u = cc
-
 pub returns-in-First-clause-by_index_2 : goal.returns-in-First-clause-by_index_2
 returns-in-First-clause-by_index_2 c h t A =
     let a = c.args in
@@ -62,4 +56,4 @@ returns-in-First-clause-by_index_2 c h t A =
     let U = x.ensures.by_index _ t in
     amid_kept q.sizes q.clauses.now q.constants.now h a.spot.leaf a.spot.word a.spot.search a.seen _ _ c.requires.2 A
     q.readable x.new.terms U.0 x.result U.1 _ _ c.keep_word-least.ensures _ _ (rw c.word_count.ensures at c.keep_all-met.ensures)
-    (other a.spot.search c.in-First.is) _
+    (not_unmet a.spot.search c.in-First.is) _
