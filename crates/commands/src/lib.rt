@@ -19,10 +19,7 @@ fn term_byte(bytes: &[u8], i: usize, count: usize, k: usize) -> u8
     requires { i + count ≤ length bytes.now }
     ensures { result ≡ term_byte bytes.now i count k }
 {
-    if k < count {
-        return bytes[i + k];
-    }
-    0
+    if k < count { bytes[i + k] } else { 0 }
 }
 
 // The bytes of a clause's terms, which start at an offset.

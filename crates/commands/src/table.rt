@@ -105,6 +105,7 @@ fn four(form: u8, first: u8, second: u8, sum: u8) -> LeafJoin
 }
 
 // How a test with these terms reads as a join at one leaf.
+#[tactic(auto, using(format::proofs::KeepingLaws::byte_back))]
 pub fn join_for(test: Test, a: u8, b: u8, c: u8) -> LeafJoin
     ensures { result ≡ join_for test a b c }
 {

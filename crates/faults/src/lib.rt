@@ -20,19 +20,17 @@ fn names_it(variables: usize, constants: usize, term: u8) -> bool
 {
     let t = usize::from(term);
     if t < 0x20 {
-        return t < variables;
+        t < variables
+    } else {
+        t - 0x20 < constants
     }
-    t - 0x20 < constants
 }
 
 // Whether term number k of a test with so many terms names something defined, where it has one.
 fn term_named(variables: usize, constants: usize, count: usize, k: usize, term: u8) -> bool
     ensures { result ≡ term_named variables constants count k term }
 {
-    if k < count {
-        return names_it(variables, constants, term);
-    }
-    true
+    count <= k || names_it(variables, constants, term)
 }
 
 fn all_named(variables: usize, constants: usize, test: Test, a: u8, b: u8, c: u8) -> bool
@@ -49,9 +47,10 @@ fn variables_for(free: usize, own: usize, section: Section) -> usize
     ensures { result ≡ variables_for free own section }
 {
     if sections::is_second(section) {
-        return free + own;
+        free + own
+    } else {
+        free
     }
-    free
 }
 
 fn is_foreign(kind: Kind, section: Section) -> bool
@@ -100,8 +99,7 @@ fn clause_total(counts: &[usize; 4]) -> usize
 pub fn section_count(counts: &[usize; 4], section: Section) -> usize
     ensures { result ≡ count_of counts.now section }
 {
-    let i = sections::section_number(section);
-    counts[i]
+    counts[usize::from(section)]
 }
 
 // What is wrong with a command, by what was read before it.

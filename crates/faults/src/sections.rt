@@ -1,21 +1,10 @@
-// The numbers of sections.
+// The places and the limits of sections.
 ghost use Rattle.std.specs.Prelude.{◌≡◌};
 ghost use Rattle.format.specs.Format.{is_second, most_of};
-ghost use Rattle.format.specs.Stored.{section_number, section_start};
+ghost use Rattle.format.specs.Stored.{section_start};
 
 use basics::{FIRST_DISEQUATIONS, SECOND_DISEQUATIONS, SECOND_POSITIVES};
 use format::Section;
-
-pub fn section_number(section: Section) -> usize
-    ensures { result ≡ section_number section }
-{
-    match section {
-        Section::FirstPositive => 0,
-        Section::FirstDisequation => 1,
-        Section::SecondPositive => 2,
-        Section::SecondDisequation => 3,
-    }
-}
 
 // Where each section starts among the clauses' bytes.
 pub fn section_start(section: Section) -> usize

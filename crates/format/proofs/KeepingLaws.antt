@@ -28,10 +28,10 @@ use Rattle.format.specs.declared.Command.{Command}
 use Rattle.format.specs.Format.{Step, Take, Refused}
 use Rattle.format.specs.declared.Question.{Question as Struct}
 use Rattle.format.specs.Format.{most_variables, most_constants, term_of, entry_of, operands, command_of, whole_at, read_at, most_of, in_section, names, variables_for, all_named, atom_of, is_foreign, constant_fault, fault, judged, with_clause, with_constant, taken}
-use Rattle.format.specs.Numbers.{kind_value}
+use Rattle.format.specs.Numbers.{kind_value, section_number}
 use Rattle.format.specs.declared.Kind.{Kind as HeldKind}
 use Rattle.format.specs.declared.Kind.TheVariants.{Satisfiability, Entailment}
-use Rattle.format.specs.Stored.{kind_number, kind_held, section_number, part_byte, four_of, join_for, part_of, reading_from, clause_bytes, section_start, four_at, readings_at, Stored, stored, count_of, Counted, part_named, StoredClause, StoredAt, defined_by, named_word, Stands, held_as, clause_written, command_written}
+use Rattle.format.specs.Stored.{kind_number, kind_held, part_byte, four_of, join_for, part_of, reading_from, clause_bytes, section_start, four_at, readings_at, Stored, stored, count_of, Counted, part_named, StoredClause, StoredAt, defined_by, named_word, Stands, held_as, clause_written, command_written}
 use Rattle.format.specs.Keeping.{next_slot, kept_constants, constant_count, kept_clauses, clause_counts, constants_in, kept_names, PartsSmall, SmallIn, Slot, clause_total, foreign_to, fault_of, judged_of}
 use Rattle.format.specs.SectionLaws.{both_counts, added, Apart, Alike, same, other, alike, constant_sections, clause_keeps, section_below, slot_fits, variables_le}
 use Rattle.format.proofs.FormatLaws.{branch, ClauseFits, clause_fits, ConstantFits, constant_fits, in_test, named_defined_lem}

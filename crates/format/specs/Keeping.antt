@@ -6,7 +6,8 @@ use Rattle.format.specs.declared.Section.{Section}
 use Rattle.format.specs.declared.LeafJoin.{LeafJoin}
 use Rattle.format.specs.declared.Command.{Command}
 use Rattle.format.specs.Format.{Step, Take, Refused, most_constants, is_second, most_of, all_named, variables_for, clause_fault, constant_fault}
-use Rattle.format.specs.Stored.{constant_at, place_of, section_number, join_for, clause_bytes, section_start, count_of, clause_written}
+use Rattle.format.specs.Numbers.{section_number}
+use Rattle.format.specs.Stored.{constant_at, place_of, join_for, clause_bytes, section_start, count_of, clause_written}
 
 -- ---- one command kept
 

@@ -2,6 +2,8 @@
 use Rattle.std.specs.Prelude.{ℕ}
 use Rattle.format.specs.declared.Fault.{Fault}
 use Rattle.format.specs.declared.Fault.TheVariants.{NoHead, CutShort, UnknownCommand, OutOfPlace, UnfitHead, ConstantTooMany, ClauseTooMany, NamesNothing, ForeignClause, BytesAfter}
+use Rattle.format.specs.declared.Section.{Section}
+use Rattle.format.specs.declared.Section.TheVariants.{FirstPositive, FirstDisequation, SecondPositive, SecondDisequation}
 use Rattle.format.specs.declared.Kind.{Kind}
 use Rattle.format.specs.declared.Kind.TheVariants.{Satisfiability, Entailment}
 
@@ -22,3 +24,10 @@ fault_number BytesAfter = 10
 abbrev pub kind_value : Kind → ℕ
 kind_value Satisfiability = 0
 kind_value Entailment = 1
+
+-- the number of a section
+abbrev pub section_number : Section → ℕ
+section_number FirstPositive = 0
+section_number FirstDisequation = 1
+section_number SecondPositive = 2
+section_number SecondDisequation = 3

@@ -7,7 +7,8 @@ use Rattle.format.specs.Worked
 use Rattle.format.specs.declared.Section.{Section}
 use Rattle.format.specs.declared.Section.TheVariants.{FirstPositive, FirstDisequation, SecondPositive, SecondDisequation}
 use Rattle.format.specs.Format.{most_of, in_section, variables_for, with_clause, with_constant}
-use Rattle.format.specs.Stored.{section_number, clause_bytes, section_start, count_of}
+use Rattle.format.specs.Numbers.{section_number}
+use Rattle.format.specs.Stored.{clause_bytes, section_start, count_of}
 use Rattle.format.specs.Keeping.{next_slot}
 
 -- ---- lists

@@ -14,6 +14,7 @@ use Rattle.format.specs.declared.Section.TheVariants.{FirstPositive, FirstDisequ
 use Rattle.format.specs.declared.Test.{Test}
 use Rattle.format.specs.declared.LeafJoin.{LeafJoin}
 use Rattle.format.specs.declared.Command.{Command}
+use Rattle.format.specs.Numbers.{section_number}
 use Rattle.format.specs.Format.{Step, Take, Refused, Head, Opens, Wrong}
 use Rattle.format.specs.declared.Leading.{Leading}
 use Rattle.format.specs.declared.Question.{Question}
@@ -29,12 +30,6 @@ kind_number entailment = 1
 abbrev pub kind_held : Kind → HeldKind
 kind_held satisfiability = Satisfiability
 kind_held entailment = Entailment
-
-abbrev pub section_number : Section → ℕ
-section_number FirstPositive = 0
-section_number FirstDisequation = 1
-section_number SecondPositive = 2
-section_number SecondDisequation = 3
 
 -- ---- a clause in four bytes: how it reads as a join at one leaf
 

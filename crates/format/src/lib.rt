@@ -3,7 +3,7 @@
 
 ghost use Rattle.std.specs.Prelude.{◌≡◌, true, ◌+◌, ◌≤◌};
 ghost use Rattle.format.specs.Format.{head_fits};
-ghost use Rattle.format.specs.Numbers.{fault_number, kind_value};
+ghost use Rattle.format.specs.Numbers.{fault_number, kind_value, section_number};
 
 // Why a byte string is no question. Each has the number that the paper gives it.
 #[derive(Clone, Copy, PartialEq, Eq, Debug)]
@@ -42,6 +42,15 @@ pub enum Section {
     FirstDisequation,
     SecondPositive,
     SecondDisequation,
+}
+
+// The sections are counted in this order.
+impl From<Section> for usize {
+    ghost from_gives = { λ section number. number ≡ section_number section };
+
+    fn from(section: Section) -> usize {
+        section as usize
+    }
 }
 
 // What a clause says or denies: "a join b is c", "a is b", "a is full", "a is empty", or "a and b may be held together".

@@ -1,5 +1,5 @@
 -- Laws of guesses: the bits of a range of choices, and what one guess more fixes. Assumes nothing.
-use Rattle.std.specs.Prelude.{◌≡◌, refl, true, false, not, List, ℕ, zero, suc, ◌+◌, ◌-◌, ◌*◌, ◌/◌, ◌%◌, ◌^◌, ◌≤◌, ◌<◌, ltb, eqb, length, replicate, get_or, set}
+use Rattle.std.specs.Prelude.{◌≡◌, refl, true, not, List, ℕ, zero, suc, ◌+◌, ◌-◌, ◌*◌, ◌/◌, ◌%◌, ◌^◌, ◌≤◌, ◌<◌, ltb, eqb, length, replicate, get_or, set}
 use Rattle.std.proofs.Common.{sym, ap, ap₂, ◌∙◌, add-mul, zero-mul, mul_assoc, mul_comm, mod-lt, add-one, arith, T_not, length-set, pow_pos, pow_mono, get_or-set_same, get_or-set_other, lt-ltb, le-ltb, eq-eqb, ne_eqb}
 use Rattle.std.proofs.Math.Nat.{two-pow-succ}
 use Rattle.std.proofs.Math.Decide.{dec_lt}
@@ -46,10 +46,8 @@ ltb_shifted start f end h = go (dec_lt f (end - start))
     go (yes l) = rw (lt-ltb f (end - start) l, lt-ltb (start + f) end (omega arith))
     go (no g) = rw (le-ltb f (end - start) (omega arith), le-ltb (start + f) end (omega arith))
 
--- whether the least choice lies below `end`, where the first choice of its word has the number `start`: `end` lies before the word, behind it or within
-pub passes_before : (x start end : ℕ) → end ≤ start → false ≡ ltb (start + lowest_in x) end
-passes_before x start end h = sym (le-ltb (start + lowest_in x) end (omega arith))
-
+-- whether the least choice lies below `end`, where the first choice of its word has the number `start`: `end` lies
+-- behind the word or within
 pub passes_behind : (x start end : ℕ) → 64 ≤ end - start → true ≡ ltb (start + lowest_in x) end
 passes_behind x start end h = sym (lt-ltb (start + lowest_in x) end (omega (arith, lowest_in_lt x)))
 
@@ -58,10 +56,6 @@ pub passes_within : (x start end : ℕ) → start ≤ end → end - start < 64
 passes_within x start end h l =
     ap (λ m. not (eqb (bit_and x (m - 1)) 0)) (power_shift (end - start) l) ∙ ap (λ m. not (eqb m 0)) (and_mask x (end - start))
     ∙ low_bits x (end - start) l ∙ ltb_shifted start (lowest_in x) end h
-
--- the mask of the bits below `end` is no 0
-pub mask_some : (k : ℕ) → k < 64 → 1 ≤ (1 * 2 ^ k) % 2 ^ 64
-mask_some k h = rw (power_shift k h) (pow_pos k)
 
 -- ---- the number of a choice
 
@@ -87,15 +81,15 @@ few h = pow_mono h
 
 -- ---- a guess more
 
--- the values of all variables but the last `left` are guessed, and those are full: the least choice is one of the 2 ^ left choices from `low` on, which
--- are those with the guessed values
-pub record Guessed (least free left : ℕ) (values : List ℕ) (low span : ℕ) : Type 0 where
-  pub within : left ≤ free
-  pub range : span ≡ 2 ^ left
-  pub start : low ≡ choice_number (free - left) values * span
+-- the values of the first v variables are guessed, and those of the others are full: the least choice is one of the
+-- `span` choices from `low` on, which are those with the guessed values
+pub record Guessed (least free v : ℕ) (values : List ℕ) (low span : ℕ) : Type 0 where
+  pub within : v ≤ free
+  pub range : span ≡ 2 ^ (free - v)
+  pub start : low ≡ choice_number v values * span
   pub size : length values ≡ 12
   pub digits : Values values
-  pub later : (v : ℕ) → free - left ≤ v → v < 12 → get_or values v 0 ≡ 1
+  pub later : (u : ℕ) → v ≤ u → u < 12 → get_or values u 0 ≡ 1
   pub lower : low ≤ least
   pub upper : least < low + span
 
@@ -108,78 +102,62 @@ ones_small (suc n) zero = omega arith
 ones_small (suc n) (suc v) = ones_small n v
 
 -- nothing is guessed at first
-pub guess_none : (least free : ℕ) → least < 2 ^ free → Guessed least free free (replicate 12 1) 0 (2 ^ free)
+pub guess_none : (least free : ℕ) → least < 2 ^ free → Guessed least free 0 (replicate 12 1) 0 (2 ^ free)
 unfolding choice_number
 guess_none least free h =
-    let values : List ℕ = replicate 12 1 in
-    let e : free - free ≡ 0 = omega arith in
     record {
       within = omega arith;
-      range = refl;
-      start = sym (ap (λ k. choice_number k values * 2 ^ free) e ∙ zero-mul (2 ^ free));
+      range = let e : free ≡ free - 0 = omega arith in ap (λ k. 2 ^ k) e;
+      start = sym (zero-mul (2 ^ free));
       size = refl;
       digits = ones_small 12;
-      later = λ v l m. get_or-replicate 12 v 1 0 m;
+      later = λ u l m. get_or-replicate 12 u 1 0 m;
       lower = omega arith;
       upper = omega arith;
     }
 
-module _ (least free left : ℕ) (values : List ℕ) (low span : ℕ) (g : Guessed least free left values low span) (h : 0 < left) where
-  half_range : span / 2 ≡ 2 ^ (left - 1)
-  half_range = omega (arith, g.range, halved left h)
+module _ (least free v : ℕ) (values : List ℕ) (low span : ℕ) (g : Guessed least free v values low span) (h : v < free) where
+  half_range : span / 2 ≡ 2 ^ (free - (v + 1))
+  half_range = let e : free - (v + 1) ≡ free - v - 1 = omega arith in rw e (omega (arith, g.range, halved (free - v) (omega arith)))
 
   two_halves : 2 * (span / 2) ≡ span
-  two_halves = omega (arith, g.range, halved left h)
+  two_halves = omega (arith, g.range, halved (free - v) (omega arith))
 
-  next_start : (new : List ℕ) (d : ℕ) → choice_number (free - left) new ≡ choice_number (free - left) values → get_or new (free - left) 0 ≡ d
-      → low + d * (span / 2) ≡ choice_number (free - (left - 1)) new * (span / 2)
+  next_start : (new : List ℕ) (d : ℕ) → choice_number v new ≡ choice_number v values → get_or new v 0 ≡ d
+      → low + d * (span / 2) ≡ choice_number (v + 1) new * (span / 2)
   next_start new d before here =
-      let next : free - (left - 1) ≡ free - left + 1 = omega (arith, g.within) in
       sym
-      (ap (λ k. choice_number k new * (span / 2)) next
-      ∙ ap (λ n. n * (span / 2)) (sym (number_more (free - left) new) ∙ ap₂ (λ a b. 2 * a + b) before here)
-      ∙ digit_more (choice_number (free - left) values) d (span / 2)
-      ∙ ap (λ n. n + d * (span / 2)) (ap (λ n. choice_number (free - left) values * n) two_halves ∙ sym g.start))
+      (ap (λ n. n * (span / 2)) (sym (number_more v new) ∙ ap₂ (λ a b. 2 * a + b) before here)
+      ∙ digit_more (choice_number v values) d (span / 2)
+      ∙ ap (λ n. n + d * (span / 2)) (ap (λ n. choice_number v values * n) two_halves ∙ sym g.start))
 
   -- the least choice is in the lower span of the range: the next variable is empty
-  pub guess_empty : free ≤ 12 → least < low + span / 2 → Guessed least free (left - 1) (set values (free - left) 0) low (span / 2)
+  pub guess_empty : free ≤ 12 → least < low + span / 2 → Guessed least free (v + 1) (set values v 0) low (span / 2)
   guess_empty f l =
-      let inside : free - left < length values = omega (arith, g.size, g.within) in
+      let inside : v < length values = omega (arith, g.size) in
       let e : low + 0 * (span / 2) ≡ low = omega arith in
       record {
-        within = omega (arith, g.within);
+        within = omega arith;
         range = half_range;
-        start =
-            sym e
-            ∙ next_start (set values (free - left) 0) 0 (number_kept (free - left) values (free - left) 0 (omega arith))
-            (get_or-set_same values (free - left) 0 0 inside);
+        start = sym e ∙ next_start (set values v 0) 0 (number_kept v values v 0 (omega arith)) (get_or-set_same values v 0 0 inside);
         size = simp length-set g.size;
-        digits = store_law (λ j x. x < 2) values (free - left) 0 inside (λ j n. g.digits j) (omega arith);
-        later = λ v k m. get_or-set_other values (free - left) v 0 0 (λ q. omega (arith, g.within)) ∙ g.later v (omega (arith, g.within)) m;
+        digits = store_law (λ j x. x < 2) values v 0 inside (λ j n. g.digits j) (omega arith);
+        later = λ u k m. get_or-set_other values v u 0 0 (λ q. omega arith) ∙ g.later u (omega arith) m;
         lower = g.lower;
         upper = l;
       }
 
   -- it is in the upper span: the next variable is full, as it was before the guess
-  pub guess_full : free ≤ 12 → low + span / 2 ≤ least → Guessed least free (left - 1) values (low + span / 2) (span / 2)
+  pub guess_full : free ≤ 12 → low + span / 2 ≤ least → Guessed least free (v + 1) values (low + span / 2) (span / 2)
   guess_full f l =
       let e : low + 1 * (span / 2) ≡ low + span / 2 = omega arith in
       record {
-        within = omega (arith, g.within);
+        within = omega arith;
         range = half_range;
-        start = sym e ∙ next_start values 1 refl (g.later (free - left) (omega arith) (omega (arith, g.within)));
+        start = sym e ∙ next_start values 1 refl (g.later v (omega arith) (omega arith));
         size = g.size;
         digits = g.digits;
-        later = λ v k m. g.later v (omega arith) m;
+        later = λ u k m. g.later u (omega arith) m;
         lower = l;
         upper = omega (arith, g.upper, two_halves);
       }
-
--- no variable is left
-pub guess_all : (least free left : ℕ) (values : List ℕ) (low span : ℕ) → Guessed least free left values low span → left ≡ 0
-    → choice_number free values ≡ least
-guess_all least free left values low span g e =
-    let one : span ≡ 1 = g.range ∙ ap (λ k. 2 ^ k) e in
-    let all : free - left ≡ free = omega arith in
-    let start : low ≡ choice_number free values * 1 = g.start ∙ ap₂ (λ k n. choice_number k values * n) all one in
-    omega (arith, g.lower, g.upper)

@@ -6,7 +6,7 @@ ghost use Rattle.std.specs.Prelude.{◌≡◌, ◌^◌, ◌<◌, ◌≤◌, ltb}
 ghost use Rattle.guesses.specs.Guesses.{Values, choice_number, least_number};
 
 // A word of choices in which some pass: its number, and the bits of those that do. In no word before it any do.
-#[derive(Clone, Copy)]
+#[derive(Clone, Copy, PartialEq, Eq)]
 pub struct Passing {
     pub word: usize,
     pub choices: u64,
@@ -28,9 +28,9 @@ fn passes_below(passing: Passing, end: usize) -> bool
     choices & ((1 << (end - start)) - 1) != 0
 }
 
-// The values of the least choice that passes. The variables are guessed in order; one that is not guessed yet is full. Before each guess the values are
-// copied, and the guess is that the variable is empty: it stands if a choice that passes has it, and is otherwise undone. `left` are left to guess, and
-// the choices with the values so far are the 2^left from `low` on.
+// The values of the least choice that passes. The variables are guessed in order; one that is not guessed yet is full.
+// Before each guess the values are copied, and the guess is that the variable is empty: it stands if a choice that
+// passes has it, and is otherwise undone. The choices with the values so far are the `span` from `low` on.
 fn least_values(passing: Passing, free: usize) -> [u8; 12]
     requires { (free ≤ 12) × (least_number passing < 2 ^ free) }
     ensures { Values result × (choice_number free result ≡ least_number passing) }
@@ -38,16 +38,14 @@ fn least_values(passing: Passing, free: usize) -> [u8; 12]
     let mut values = [1u8; 12];
     let mut low: usize = 0;
     let mut span = basics::power(free);
-    let mut left = free;
-    while 0 < left {
-        span = span / 2;
+    for v in 0..free {
+        span /= 2;
         let before = values;
-        values[free - left] = 0;
+        values[v] = 0;
         if !passes_below(passing, low + span) {
             values = before;
             low += span;
         }
-        left -= 1;
     }
     values
 }
@@ -58,10 +56,8 @@ fn number_of(values: [u8; 12], free: usize) -> usize
     ensures { result ≡ choice_number free values }
 {
     let mut number: usize = 0;
-    let mut v: usize = 0;
-    while v < free {
-        number = 2 * number + basics::index(values[v]);
-        v += 1;
+    for value in &values[..free] {
+        number = 2 * number + usize::from(*value);
     }
     number
 }

@@ -1,24 +1,23 @@
 -- Laws of pairs: how wide a leaf is, where a pair stands, and the plan once some disequations have their sub-leaves. Assumes nothing.
-use Rattle.std.specs.Prelude.{◌≡◌, refl, ◌&&◌, List, ℕ, suc, ◌+◌, ◌-◌, ◌*◌, ◌/◌, ◌%◌, ◌^◌, ◌≤◌, ◌<◌, T, eqb, length, get_or, set, replicate}
+use Rattle.std.specs.Prelude.{◌≡◌, refl, List, ℕ, suc, ◌+◌, ◌-◌, ◌*◌, ◌/◌, ◌%◌, ◌^◌, ◌≤◌, ◌<◌, eqb, length, get_or, set, replicate}
 use Rattle.std.proofs.Math.Path.{sym, ap}
-use Rattle.std.proofs.Common.{ap₂, ◌∙◌, le_trans, div-add-mod', div-lt_iff_lt-mul, mul_left_comm, arith, eqb→eq, pow-add, pow_mono, pow_pos, lt-ltb, le-ltb, eq-eqb, ne_eqb}
+use Rattle.std.proofs.Common.{ap₂, get_or-set_same, get_or-set_other, ◌∙◌, le_trans, div-add-mod', div-lt_iff_lt-mul, mul_left_comm, arith, pow-add, pow_mono, pow_pos, lt-ltb, le-ltb, eq-eqb, ne_eqb}
 use Rattle.std.proofs.Math.Nat.{mod-lt, add-zero}
 use Rattle.std.proofs.Math.Numerals.{add-one}
-use Rattle.std.proofs.Math.Decide.{dec_lt}
+use Rattle.std.proofs.Math.Decide.{dec_lt, ℕ_discrete}
 use Rattle.std.proofs.Math.ListN.{get_or-replicate}
 use Rattle.std.proofs.Math.Arith.{digits_div, digits_mod}
-use Rattle.shares.specs.Test.{and_left, and_right}
 use Rattle.shares.specs.Below.{one, count_below}
 use Rattle.shares.specs.BelowLaws.{count_ext, count_le}
 use Rattle.leaves.specs.Problem.{Problem}
 use Rattle.leaves.specs.Numbers.{leaf_for, rank_for, special_choice}
 use Rattle.plans.specs.NumberLaws.{rank_here}
 use Rattle.words.specs.Choices.{word_count}
-use Rattle.words.specs.Kept.{lowest_in, number_at}
-use Rattle.guesses.specs.Guesses.{least_number}
-use Rattle.guesses.specs.declared.Passing.{Passing}
+use Rattle.words.specs.Kept.{number_at}
 use Rattle.words.specs.Stores.{store_law}
+use Rattle.plans.specs.declared.Entry.{Entry}
 use Rattle.plans.specs.declared.Outline.{Outline}
+use Rattle.plans.specs.Shown.{entry_at}
 use Rattle.plans.specs.Pairs.{leaf_width, slot_of, pair_leaf, Fitting, PairsOf, Filled, Made}
 
 -- ---- a leaf is as wide as a power of two
@@ -49,12 +48,6 @@ width_enough n = go (dec_lt n 6)
     go : Dec (n < 6) → 2 ^ n ≤ leaf_width n
     go (yes l) = rw (← (width_few n l)) (pow_mono {j = 6} (omega arith))
     go (no l) = omega (arith, width_many n (omega arith))
-
--- words that are the same have the same least choice
-pub same_least : (a b : Passing) → T (eqb a.word b.word && eqb a.choices b.choices) → least_number a ≡ least_number b
-same_least a b t =
-    ap₂ (λ w y. 64 * w + lowest_in y) (eqb→eq a.word b.word (and_left (eqb a.word b.word) _ t))
-    (eqb→eq a.choices b.choices (and_right (eqb a.word b.word) _ t))
 
 -- the number of a word among those of all leaves says the leaf, and the word there
 module _ (t r n : ℕ) (small : r < 64) where
@@ -101,8 +94,8 @@ module _ (o : Outline) (firsts : List ℕ) where
   abbrev pub Taken : ℕ → List ℕ → Type 0
   Taken e taken = (b : ℕ) → b < 64 → get_or taken b 0 ≡ leaf_count e b
 
-  pub filled_none : (s c : List ℕ) → Filled o firsts 0 s c
-  filled_none s c = record { sub_leaves = λ i l. absurd (omega arith); choices = λ i l. absurd (omega arith) }
+  pub filled_none : (es : List Entry) → Filled o firsts 0 es
+  filled_none es = record { sub_leaves = λ i l. absurd (omega arith); choices = λ i l. absurd (omega arith) }
 
   pub taken_none : Taken 0 (replicate 64 0)
   unfolding count_below
@@ -123,17 +116,21 @@ module _ (o : Outline) (firsts : List ℕ) where
     pub sub_leaf_is : leaf * 2 ^ o.splits + rank ≡ pair_leaf o firsts e * 2 ^ o.splits + leaf_count e (pair_leaf o firsts e)
     sub_leaf_is = ap₂ (λ x y. x * 2 ^ o.splits + y) here (is ∙ t leaf within ∙ ap (leaf_count e) here)
 
-  pub filled_more : (e x y : ℕ) (s c : List ℕ) → e < length s → e < length c → x ≡ pair_leaf o firsts e * 2 ^ o.splits + leaf_count e (pair_leaf o firsts e)
-      → y ≡ number_at firsts (slot_of o.extra e) % leaf_width o.free → Filled o firsts e s c → Filled o firsts (e + 1) (set s e x) (set c e y)
-  filled_more e x y s c hs hc ex ey f =
-      record {
-        sub_leaves =
-            store_law (λ i z. i < e + 1 → z ≡ pair_leaf o firsts i * 2 ^ o.splits + leaf_count i (pair_leaf o firsts i)) s e x hs
-            (λ i n l. f.sub_leaves i (omega arith)) (λ l. ex);
-        choices =
-            store_law (λ i z. i < e + 1 → z ≡ number_at firsts (slot_of o.extra i) % leaf_width o.free) c e y hc
-            (λ i n l. f.choices i (omega arith)) (λ l. ey);
-      }
+  -- the entry of disequation i: its sub-leaf and its choice
+  abbrev IsEntry : ℕ → Entry → Type 0
+  IsEntry i x =
+      (x.subleaf ≡ pair_leaf o firsts i * 2 ^ o.splits + leaf_count i (pair_leaf o firsts i))
+      × (x.choice ≡ number_at firsts (slot_of o.extra i) % leaf_width o.free)
+
+  pub filled_more : (e : ℕ) (x : Entry) (es : List Entry) → e < length es → IsEntry e x → Filled o firsts e es → Filled o firsts (e + 1) (set es e x)
+  filled_more e x es h is f = record { sub_leaves = λ i l. (more i l).0; choices = λ i l. (more i l).1 }
+    where
+      more : (i : ℕ) → i < e + 1 → IsEntry i (entry_at (set es e x) i)
+      more i l = go (ℕ_discrete i e)
+        where
+          go : Dec (i ≡ e) → IsEntry i (entry_at (set es e x) i)
+          go (yes q) = rw (q, get_or-set_same es e x (record { subleaf = 0; choice = 0 }) h) is
+          go (no n) = rw (get_or-set_other es e i x (record { subleaf = 0; choice = 0 }) n) (f.sub_leaves i (omega arith), f.choices i (omega arith))
 
 -- ---- a table of a problem's pairs gives the problem's plan
 
@@ -150,11 +147,11 @@ module _ (o : Outline) (firsts leaves : List ℕ) (R : Problem ℕ) (P : PairsOf
       count_ext j (λ i. eqb (pair_leaf o firsts i) (pair_leaf o firsts j)) (λ i. eqb (leaf_for o.free o.height R i) (leaf_for o.free o.height R j))
       (λ i m. ap₂ eqb (leaf_is i (omega arith)) (leaf_is j l)) ∙ sym (rank_here o.free o.height R j (leaf_for o.free o.height R j) refl)
 
-  pub made : R.count ≡ o.extra + o.count → (plain subleaf choice : List ℕ)
-      → ((b : ℕ) → b < 2 ^ o.height → get_or plain b 0 ≡ number_at leaves b) → Filled o firsts (o.extra + o.count) subleaf choice
+  pub made : R.count ≡ o.extra + o.count → (plain : List ℕ) (entries : List Entry)
+      → ((b : ℕ) → b < 2 ^ o.height → get_or plain b 0 ≡ number_at leaves b) → Filled o firsts (o.extra + o.count) entries
       → Made o.free o.height R o.splits
-      (record { low = o.height; high = o.height + o.splits; plain = plain; count = o.extra + o.count; subleaf = subleaf; choice = choice })
-  made e plain subleaf choice ps f =
+      (record { low = o.height; high = o.height + o.splits; plain = plain; count = o.extra + o.count; entries = entries })
+  made e plain entries ps f =
       record {
         low = refl;
         high = refl;

@@ -5,8 +5,10 @@ use Rattle.leaves.specs.Problem.{Problem}
 use Rattle.leaves.specs.Numbers.{leaf_for, rank_for, plain_choice, special_choice}
 use Rattle.words.specs.Choices.{word_count}
 use Rattle.words.specs.Kept.{number_at}
+use Rattle.plans.specs.declared.Entry.{Entry}
 use Rattle.plans.specs.declared.Plan.{Plan}
 use Rattle.plans.specs.declared.Outline.{Outline}
+use Rattle.plans.specs.Shown.{entry_at}
 
 -- how many choices the words of a leaf hold, with n free variables: the pair of leaf b and choice z is the number b * leaf_width n + z
 abbrev pub leaf_width : ℕ → ℕ
@@ -41,10 +43,10 @@ abbrev pub pair_leaf : Outline → List ℕ → ℕ → ℕ
 pair_leaf o firsts e = number_at firsts (slot_of o.extra e) / leaf_width o.free
 
 -- the first e disequations have their sub-leaves and choices
-pub record Filled (o : Outline) (firsts : List ℕ) (e : ℕ) (subleaf choice : List ℕ) : Type 0 where
+pub record Filled (o : Outline) (firsts : List ℕ) (e : ℕ) (entries : List Entry) : Type 0 where
   pub sub_leaves : (i : ℕ) → i < e
-      → get_or subleaf i 0 ≡ pair_leaf o firsts i * 2 ^ o.splits + count_below i (λ j. eqb (pair_leaf o firsts j) (pair_leaf o firsts i))
-  pub choices : (i : ℕ) → i < e → get_or choice i 0 ≡ number_at firsts (slot_of o.extra i) % leaf_width o.free
+      → (entry_at entries i).subleaf ≡ pair_leaf o firsts i * 2 ^ o.splits + count_below i (λ j. eqb (pair_leaf o firsts j) (pair_leaf o firsts i))
+  pub choices : (i : ℕ) → i < e → (entry_at entries i).choice ≡ number_at firsts (slot_of o.extra i) % leaf_width o.free
 
 -- the plan's entries are those of the problem, with each leaf split k times
 pub record Made (n h : ℕ) (R : Problem ℕ) (k : ℕ) (plan : Plan) : Type 0 where
@@ -52,5 +54,5 @@ pub record Made (n h : ℕ) (R : Problem ℕ) (k : ℕ) (plan : Plan) : Type 0 w
   pub high : plan.high ≡ h + k
   pub count : plan.count ≡ R.count
   pub plains : (b : ℕ) → b < 2 ^ h → get_or plan.plain b 0 ≡ plain_choice n h R b
-  pub sub_leaves : (j : ℕ) → j < R.count → get_or plan.subleaf j 0 ≡ leaf_for n h R j * 2 ^ k + rank_for n h R j
-  pub choices : (j : ℕ) → j < R.count → get_or plan.choice j 0 ≡ special_choice n h R j (leaf_for n h R j)
+  pub sub_leaves : (j : ℕ) → j < R.count → (entry_at plan.entries j).subleaf ≡ leaf_for n h R j * 2 ^ k + rank_for n h R j
+  pub choices : (j : ℕ) → j < R.count → (entry_at plan.entries j).choice ≡ special_choice n h R j (leaf_for n h R j)

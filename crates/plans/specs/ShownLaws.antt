@@ -17,7 +17,7 @@ use Rattle.leaves.specs.Problem.{Problem, solvable}
 use Rattle.leaves.specs.Fixed.{held_at, carried_at, fixed_at}
 use Rattle.leaves.proofs.ProblemLaws.{held_there, at_rank, rank_lt, plain_passes, leaf_passes, fixed_split}
 use Rattle.plans.specs.declared.Plan.{Plan}
-use Rattle.plans.specs.Shown.{plan_choice_after, plan_choice}
+use Rattle.plans.specs.Shown.{entry_at, plan_choice_after, plan_choice}
 use Rattle.leaves.specs.Numbers.{numbered, leaf_for, rank_for, plain_choice, special_choice}
 use Rattle.leaves.specs.ChoiceLaws.{pick_number}
 use Rattle.plans.specs.NumberLaws.{plain_is, special_is}
@@ -54,14 +54,14 @@ module _ (n h : ℕ) (R : Problem ℕ) (k : ℕ) (plan : Plan) (M : Made n h R k
       rw (le-ltb g 0 (omega arith))
       (ap₂ (λ x y. get_or plan.plain (block_of x y s) 0) M.low M.high ∙ ap (λ x. get_or plan.plain x 0) (block_split h k s)
       ∙ M.plains (s / 2 ^ k) (shr_lt h k s<))
-  after (suc m) l = go (ℕ_discrete s (get_or plan.subleaf m 0)) (after m (omega arith))
+  after (suc m) l = go (ℕ_discrete s (entry_at plan.entries m).subleaf) (after m (omega arith))
     where
-      go : Dec (s ≡ get_or plan.subleaf m 0) → plan_choice_after plan m s ≡ cond (ltb g m) (special_choice n h R g b) (plain_choice n h R b)
-          → cond (eqb s (get_or plan.subleaf m 0)) (get_or plan.choice m 0) (plan_choice_after plan m s)
+      go : Dec (s ≡ (entry_at plan.entries m).subleaf) → plan_choice_after plan m s ≡ cond (ltb g m) (special_choice n h R g b) (plain_choice n h R b)
+          → cond (eqb s (entry_at plan.entries m).subleaf) (entry_at plan.entries m).choice (plan_choice_after plan m s)
           ≡ cond (ltb g (suc m)) (special_choice n h R g b) (plain_choice n h R b)
       go (yes e) ih =
           let (same, at) = there_at m l (e ∙ M.sub_leaves m l) in
-          rw (eq-eqb s (get_or plan.subleaf m 0) e, lt-ltb g (suc m) (omega arith))
+          rw (eq-eqb s (entry_at plan.entries m).subleaf e, lt-ltb g (suc m) (omega arith))
           (M.choices m l ∙ ap₂ (special_choice n h R) same at)
       go (no e) ih = other (dec_lt g m)
         where
@@ -70,10 +70,10 @@ module _ (n h : ℕ) (R : Problem ℕ) (k : ℕ) (plan : Plan) (M : Made n h R k
               let (at, rank) = at_there (omega arith) in
               e (sym (split s k) ∙ ap₂ (λ x y. x * 2 ^ k + y) (sym at) (sym rank) ∙ ap (λ j. leaf_for n h R j * 2 ^ k + rank_for n h R j) q ∙ sym (M.sub_leaves m l))
 
-          other : Dec (g < m) → cond (eqb s (get_or plan.subleaf m 0)) (get_or plan.choice m 0) (plan_choice_after plan m s)
+          other : Dec (g < m) → cond (eqb s (entry_at plan.entries m).subleaf) (entry_at plan.entries m).choice (plan_choice_after plan m s)
               ≡ cond (ltb g (suc m)) (special_choice n h R g b) (plain_choice n h R b)
-          other (yes u) = rw (ne_eqb s (get_or plan.subleaf m 0) e, lt-ltb g (suc m) (omega arith)) (ih ∙ rw (lt-ltb g m u))
-          other (no u) = rw (ne_eqb s (get_or plan.subleaf m 0) e, le-ltb g (suc m) (omega (arith, not_m))) (ih ∙ rw (le-ltb g m (omega arith)))
+          other (yes u) = rw (ne_eqb s (entry_at plan.entries m).subleaf e, lt-ltb g (suc m) (omega arith)) (ih ∙ rw (lt-ltb g m u))
+          other (no u) = rw (ne_eqb s (entry_at plan.entries m).subleaf e, le-ltb g (suc m) (omega (arith, not_m))) (ih ∙ rw (le-ltb g m (omega arith)))
 
   pub plan_shows : T (solvable (least n) h (numbered n R)) → plan_choice plan s ≡ value (fixed_at (least n) h (numbered n R) (h + k) s)
   unfolding carried_at b r g

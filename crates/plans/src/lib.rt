@@ -12,6 +12,15 @@ ghost use Rattle.plans.specs.Pairs.{leaf_width, slot_of, Fitting, LeavesFit, Pai
 use guesses::Passing;
 use words::{FIRST_WORDS, LEAF_WORDS};
 
+// A sub-leaf that holds another choice than its leaf does.
+#[derive(Clone, Copy)]
+pub struct Entry {
+    // which sub-leaf, of 2^high
+    pub subleaf: u16,
+    // the choice that stands there
+    pub choice: u16,
+}
+
 // Which choice of values stands at each sub-leaf of a shown solution. The value of a variable is one binary digit of a choice.
 #[derive(Clone, Copy)]
 pub struct Plan {
@@ -23,10 +32,8 @@ pub struct Plan {
     pub plain: [u16; 64],
     // how many sub-leaves hold another choice
     pub count: usize,
-    // which sub-leaf, of 2^high
-    pub subleaf: [u16; 32],
-    // the choice that stands there
-    pub choice: [u16; 32],
+    // which they are: the first `count` of these
+    pub entries: [Entry; 32],
 }
 
 // What is to be planned: a solution of n free variables at 2^height leaves, each of which is split `splits` times, with so many extra disequations
@@ -45,11 +52,7 @@ pub fn splits(n: usize) -> usize
     requires { n ≤ 32 }
     ensures { result ≡ c n }
 {
-    let mut k: usize = 0;
-    while basics::power(k) < n {
-        k += 1;
-    }
-    k
+    (0..5).find(|k| n <= basics::power(*k)).unwrap_or(5)
 }
 
 // The number of the entry that disequation e of a plan has in the table of first words.
@@ -57,42 +60,29 @@ fn slot_of(extra: usize, e: usize) -> usize
     requires { extra ≤ 1 }
     ensures { result ≡ slot_of extra e }
 {
-    if e < extra {
-        return 31;
-    }
-    e - extra
+    if e < extra { 31 } else { e - extra }
 }
 
 // How many binary digits number the words of a leaf.
+#[tactic(auto, unfolding(words::specs::Choices::word_count))]
 fn word_digits(n: usize) -> usize
     requires { n ≤ 12 }
     ensures { (2 ^ result ≡ word_count n) × (result ≤ 6) }
 {
-    if n < 6 {
-        return 0;
-    }
-    n - 6
+    n.saturating_sub(6)
 }
 
-// The word of a search, with its number among those of all leaves.
-fn first_word(firsts: &[u64; FIRST_WORDS], entry: usize) -> Passing
-    requires { entry < 33 }
-    ensures { least_number result ≡ number_at firsts.now entry }
+// The word of an entry of a table, with its number: in a table of first words that among the words of all leaves, and
+// in one of leaves that among the words of the leaf.
+#[tactic(auto, unfolding(words::specs::Kept::number_at))]
+fn word_at(table: &[u64], entry: usize) -> Passing
+    requires { 2 * entry + 1 < length table.now }
+    ensures { least_number result ≡ number_at table.now entry }
 {
+    // the two words of an entry are a number, which fits a `usize`, and bits
     Passing {
-        word: firsts[2 * entry] as usize,
-        choices: firsts[2 * entry + 1],
-    }
-}
-
-// The word of a leaf, with its number among those of the leaf.
-fn leaf_word(leaves: &[u64; LEAF_WORDS], b: usize) -> Passing
-    requires { b < 64 }
-    ensures { least_number result ≡ number_at leaves.now b }
-{
-    Passing {
-        word: leaves[2 * b] as usize,
-        choices: leaves[2 * b + 1],
+        word: table[2 * entry] as usize,
+        choices: table[2 * entry + 1],
     }
 }
 
@@ -113,14 +103,8 @@ fn choice_of(kept: Passing, free: usize) -> u16
         word: kept.word & (basics::power(word_digits(free)) - 1),
         choices: kept.choices,
     };
+    // with at most 12 digits it fits, and the error of `try_from` cannot be
     guesses::least_choice(passing, free) as u16
-}
-
-// Whether two words are the same, with the same choices.
-fn are_same(a: Passing, b: Passing) -> bool
-    ensures { result ≡ (eqb a.word b.word && eqb a.choices b.choices) }
-{
-    a.word == b.word && a.choices == b.choices
 }
 
 // The number of a leaf's sub-leaf with this rank.
@@ -128,6 +112,7 @@ fn sub_leaf(leaf: usize, splits: usize, rank: usize) -> u16
     requires { (leaf < 64) × (splits ≤ 5) × (rank ≤ 32) }
     ensures { result ≡ leaf * 2 ^ splits + rank }
 {
+    // at most 2,048, it fits, and the error of `try_from` cannot be
     ((leaf << splits) + rank) as u16
 }
 
@@ -136,9 +121,9 @@ fn take_rank(taken: &mut [u8], leaf: usize) -> usize
     requires { (leaf < length taken.old) × (get_or taken.old leaf 0 < 32) }
     ensures { (result ≡ get_or taken.old leaf 0) × (result < 32) × (taken.new ≡ set taken.old leaf (result + 1)) }
 {
-    let rank = basics::index(taken[leaf]);
-    taken[leaf] = (rank + 1) as u8;
-    rank
+    let rank = taken[leaf];
+    taken[leaf] += 1;
+    usize::from(rank)
 }
 
 // The least choice of leaf b: that of the leaf before it, if it has the same word.
@@ -147,11 +132,9 @@ fn plain_at(leaves: &[u64; LEAF_WORDS], b: usize, free: usize, plain: &[u16]) ->
     requires b_bound_2 { (number_at leaves.now b < 2 ^ free) × (0 < b → get_or plain.now (b - 1) 0 ≡ number_at leaves.now (b - 1)) }
     ensures { result ≡ number_at leaves.now b }
 {
-    let kept = leaf_word(leaves, b);
-    if 0 < b {
-        if are_same(leaf_word(leaves, b - 1), kept) {
-            return plain[b - 1];
-        }
+    let kept = word_at(leaves, b);
+    if b > 0 && word_at(leaves, b - 1) == kept {
+        return plain[b - 1];
     }
     choice_of(kept, free)
 }
@@ -161,33 +144,26 @@ fn fill_plain(leaves: &[u64; LEAF_WORDS], count: usize, free: usize, plain: &mut
     requires { (count ≤ 64) × (free ≤ 12) × (length plain.old ≡ 64) × ((b : ℕ) → b < count → number_at leaves.now b < 2 ^ free) }
     ensures { (b : ℕ) → b < count → get_or plain.new b 0 ≡ number_at leaves.now b }
 {
-    let mut b: usize = 0;
-    while b < count {
+    for b in 0..count {
         plain[b] = plain_at(leaves, b, free, plain);
-        b += 1;
     }
 }
 
 // Gives each disequation its sub-leaf: from the left those of a leaf stand in order.
-fn fill_entries(
-    firsts: &[u64; FIRST_WORDS],
-    outline: Outline,
-    subleaf: &mut [u16],
-    choice: &mut [u16],
-)
+fn fill_entries(firsts: &[u64; FIRST_WORDS], outline: Outline, entries: &mut [Entry])
     requires fitting { Fitting outline firsts.now }
-    requires subleaf_len { (length subleaf.old ≡ 32) × (length choice.old ≡ 32) }
-    ensures { Filled outline firsts.now (outline.extra + outline.count) subleaf.new choice.new }
+    requires entries_len { length entries.old ≡ 32 }
+    ensures { Filled outline firsts.now (outline.extra + outline.count) entries.new }
 {
     let mut taken = [0u8; 64];
-    let mut e: usize = 0;
-    while e < outline.extra + outline.count {
-        let kept = first_word(firsts, slot_of(outline.extra, e));
+    for e in 0..outline.extra + outline.count {
+        let kept = word_at(firsts, slot_of(outline.extra, e));
         let leaf = leaf_of(kept, outline.free);
         let rank = take_rank(&mut taken, leaf);
-        subleaf[e] = sub_leaf(leaf, outline.splits, rank);
-        choice[e] = choice_of(kept, outline.free);
-        e += 1;
+        entries[e] = Entry {
+            subleaf: sub_leaf(leaf, outline.splits, rank),
+            choice: choice_of(kept, outline.free),
+        };
     }
 }
 
@@ -197,21 +173,22 @@ pub fn plan_of(firsts: &[u64; FIRST_WORDS], leaves: &[u64; LEAF_WORDS], outline:
     ensures { (R : Problem ℕ) → R.count ≡ outline.extra + outline.count → PairsOf outline.free outline.height R outline.extra firsts.now leaves.now → Made outline.free outline.height R outline.splits result }
 {
     let mut plain = [0u16; 64];
-    let mut subleaf = [0u16; 32];
-    let mut choice = [0u16; 32];
+    let mut entries = [Entry {
+        subleaf: 0,
+        choice: 0,
+    }; 32];
     fill_plain(
         leaves,
         basics::power(outline.height),
         outline.free,
         &mut plain,
     );
-    fill_entries(firsts, outline, &mut subleaf, &mut choice);
+    fill_entries(firsts, outline, &mut entries);
     Plan {
         low: outline.height,
         high: outline.height + outline.splits,
         plain,
         count: outline.extra + outline.count,
-        subleaf,
-        choice,
+        entries,
     }
 }

@@ -56,6 +56,6 @@ pub fn count_clause(counts: &mut [usize; 4], command: Command)
 {
     match command {
         Command::End | Command::Head | Command::Constant(_) => {}
-        Command::Clause { section, .. } => counts[sections::section_number(section)] += 1,
+        Command::Clause { section, .. } => counts[usize::from(section)] += 1,
     }
 }

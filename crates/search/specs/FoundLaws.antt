@@ -1,5 +1,5 @@
 -- What is known after a pass gives what is asked: whether the problem of a search is solvable, its pairs, and what a survey says. Assumes nothing.
-use Rattle.std.specs.Prelude.{◌≡◌, Bool, true, false, not, List, T, get_or}
+use Rattle.std.specs.Prelude.{◌≡◌, Bool, true, false, not, List, Option, None, Some, T, get_or}
 use Rattle.std.proofs.Math.Path.{refl, ap, ap₂}
 use Rattle.std.proofs.Common.{sym, ◌∙◌, subst, mul_left_comm, le-ltb}
 use Rattle.std.proofs.Math.Bool.{◌&&◌}
@@ -9,7 +9,7 @@ use Rattle.std.proofs.Math.Decide.{dec_lt}
 use native.Mathlib.Omega.{arith}
 use Rattle.shares.specs.Test.{is_true, of_true, of_false, and_left, and_right}
 use Rattle.shares.specs.Below.{every_below, some_below, first_below}
-use Rattle.shares.specs.BelowLaws.{every_at, every_ext, some_ext, first_ext}
+use Rattle.shares.specs.BelowLaws.{every_at, every_ext, some_ext, first_ext, first_is, first_none}
 use Rattle.shares.specs.Constant.{bit}
 use Rattle.format.specs.Stored.{Stored}
 use Rattle.words.specs.Choices.{word_count}
@@ -22,7 +22,8 @@ use Rattle.pass.specs.Pass.{After, Passed}
 use Rattle.steps.specs.declared.Search.{Search}
 use Rattle.steps.specs.declared.Search.TheVariants.{First, Unmet, Missed}
 use Rattle.steps.specs.declared.Seen.{Seen}
-use Rattle.search.specs.Found.{solvable_in, lowest_missed_in, all_found, is_missed, SolvedAs, SurveyedAs}
+use Rattle.search.specs.Found.{solvable_in, lowest_missed_in, all_found, is_missed, LowestOf, SolvedAs, SurveyedAs}
+use Rattle.search.specs.declared.Survey.{Survey}
 use Rattle.search.specs.WideLaws.{pair_at, solvable_wide, pairs_of}
 use Rattle.search.specs.TestLaws.{tests_periodic, special_stored}
 
@@ -32,6 +33,11 @@ and_same true a' b b' e f = f tt ∙ ap (λ x. x && b') e
 and_same false a' b b' e f = ap (λ x. x && b') e
 
 -- ---- searches of pairs
+
+-- what a survey says where the lowest disequation that is missed is this, or none
+abbrev pub missed_of : Option ℕ → Survey
+missed_of None = Survey.Entailed
+missed_of (Some j) = Survey.Missed j
 
 module _ (S : Stored) (h : ℕ) where
   -- how many pairs there are
@@ -193,38 +199,19 @@ module _ (S : Stored) (h : ℕ) where
           → first_below (get_or S.counts 3 0) (is_missed seen.possible rows (get_or S.counts 1 0)) ≡ lowest_missed_in S h
       lowest_missed_lem u = first_ext (get_or S.counts 3 0) _ _ (missed_solvable u)
 
-    -- ---- the three outcomes of a survey
+    -- ---- the outcomes of a survey
 
-    pub surveyed_none : all_found (get_or S.counts 1 0) seen.met ≡ false
-        → SurveyedAs S h (record { solvable = false; unmet = false; missed = get_or S.counts 3 0 }) firsts leaves
-    surveyed_none e = record {
-      solvable_is = sym e ∙ first_solvable;
-      unmet_is = λ t. absurd t;
-      pairs_are = λ t. absurd t;
-      missed_is = λ t. absurd t;
-      unmet_else = λ t. refl;
-      missed_else = λ t. refl;
-    }
+    pub surveyed_none : all_found (get_or S.counts 1 0) seen.met ≡ false → SurveyedAs S h Survey.Unsolvable firsts leaves
+    surveyed_none e = sym first_solvable ∙ e
 
-    pub surveyed_unmet : all_found (get_or S.counts 1 0) seen.met ≡ true → bit seen.met 31 ≡ true
-        → SurveyedAs S h (record { solvable = true; unmet = true; missed = get_or S.counts 3 0 }) firsts leaves
-    surveyed_unmet e u = record {
-      solvable_is = sym e ∙ first_solvable;
-      unmet_is = λ t. sym u ∙ unmet_solvable (of_true e);
-      pairs_are = λ t s. unmet_pairs (of_true e) (of_true u);
-      missed_is = λ t s. absurd s;
-      unmet_else = λ t. absurd t;
-      missed_else = λ t. refl;
-    }
+    module _ (e : all_found (get_or S.counts 1 0) seen.met ≡ true) where
+      pub surveyed_unmet : bit seen.met 31 ≡ true → SurveyedAs S h Survey.Unmet firsts leaves
+      surveyed_unmet u = (sym first_solvable ∙ e, sym (unmet_solvable (of_true e)) ∙ u, unmet_pairs (of_true e) (of_true u))
 
-    pub surveyed_missed : (lowest : ℕ) → all_found (get_or S.counts 1 0) seen.met ≡ true → bit seen.met 31 ≡ false
-        → lowest ≡ first_below (get_or S.counts 3 0) (is_missed seen.possible rows (get_or S.counts 1 0))
-        → SurveyedAs S h (record { solvable = true; unmet = false; missed = lowest }) firsts leaves
-    surveyed_missed lowest e u q = record {
-      solvable_is = sym e ∙ first_solvable;
-      unmet_is = λ t. sym u ∙ unmet_solvable (of_true e);
-      pairs_are = λ t s. absurd s;
-      missed_is = λ t s. q ∙ lowest_missed_lem (of_true e) (of_false u);
-      unmet_else = λ t. absurd t;
-      missed_else = λ t. absurd t;
-    }
+      -- the lowest disequation that is missed, if there is one
+      pub surveyed_missed : bit seen.met 31 ≡ false → (r : Option ℕ) → LowestOf (get_or S.counts 3 0) (is_missed seen.possible rows (get_or S.counts 1 0)) r
+          → SurveyedAs S h (missed_of r) firsts leaves
+      surveyed_missed u None none =
+          (sym first_solvable ∙ e, sym (unmet_solvable (of_true e)) ∙ u, sym (lowest_missed_lem (of_true e) (of_false u)) ∙ first_none _ _ none)
+      surveyed_missed u (Some j) (l, q, none) =
+          (sym first_solvable ∙ e, sym (unmet_solvable (of_true e)) ∙ u, l, sym (lowest_missed_lem (of_true e) (of_false u)) ∙ first_is _ _ j l none q)

@@ -1,26 +1,28 @@
 // What a pass over the leaves finds: whether a search has a solution, and the first words of it.
 #![tactic(auto)]
 
-ghost use Rattle.std.specs.Prelude.{◌≡◌, ◌+◌, ◌^◌, ◌<◌, ◌≤◌};
-ghost use Rattle.shares.specs.Below.{every_below, first_below};
+ghost use Rattle.std.specs.Prelude.{◌≡◌, ◌<◌, ◌≤◌};
+ghost use Rattle.shares.specs.Below.{every_below};
 ghost use Rattle.shares.specs.Constant.{bit};
-ghost use Rattle.beside.specs.Beside.{Readable};
 ghost use Rattle.steps.specs.Tests.{Named, extra_of};
-ghost use Rattle.steps.specs.Steps.{stored_by};
-ghost use Rattle.search.specs.Found.{all_found, is_missed, SolvedAs, SurveyedAs};
+ghost use Rattle.steps.specs.Steps.{posed};
+ghost use Rattle.search.specs.Found.{all_found, is_missed, LowestOf, SolvedAs, SurveyedAs};
 
-use basics::CLAUSE_BYTES;
-use beside::Sizes;
+use beside::Searchable;
 use steps::Search;
 use words::{FIRST_WORDS, LEAF_WORDS};
 
-// What a pass over an entailment finds: whether the first system has a solution; whether some solution cannot meet the second system's positive
-// clauses; and the lowest disequation of the second that some solution cannot have beside them, their count if there is none.
+// What a pass over an entailment finds.
 #[derive(Clone, Copy)]
-pub struct Survey {
-    pub solvable: bool,
-    pub unmet: bool,
-    pub missed: usize,
+pub enum Survey {
+    // the first system has no solution
+    Unsolvable,
+    // some solution of the first cannot meet the second system's positive clauses
+    Unmet,
+    // each solution can, and some cannot have this disequation of the second beside them: it is the lowest such
+    Missed(usize),
+    // each solution can have all of the second
+    Entailed,
 }
 
 // Whether the first `count` bits of a word are all set.
@@ -47,80 +49,53 @@ fn is_missed(possible: u64, rows: &[u64; 96], count: usize, j: usize) -> bool
     basics::digit(possible, j) && all_set(rows[64 + j], count)
 }
 
-// The lowest disequation of the second system that is missed, or their count.
-fn lowest_missed(possible: u64, rows: &[u64; 96], first_count: usize, second_count: usize) -> usize
+// The lowest disequation of the second system that is missed.
+fn lowest_missed(
+    possible: u64,
+    rows: &[u64; 96],
+    first_count: usize,
+    second_count: usize,
+) -> Option<usize>
     requires { (first_count ≤ 32) × (second_count ≤ 32) }
-    ensures { result ≡ first_below second_count (is_missed possible rows.now first_count) }
+    ensures { LowestOf second_count (is_missed possible rows.now first_count) result }
 {
-    let mut lowest: usize = 0;
-    while lowest < second_count {
-        if is_missed(possible, rows, first_count, lowest) {
-            return lowest;
-        }
-        lowest += 1;
-    }
-    second_count
+    (0..second_count).find(|j| is_missed(possible, rows, first_count, *j))
 }
 
 // Whether the problem of a search is solvable, and then the first words of its solution.
 pub fn solve(
-    clauses: &[u8; CLAUSE_BYTES],
-    sizes: Sizes,
-    constants: &[u64; 32],
+    question: &Searchable<'_>,
     search: Search,
     firsts: &mut [u64; FIRST_WORDS],
     leaves: &mut [u64; LEAF_WORDS],
 ) -> bool
-    requires readable { Readable clauses.now sizes.counts sizes.free sizes.own }
-    requires named { Named sizes.counts search × (sizes.named < 2 ^ 32) × (sizes.height ≤ 5) × (extra_of search ≡ 0) }
-    ensures { SolvedAs (stored_by sizes clauses.now constants.now) sizes.height search result firsts.new leaves.new }
+    requires { Named question.now.sizes.counts search × (extra_of search ≡ 0) }
+    ensures { SolvedAs (posed question.now) question.now.sizes.height search result firsts.new leaves.new }
 {
     let mut rows = [0u64; 96];
-    let seen = pass::pass_leaves(clauses, sizes, constants, search, firsts, leaves, &mut rows);
-    all_found(seen.met, sizes.counts[1])
+    let seen = pass::pass_leaves(question, search, firsts, leaves, &mut rows);
+    all_found(seen.met, question.sizes.counts[1])
 }
 
-// Surveys an entailment, with the first words of a solution that has an unmet choice, if there is one. Where the first system has no solution `unmet` is false,
-// and where there is no such disequation to find `missed` is the number of the second system's.
+// Surveys an entailment, with the first words of a solution that has an unmet choice, if there is one.
 pub fn survey_leaves(
-    clauses: &[u8; CLAUSE_BYTES],
-    sizes: Sizes,
-    constants: &[u64; 32],
+    question: &Searchable<'_>,
     firsts: &mut [u64; FIRST_WORDS],
     leaves: &mut [u64; LEAF_WORDS],
 ) -> Survey
-    requires readable { Readable clauses.now sizes.counts sizes.free sizes.own }
-    requires named_bound { (sizes.named < 2 ^ 32) × (sizes.height ≤ 5) }
-    ensures { SurveyedAs (stored_by sizes clauses.now constants.now) sizes.height result firsts.new leaves.new }
+    ensures { SurveyedAs (posed question.now) question.now.sizes.height result firsts.new leaves.new }
 {
-    let second_count = sizes.counts[3];
+    let counts = question.sizes.counts;
     let mut rows = [0u64; 96];
-    let seen = pass::pass_leaves(
-        clauses,
-        sizes,
-        constants,
-        Search::Unmet,
-        firsts,
-        leaves,
-        &mut rows,
-    );
-    if !all_found(seen.met, sizes.counts[1]) {
-        return Survey {
-            solvable: false,
-            unmet: false,
-            missed: second_count,
-        };
+    let seen = pass::pass_leaves(question, Search::Unmet, firsts, leaves, &mut rows);
+    if !all_found(seen.met, counts[1]) {
+        return Survey::Unsolvable;
     }
     if basics::digit(seen.met, 31) {
-        return Survey {
-            solvable: true,
-            unmet: true,
-            missed: second_count,
-        };
+        return Survey::Unmet;
     }
-    Survey {
-        solvable: true,
-        unmet: false,
-        missed: lowest_missed(seen.possible, &rows, sizes.counts[1], second_count),
+    match lowest_missed(seen.possible, &rows, counts[1], counts[3]) {
+        Some(j) => Survey::Missed(j),
+        None => Survey::Entailed,
     }
 }

@@ -11,7 +11,7 @@ use Rattle.shares.specs.Constant.{bit, bytes_at}
 use Rattle.shares.specs.Blocks.{block_of, first_of}
 use Rattle.shares.specs.BlockLaws.{block_lt, first_lt, block_first, block_block}
 use Rattle.plans.specs.declared.Plan.{Plan}
-use Rattle.plans.specs.Shown.{Showable, plan_choice_after, plan_choice, plan_tree}
+use Rattle.plans.specs.Shown.{Showable, entry_at, plan_choice_after, plan_choice, plan_tree}
 use Rattle.rows.specs.Rows.{row_leaf, row_of}
 use Rattle.rows.proofs.RowLaws.{row_is}
 use Rattle.rows.specs.Blocks.{Inside, AllLeaves, BlockSet}
@@ -26,11 +26,11 @@ block_inside : {h w i : ℕ} → h ≤ w → block_of h w i < 2 ^ h → i < 2 ^ 
 block_inside {h} {w} {i} l u = rw (← pow-add 2 h (w - h), add-sub_of_le l) at ((div-lt_iff_lt-mul {x = i} {y = 2 ^ h} (pow_pos (w - h))).0 u)
 
 module _ (k : ℕ) (plan : Plan) (ok : Showable k plan) where
-  pub sub_leaf_small : (n : ℕ) → n < plan.count → get_or plan.subleaf n 0 < 2 ^ k
+  pub sub_leaf_small : (n : ℕ) → n < plan.count → (entry_at plan.entries n).subleaf < 2 ^ k
   sub_leaf_small n l = le_trans (ok.sub_leaves n l) (pow_mono ok.within)
 
   -- a sub-leaf is a block of the row
-  pub sub_leaf_inside : 3 ≤ k → k ≤ 32 → (n bytes : ℕ) → n < plan.count → bytes ≡ bytes_at k → Inside (k - plan.high) (get_or plan.subleaf n 0) bytes
+  pub sub_leaf_inside : 3 ≤ k → k ≤ 32 → (n bytes : ℕ) → n < plan.count → bytes ≡ bytes_at k → Inside (k - plan.high) (entry_at plan.entries n).subleaf bytes
   sub_leaf_inside from to n bytes l e = rw e (leaf_inside from to ok.within (ok.sub_leaves n l))
 
   module _ (p : ℕ) where
@@ -46,11 +46,11 @@ module _ (k : ℕ) (plan : Plan) (ok : Showable k plan) where
         ∙ sym (shows (first_of plan.high k s) (first_lt ok.within small)) ∙ sym e
 
     pub shows_more : (n : ℕ) (v : Bool) (row after : List ℕ) → Shows k plan n p row
-        → BlockSet row after (k - plan.high) (get_or plan.subleaf n 0) v → v ≡ bit (get_or plan.choice n 0) p → Shows k plan (n + 1) p after
+        → BlockSet row after (k - plan.high) (entry_at plan.entries n).subleaf v → v ≡ bit (entry_at plan.entries n).choice p → Shows k plan (n + 1) p after
     unfolding plan_choice_after
     shows_more n v row after old step e i l =
         let s = block_of plan.high k i in
-        step i ∙ rw (e, old i l, add-one n) (sym (bit_cond (eqb s (get_or plan.subleaf n 0)) (get_or plan.choice n 0) (plan_choice_after plan n s) p))
+        step i ∙ rw (e, old i l, add-one n) (sym (bit_cond (eqb s (entry_at plan.entries n).subleaf) (entry_at plan.entries n).choice (plan_choice_after plan n s) p))
 
     pub shows_all : 3 ≤ k → (row : List ℕ) → length row ≡ bytes_at k → ((j : ℕ) → get_or row j 0 < 256) → Shows k plan plan.count p row
         → row ≡ row_of k (plan_tree plan p)

@@ -17,47 +17,43 @@ fn digit_of(choice: u16, p: usize) -> bool
     requires { p < 16 }
     ensures { result ≡ bit choice p }
 {
-    basics::digit(choice as u64, p)
+    basics::digit(u64::from(choice), p)
 }
 
-// Writes the 2^low leaves, each with digit p of its choice, to a row that is empty. The end is tested by `!=`, since `k < 2^low` is made a shift and a
-// test at each turn.
-fn write_leaves(row: &mut [u8], plain: &[u16; 64], low: usize, p: usize)
-    requires { (low ≤ 6) × (row.old ≡ zeros (row_bytes constant_levels)) × (p < 16) }
-    ensures { (i : ℕ) → i < 2 ^ row_levels constant_levels → row_leaf row.new i ≡ bit (get_or plain.now (i / 2 ^ (row_levels constant_levels - low)) 0) p }
+// Writes the 2^low leaves, each with digit p of its choice, to a row that is empty.
+#[tactic(auto, using(crate::proofs::LeafLaws::leaves_few))]
+fn write_leaves(row: &mut [u8], plan: &Plan, p: usize)
+    requires { (plan.now.low ≤ 6) × (row.old ≡ zeros (row_bytes constant_levels)) × (p < 16) }
+    ensures { (i : ℕ) → i < 2 ^ row_levels constant_levels → row_leaf row.new i ≡ bit (get_or plan.now.plain (i / 2 ^ (row_levels constant_levels - plan.now.low)) 0) p }
 {
-    let height = ROW_LEVELS - low;
-    let count = basics::power(low);
-    let mut k: usize = 0;
-    while k != count {
-        change_block(row, height, k, false, digit_of(plain[k], p));
-        k += 1;
+    let height = ROW_LEVELS - plan.low;
+    let count = basics::power(plan.low);
+    for (k, choice) in plan.plain[..count].iter().enumerate() {
+        change_block(row, height, k, false, digit_of(*choice, p));
     }
 }
 
 // Sets the sub-leaves that hold another choice, in order.
-fn write_sub_leaves(row: &mut [u8], plan: Plan, p: usize)
-    requires showable { Showable (row_levels constant_levels) plan }
-    requires row_len { (length row.old ≡ row_bytes constant_levels) × (p < 16) × Shows (row_levels constant_levels) plan 0 p row.old }
-    ensures { Shows (row_levels constant_levels) plan plan.count p row.new }
+fn write_sub_leaves(row: &mut [u8], plan: &Plan, p: usize)
+    requires showable { Showable (row_levels constant_levels) plan.now }
+    requires row_len { (length row.old ≡ row_bytes constant_levels) × (p < 16) × Shows (row_levels constant_levels) plan.now 0 p row.old }
+    ensures { Shows (row_levels constant_levels) plan.now plan.now.count p row.new }
 {
     let height = ROW_LEVELS - plan.high;
-    let mut n: usize = 0;
-    while n < plan.count {
-        let s = plan.subleaf[n] as usize;
+    for entry in &plan.entries[..plan.count] {
+        let s = usize::from(entry.subleaf);
         let old = first_leaf(row, height, s);
-        change_block(row, height, s, old, digit_of(plan.choice[n], p));
-        n += 1;
+        change_block(row, height, s, old, digit_of(entry.choice, p));
     }
 }
 
-// Writes the row of the variable whose value is digit p, which is empty. The plan's choices at the leaves are lent beside it, not copied for each row.
-fn write_row(row: &mut [u8], plan: Plan, plain: &[u16; 64], p: usize)
-    requires showable { Showable (row_levels constant_levels) plan }
-    requires row_value { (row.old ≡ zeros (row_bytes constant_levels)) × (plain.now ≡ plan.plain) × (p < 16) }
-    ensures { row.new ≡ row_of (row_levels constant_levels) (plan_tree plan p) }
+// Writes the row of the variable whose value is digit p, which is empty.
+fn write_row(row: &mut [u8], plan: &Plan, p: usize)
+    requires showable { Showable (row_levels constant_levels) plan.now }
+    requires row_value { (row.old ≡ zeros (row_bytes constant_levels)) × (p < 16) }
+    ensures { row.new ≡ row_of (row_levels constant_levels) (plan_tree plan.now p) }
 {
-    write_leaves(row, plain, plan.low, p);
+    write_leaves(row, plan, p);
     write_sub_leaves(row, plan, p);
 }
 
@@ -66,7 +62,7 @@ fn empty_rows(answer: &mut [u8])
     requires { answer_bytes constant_levels ≤ length answer.old }
     ensures { answer.new ≡ emptied (row_levels constant_levels) answer.old }
 {
-    basics::fill(&mut answer[..ANSWER_BYTES], 0);
+    answer[..ANSWER_BYTES].fill(0);
 }
 
 // Shows a plan of n free variables in the answer buffer: the rows of other variables stay empty.
@@ -76,15 +72,11 @@ pub fn write_rows(answer: &mut [u8], n: usize, plan: Plan)
     ensures { answer.new ≡ shown_answer (row_levels constant_levels) n plan answer.old }
 {
     empty_rows(answer);
-    let plain = plan.plain;
-    let mut v: usize = 0;
-    while v < n {
+    for v in 0..n {
         write_row(
             &mut answer[v * ROW_BYTES..v * ROW_BYTES + ROW_BYTES],
-            plan,
-            &plain,
+            &plan,
             n - 1 - v,
         );
-        v += 1;
     }
 }

@@ -10,7 +10,7 @@ use Rattle.pass.specs.PassLaws.{values_within, keys_more, after_none, passed_all
 use Rattle.pass.proofs.pass_leaves.Goals as goal
 
 pub start_terms-requires : goal.start_terms-requires
-start_terms-requires c = (c.args.question.now.readable.variables, refl, λ t l. get_or-replicate 64 t 0 0 l)
+start_terms-requires c = (c.args.question.now.readable.variables, λ t l. get_or-replicate 64 t 0 0 l)
 
 -- there are at most 64 leaves
 few : (h b leaves : ℕ) → h ≤ 5 → leaves ≡ 2 ^ h → b < leaves → b < 64
