@@ -1,7 +1,7 @@
 // Asking: reads a question, decides it, and leaves its answer in the lent bytes.
 #![tactic(auto)]
 
-ghost use Rattle.std.specs.Prelude.{◌≡◌, ◌++◌, ◌≤◌, length, drop, Ok};
+ghost use Rattle.std.specs.Prelude.{◌≡◌, ◌++◌, ◌≤◌, length, drop, eqb, Ok};
 ghost use Rattle.shares.specs.Constant.{constant_levels};
 ghost use Rattle.systems.specs.Questions as model;
 ghost use Rattle.systems.specs.Answers.{verdict, reason, disequation_number, height_given};
@@ -39,6 +39,13 @@ impl Answer {
             Finding::Satisfied | Finding::Vacuous | Finding::Entailed => 1,
             Finding::Unsatisfied | Finding::Unmet | Finding::Missed(_) => 2,
         }
+    }
+
+    // Whether the verdict is yes.
+    pub fn is_yes(self) -> bool
+        ensures { result ≡ eqb (verdict (answer_of self.finding)) 1 }
+    {
+        self.verdict() == 1
     }
 
     // The number of the reason, 0 where there is none.

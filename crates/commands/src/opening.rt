@@ -24,7 +24,7 @@ fn kind_of(byte: u8) -> Option<Kind>
 }
 
 // Whether so many variables may stand in a question of this kind, which has no own ones where it is of satisfiability.
-#[tactic(auto, unfolding(format::specs::Format::head_fits))]
+#[tactic(auto, using(crate::proofs::CommandFacts::too_many), unfolding(format::specs::Format::head_fits))]
 fn head_fits(kind: Kind, free: usize, own: usize) -> bool
     requires { (free < 256) × (own < 256) }
     ensures { result ≡ head_fits (kind_value kind) free own }

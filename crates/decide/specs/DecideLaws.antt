@@ -1,7 +1,7 @@
 -- What the searches find decides the question. Assumes nothing.
-use Rattle.std.specs.Prelude.{◌≡◌, Bool, false, not, List, ℕ, ◌^◌, ◌≤◌, ◌<◌, get_or}
+use Rattle.std.specs.Prelude.{◌≡◌, Bool, false, List, ℕ, ◌^◌, get_or}
 use Rattle.std.proofs.Math.Path.{refl, sym, ap}
-use Rattle.std.proofs.Common.{ap₂, ◌∙◌, suc-le-suc, zero-le, T_not}
+use Rattle.std.proofs.Common.{ap₂, ◌∙◌, suc-le-suc, zero-le, le_refl, T_not}
 use Rattle.std.proofs.Math.Bool.{true}
 use Rattle.std.proofs.Math.Dec.{T, not_T}
 use borrow.Author.Tests.{lt-ltb, le-ltb}
@@ -29,11 +29,6 @@ use Rattle.decide.specs.StandsLaws.{with_variables, Same, same_first, same_unmet
 use Rattle.decide.specs.Decision.{answer_of, search_of, Decided}
 use Rattle.decide.specs.declared.Finding.{Finding}
 use Rattle.decide.specs.declared.Finding.TheVariants.{Satisfied, Unsatisfied, Vacuous, Entailed, Unmet, Missed}
-
--- a test and its negation
-pub flip : (a : Bool) {b : Bool} → not a ≡ b → a ≡ not b
-flip true e = ap not e
-flip false e = ap not e
 
 -- a problem with one disequation more, before the others, is solvable only if some leaf meets that one
 unmet_somewhere : (h : ℕ) (q : Question) → T (solvable (least q.free) h (with_unmet (least q.own) (second_at h q) (first_at h q))) → T (some_unmet h q)
@@ -95,53 +90,44 @@ module _ {k : ℕ} (x : Stored) (q : Question) (St : Stands k x q) where
 
   -- ---- of an entailment
 
-  module _ (r : Survey) (firsts leaves : List ℕ) (E : SurveyedAs x H r firsts leaves) (kind : q.kind ≡ entailment) where
-    pub decided_vacuous : r.solvable ≡ false → Decided x q Vacuous firsts leaves
+  module _ (firsts leaves : List ℕ) (kind : q.kind ≡ entailment) where
+    pub decided_vacuous : SurveyedAs x H Survey.Unsolvable firsts leaves → Decided x q Vacuous firsts leaves
     unfolding decide_kind
     decided_vacuous e =
-        let d : decide q ≡ vacuous = rw (kind, sym (E.solvable_is ∙ first_is) ∙ e) in
+        let d : decide q ≡ vacuous = rw (kind, sym first_is ∙ e) in
         without_pairs Vacuous firsts leaves refl d
 
-    module _ (e : r.solvable ≡ true) where
+    pub decided_unmet : SurveyedAs x H Survey.Unmet firsts leaves → Decided x q Unmet firsts leaves
+    unfolding decide_kind
+    decided_unmet (e, f, pairs) =
+        let breaks : some_unmet H q ≡ true = is_true _ (unmet_somewhere H q (of_true (sym unmet_is ∙ f))) in
+        let d : decide q ≡ unmet = rw (kind, sym first_is ∙ e, breaks) in
+        with_pairs Unmet firsts leaves d (record { found_is = sym f; pairs_are = λ _. pairs })
+
+    module _ (e : solvable_in x H First ≡ true) (f : solvable_in x H Unmet ≡ false) where
       can : can_solve H q ≡ true
-      can = sym (E.solvable_is ∙ first_is) ∙ e
+      can = sym first_is ∙ e
 
-      unmet_found : r.unmet ≡ solvable (least q.free) H (with_unmet (least q.own) (second_at H q) (first_at H q))
-      unmet_found = E.unmet_is (of_true e) ∙ unmet_is
+      holds_on : some_unmet H q ≡ false
+      holds_on =
+          is_false (some_unmet H q) (not_T (some_unmet H q) (λ t.
+          T_not (solvable (least q.free) H (with_unmet (least q.own) (second_at H q) (first_at H q))) (of_false (sym unmet_is ∙ f))
+          (unmet_solvable (least q.free) (least q.own) H (first_at H q) (second_at H q) (of_true can) t)))
 
-      pub decided_unmet : r.unmet ≡ true → Decided x q Unmet firsts leaves
-      unfolding decide_kind
-      decided_unmet f =
-          let breaks : some_unmet H q ≡ true = is_true _ (unmet_somewhere H q (of_true (sym unmet_found ∙ f))) in
-          let d : decide q ≡ unmet = rw (kind, can, breaks) in
-          with_pairs Unmet firsts leaves d
-          (record { found_is = sym f ∙ E.unmet_is (of_true e); pairs_are = λ _. E.pairs_are (of_true e) (of_true f) })
+    pub decided_entailed : SurveyedAs x H Survey.Entailed firsts leaves → Decided x q Entailed firsts leaves
+    unfolding decide_kind
+    decided_entailed (e, f, none) =
+        let lowest : get_or x.counts 3 0 ≡ lowest_missed H q = sym none ∙ lowest_is in
+        let d : decide q ≡ entailed = rw (kind, can e f, holds_on e f, ← lowest, ← count, le-ltb (get_or x.counts 3 0) (get_or x.counts 3 0) (le_refl (get_or x.counts 3 0))) in
+        without_pairs Entailed firsts leaves refl d
 
-      module _ (f : r.unmet ≡ false) where
-        holds_on : some_unmet H q ≡ false
-        holds_on =
-            is_false (some_unmet H q) (not_T (some_unmet H q) (λ t.
-            T_not (solvable (least q.free) H (with_unmet (least q.own) (second_at H q) (first_at H q))) (of_false (sym unmet_found ∙ f))
-            (unmet_solvable (least q.free) (least q.own) H (first_at H q) (second_at H q) (of_true can) t)))
-
-        missed_is : r.missed ≡ lowest_missed_in x H
-        missed_is = E.missed_is (of_true e) (of_false f)
-
-        lowest : r.missed ≡ lowest_missed H q
-        lowest = missed_is ∙ lowest_is
-
-        pub decided_entailed : get_or x.counts 3 0 ≤ r.missed → Decided x q Entailed firsts leaves
-        unfolding decide_kind
-        decided_entailed l =
-            let d : decide q ≡ entailed = rw (kind, can, holds_on, ← lowest, ← count, le-ltb r.missed (get_or x.counts 3 0) l) in
-            without_pairs Entailed firsts leaves refl d
-
-        pub decided_missed : r.missed < get_or x.counts 3 0 → (found : Bool) (third fourth : List ℕ) → SolvedAs x H (Missed r.missed) found third fourth
-            → Decided x q (Missed r.missed) third fourth
-        unfolding decide_kind
-        decided_missed l found third fourth G =
-            let d : decide q ≡ missed r.missed = rw (kind, can, holds_on, ← lowest, ← count, lt-ltb r.missed (get_or x.counts 3 0) l) in
-            with_pairs (Missed r.missed) third fourth d (rw (G.found_is ∙ is_true _ there) at G)
-          where
-            there : T (solvable_in x H (Missed r.missed))
-            there = rw (← missed_is) at (first_below_lem (get_or x.counts 3 0) (λ i. solvable_in x H (Missed i)) (rw (← missed_is) l))
+    pub decided_missed : (j : ℕ) → SurveyedAs x H (Survey.Missed j) firsts leaves → (found : Bool) (third fourth : List ℕ) → SolvedAs x H (Missed j) found third fourth
+        → Decided x q (Missed j) third fourth
+    unfolding decide_kind
+    decided_missed j (e, f, l, first) found third fourth G =
+        let lowest : j ≡ lowest_missed H q = sym first ∙ lowest_is in
+        let d : decide q ≡ missed j = rw (kind, can e f, holds_on e f, ← lowest, ← count, lt-ltb j (get_or x.counts 3 0) l) in
+        with_pairs (Missed j) third fourth d (rw (G.found_is ∙ is_true _ there) at G)
+      where
+        there : T (solvable_in x H (Missed j))
+        there = rw first at (first_below_lem (get_or x.counts 3 0) (λ i. solvable_in x H (Missed i)) (rw first l))

@@ -11,11 +11,12 @@ use Rattle.format.specs.Numbers.{kind_value}
 use Rattle.format.specs.Stored.{Stored, stored_of, Stands}
 use Rattle.format.specs.declared.Question.{Question}
 use Rattle.beside.specs.declared.Sizes.{Sizes}
+use Rattle.beside.specs.declared.Searchable.{Searchable}
 use Rattle.plans.specs.declared.Plan.{Plan}
 use Rattle.plans.specs.declared.Outline.{Outline}
 use Rattle.plans.specs.Shown as shown
 use Rattle.rows.specs.Rows.{row_levels}
-use Rattle.steps.specs.Steps.{stored_by}
+use Rattle.steps.specs.Steps.{posed}
 use Rattle.steps.specs.Tests.{extra_of, room_of}
 use Rattle.steps.specs.declared.Search.{Search}
 use Rattle.steps.specs.declared.Search.TheVariants.{First, Unmet, Missed}
@@ -73,11 +74,10 @@ pub record Decided (x : Stored) (q : Asked) (r : Finding) (firsts leaves : List 
   pub answer : answer_of r ≡ decide q
   pub solved : T (shows (decide q)) → SolvedAs x (question_height q) (search_of r) true firsts leaves
 
--- the same of every question of a kind that numbers, clauses' bytes and constants stand for
-abbrev pub DecidedAs : Kind → Sizes → List ℕ → List ℕ → Finding → List ℕ → List ℕ → Type 0
-DecidedAs kind sizes clauses constants r firsts leaves =
-    (k : ℕ) (q : Asked) → Stands k (stored_by sizes clauses constants) q → q.kind ≡ kind → sizes.height ≡ question_height q
-    → Decided (stored_by sizes clauses constants) q r firsts leaves
+-- the same of every question of a kind that a question to be searched stands for, with its height
+abbrev pub DecidedAs : Kind → Searchable → Finding → List ℕ → List ℕ → Type 0
+DecidedAs kind x r firsts leaves =
+    (k : ℕ) (q : Asked) → Stands k (posed x) q → q.kind ≡ kind → x.sizes.height ≡ question_height q → Decided (posed x) q r firsts leaves
 
 -- a question that was read stands for q, with some clauses
 pub record StandsFor (x : Question) (q : Asked) : Type 0 where

@@ -7,14 +7,15 @@ ghost use Rattle.systems.specs.Questions.{satisfiability, entailment, Question a
 ghost use Rattle.systems.specs.Answers.{shows, height_given};
 ghost use Rattle.format.specs.Numbers.{kind_value};
 ghost use Rattle.format.specs.Stored.{stored_of, Stands};
-ghost use Rattle.beside.specs.Beside.{Readable};
+ghost use Rattle.steps.specs.Steps.{posed};
 ghost use Rattle.steps.specs.Tests.{extra_of, room_of};
 ghost use Rattle.decide.specs.Decision.{Standing, tallest_of, sizes_of, answer_of, search_of, Decided, DecidedAs, StandsFor, SizedFor, DecidedFor, outline_of, Planned};
 
 use basics::CLAUSE_BYTES;
-use beside::Sizes;
+use beside::{Searchable, Sizes};
 use format::{Kind, Question};
 use plans::{Outline, Plan};
+use search::Survey;
 use steps::Search;
 use words::{FIRST_WORDS, LEAF_WORDS};
 
@@ -31,44 +32,36 @@ pub enum Finding {
     Missed(usize),
 }
 
-// The number of constant i.
-fn number_of(constants: &[u64; 32], i: usize) -> u64
-    requires { i < 32 }
-    ensures { result ≡ get_or constants.now i 0 }
-{
-    constants[i]
-}
-
 // The height of a question: that of the tallest constant that is named, by the leaves that are unlike their neighbours in any of them.
 fn question_height(constants: &[u64; 32], named: u64) -> usize
     requires { (named < 2 ^ 32) × ((i : ℕ) → T (bit named i) → get_or constants.now i 0 < 2 ^ 32) }
     ensures { result ≡ tallest_of constant_levels constants.now named }
 {
     let mut leaves: u32 = 0;
-    let mut rest = named;
-    while rest != 0 {
-        let i = words::lowest(rest);
-        let x = number_of(constants, i);
-        leaves = leaves | shares::unlike(x as u32);
-        rest = words::without_lowest(rest);
+    for i in words::bits(named) {
+        leaves |= shares::unlike(constants[i] as u32);
     }
     shares::unlike_height(leaves) as usize
 }
 
-// The numbers of a question, with its height. Its constants are lent beside it, so that they are not copied.
-pub fn sizes_of(question: Question, constants: &[u64; 32]) -> Sizes
-    requires { (constants.now ≡ question.constants) × ((q : Asked) × StandsFor question q) }
-    ensures { result ≡ sizes_of question }
+// A question that was read, as it is searched: its numbers, with its height, and its clauses and constants where they are.
+pub fn searchable<'a>(question: &'a Question, clauses: &'a [u8; CLAUSE_BYTES]) -> Searchable<'a>
+    requires { Standing question.now clauses.now }
+    ensures sizes { result.sizes ≡ sizes_of question.now }
+    ensures clauses { result.clauses.now ≡ clauses.now }
+    ensures constants { result.constants.now ≡ question.now.constants }
 {
-    let named = question.named;
-    let height = question_height(constants, named);
-    let counts = question.counts;
-    Sizes {
+    let sizes = Sizes {
         free: question.free,
         own: question.own,
-        counts,
-        named,
-        height,
+        counts: question.counts,
+        named: question.named,
+        height: question_height(&question.constants, question.named),
+    };
+    Searchable {
+        sizes,
+        clauses,
+        constants: &question.constants,
     }
 }
 
@@ -76,64 +69,52 @@ pub fn sizes_of(question: Question, constants: &[u64; 32]) -> Sizes
 
 // Decides satisfiability.
 fn decide_satisfiability(
-    clauses: &[u8; CLAUSE_BYTES],
-    sizes: Sizes,
-    constants: &[u64; 32],
+    question: &Searchable<'_>,
     firsts: &mut [u64; FIRST_WORDS],
     leaves: &mut [u64; LEAF_WORDS],
 ) -> Finding
-    requires { Readable clauses.now sizes.counts sizes.free sizes.own × (sizes.named < 2 ^ 32) × (sizes.height ≤ 5) }
-    ensures { DecidedAs satisfiability sizes clauses.now constants.now result firsts.new leaves.new }
+    ensures { DecidedAs satisfiability question.now result firsts.new leaves.new }
 {
-    if search::solve(clauses, sizes, constants, Search::First, firsts, leaves) {
-        return Finding::Satisfied;
+    if search::solve(question, Search::First, firsts, leaves) {
+        Finding::Satisfied
+    } else {
+        Finding::Unsatisfied
     }
-    Finding::Unsatisfied
 }
 
 // Decides an entailment: one pass says everything but the first words of a solution that misses a disequation.
 fn decide_entailment(
-    clauses: &[u8; CLAUSE_BYTES],
-    sizes: Sizes,
-    constants: &[u64; 32],
+    question: &Searchable<'_>,
     firsts: &mut [u64; FIRST_WORDS],
     leaves: &mut [u64; LEAF_WORDS],
 ) -> Finding
-    requires { Readable clauses.now sizes.counts sizes.free sizes.own × (sizes.named < 2 ^ 32) × (sizes.height ≤ 5) }
-    ensures { DecidedAs entailment sizes clauses.now constants.now result firsts.new leaves.new }
+    ensures { DecidedAs entailment question.now result firsts.new leaves.new }
 {
-    let survey = search::survey_leaves(clauses, sizes, constants, firsts, leaves);
-    if !survey.solvable {
-        return Finding::Vacuous;
+    match search::survey_leaves(question, firsts, leaves) {
+        Survey::Unsolvable => Finding::Vacuous,
+        Survey::Unmet => Finding::Unmet,
+        Survey::Missed(j) => {
+            search::solve(question, Search::Missed(j), firsts, leaves);
+            Finding::Missed(j)
+        }
+        Survey::Entailed => Finding::Entailed,
     }
-    if survey.unmet {
-        return Finding::Unmet;
-    }
-    let j = survey.missed;
-    if j < sizes.counts[3] {
-        search::solve(clauses, sizes, constants, Search::Missed(j), firsts, leaves);
-        return Finding::Missed(j);
-    }
-    Finding::Entailed
 }
 
-// Decides a question that was read, whose numbers, clauses and constants are lent with a table for the first words of the solution to show.
+// Decides a question, whose kind is given, with a table for the first words of the solution to show.
 // In the compiled code it stays apart from its caller: its tables are not on the stack while the question is read.
 #[inline(never)]
 pub fn decide(
-    question: Question,
-    sizes: Sizes,
-    clauses: &[u8; CLAUSE_BYTES],
-    constants: &[u64; 32],
+    question: &Searchable<'_>,
+    kind: Kind,
     firsts: &mut [u64; FIRST_WORDS],
     leaves: &mut [u64; LEAF_WORDS],
 ) -> Finding
-    requires { Standing question clauses.now × (sizes ≡ sizes_of question) × (constants.now ≡ question.constants) }
-    ensures { (q : Asked) → Stands (kind_value question.kind) (stored_of question clauses.now) q → WellFormed q → Decided (stored_of question clauses.now) q result firsts.new leaves.new }
+    ensures { (q : Asked) → Stands (kind_value kind) (posed question.now) q → question.now.sizes.height ≡ question_height q → Decided (posed question.now) q result firsts.new leaves.new }
 {
-    match question.kind {
-        Kind::Satisfiability => decide_satisfiability(clauses, sizes, constants, firsts, leaves),
-        Kind::Entailment => decide_entailment(clauses, sizes, constants, firsts, leaves),
+    match kind {
+        Kind::Satisfiability => decide_satisfiability(question, firsts, leaves),
+        Kind::Entailment => decide_entailment(question, firsts, leaves),
     }
 }
 
@@ -144,12 +125,8 @@ pub fn is_shown(finding: Finding) -> bool
     ensures { result ≡ shows (answer_of finding) }
 {
     match finding {
-        Finding::Satisfied => true,
-        Finding::Unsatisfied => false,
-        Finding::Vacuous => false,
-        Finding::Entailed => false,
-        Finding::Unmet => true,
-        Finding::Missed(_) => true,
+        Finding::Satisfied | Finding::Unmet | Finding::Missed(_) => true,
+        Finding::Unsatisfied | Finding::Vacuous | Finding::Entailed => false,
     }
 }
 
@@ -158,12 +135,11 @@ fn search_of(finding: Finding) -> Search
     ensures { result ≡ search_of finding }
 {
     match finding {
-        Finding::Satisfied => Search::First,
-        Finding::Unsatisfied => Search::First,
-        Finding::Vacuous => Search::First,
-        Finding::Entailed => Search::First,
         Finding::Unmet => Search::Unmet,
         Finding::Missed(j) => Search::Missed(j),
+        Finding::Satisfied | Finding::Unsatisfied | Finding::Vacuous | Finding::Entailed => {
+            Search::First
+        }
     }
 }
 
@@ -172,9 +148,8 @@ fn extra_of(search: Search) -> usize
     ensures { result ≡ extra_of search }
 {
     match search {
-        Search::First => 0,
         Search::Unmet => 1,
-        Search::Missed(_) => 0,
+        Search::First | Search::Missed(_) => 0,
     }
 }
 
@@ -185,8 +160,7 @@ fn room_of(search: Search, d: usize) -> usize
 {
     match search {
         Search::First => d,
-        Search::Unmet => d + 1,
-        Search::Missed(_) => d + 1,
+        Search::Unmet | Search::Missed(_) => d + 1,
     }
 }
 

@@ -1,36 +1,29 @@
 // The printing program: reads one question from standard input, asks it, and prints the answer.
 #![tactic(auto)]
 
-ghost use Rattle.std.specs.Prelude.{◌≡◌, cond, ◌≤◌, length, eqb, get_or};
+ghost use Rattle.std.specs.Prelude.{◌≡◌, cond, None, Some};
 ghost use Rattle.shares.specs.Constant.{constant_levels};
+ghost use Rattle.systems.specs.Answers.{shows};
 ghost use Rattle.rows.specs.Rows.{row_levels};
 ghost use Rattle.text.specs.Texts.{text_after};
+ghost use Rattle.decide.specs.Decision.{answer_of};
 
-use asking::Outcome;
+use asking::{Answer, Refusal};
+use decide::Finding;
 use std::io;
 use std::io::ErrorKind;
 use text::LONGEST_TEXT;
 
-// The byte at an offset, 0 past the end.
-fn byte_at(bytes: &[u8], i: usize) -> u8
-    ensures { result ≡ get_or bytes.now i 0 }
+// The height of the solution that is shown, where one is.
+fn shown_height(answer: Answer) -> Option<usize>
+    ensures { result ≡ cond (shows (answer_of answer.finding)) (Some answer.height) None }
 {
-    bytes.get(i).copied().unwrap_or(0)
-}
-
-// Whether a solution is shown: with a yes of kind 0 (verdict 1), with a no of kind 1 (verdict 2).
-fn is_shown(kind: u8, verdict: u8) -> bool
-    ensures { result ≡ cond (eqb kind 0) (eqb verdict 1) (eqb verdict 2) }
-{
-    if kind == 0 {
-        return verdict == 1;
-    }
-    verdict == 2
+    decide::is_shown(answer.finding).then_some(answer.height)
 }
 
 // Each of these writes to standard output, and stops at the first write that fails.
-fn say_verdict(rt: &impl Print, verdict: u8) -> io::Result<()> {
-    if verdict == 1 {
+fn say_verdict(rt: &impl Print, answer: Answer) -> io::Result<()> {
+    if answer.is_yes() {
         return rt.write_all(b"answer yes\n");
     }
     rt.write_all(b"answer no\n")
@@ -65,33 +58,35 @@ fn say_solution(rt: &impl Print, answer: &[u8], free: usize, height: usize) -> i
     say_rows(rt, answer, free, &mut text)
 }
 
-// Only reason 3 has a disequation number.
-fn say_reason(rt: &impl Print, reason: u8, number: usize) -> io::Result<()> {
-    if reason == 3 {
-        return println!(rt; "reason 3 {number}");
+// The reason, of an entailment alone. Only reason 3 has a disequation number.
+fn say_reason(rt: &impl Print, answer: Answer) -> io::Result<()> {
+    match answer.finding {
+        Finding::Satisfied | Finding::Unsatisfied => Ok(()),
+        Finding::Missed(j) => println!(rt; "reason 3 {j}"),
+        _ => println!(rt; "reason {}", answer.reason()),
     }
-    println!(rt; "reason {reason}")
 }
 
-// What is printed for a question. Bytes 1 and 2 of an accepted one are its kind and how many free variables it has.
-fn say(rt: &impl Print, question: &[u8], answer: &[u8], outcome: Outcome) -> io::Result<()> {
-    if outcome.verdict == 0 {
-        return println!(rt; "refused {} at {}", outcome.refusal, outcome.place);
+// What is printed for a question that has so many free variables and is answered.
+fn say_answer(rt: &impl Print, free: usize, rows: &[u8], answer: Answer) -> io::Result<()> {
+    say_verdict(rt, answer)?;
+    if let Some(height) = shown_height(answer) {
+        say_solution(rt, rows, free, height)?;
     }
-    let kind = byte_at(question, 1);
-    say_verdict(rt, outcome.verdict)?;
-    if is_shown(kind, outcome.verdict) {
-        say_solution(
-            rt,
-            answer,
-            usize::from(byte_at(question, 2)),
-            outcome.height,
-        )?;
+    say_reason(rt, answer)
+}
+
+// What is printed for any question.
+fn say(
+    rt: &impl Print,
+    free: usize,
+    rows: &[u8],
+    outcome: Result<Answer, Refusal>,
+) -> io::Result<()> {
+    match outcome {
+        Ok(answer) => say_answer(rt, free, rows, answer),
+        Err(refusal) => println!(rt; "refused {} at {}", u8::from(refusal), refusal.place()),
     }
-    if kind == 1 {
-        return say_reason(rt, outcome.reason, outcome.number);
-    }
-    Ok(())
 }
 
 fn main(rt: HostRuntime) {
@@ -105,7 +100,8 @@ fn main(rt: HostRuntime) {
         return;
     }
     let outcome = asking::ask(&question[..n], &mut answer, &mut work);
-    if say(&rt, &question[..n], &answer, outcome).is_err() {
+    // Byte 2 of a question that is answered says how many free variables it has.
+    if say(&rt, usize::from(question[2]), &answer, outcome).is_err() {
         let _ = rt.eprintln("zimorgal_cli: the answer could not be written");
     }
 }

@@ -1,15 +1,18 @@
 -- Each refusal is that of what was read and of the lengths, an answer that of what was decided.
-use Rattle.std.proofs.Common.{length, refl}
+use Rattle.std.proofs.Common.{Err, refl, ap, ◌∙◌}
+use Rattle.std.proofs.lemmas.Result.{err_from_is_err_and}
+use Rattle.asking.specs.Told.{told}
 use Rattle.format.proofs.Callers.{answer_taken, answer_refused, levels_are}
 use Rattle.asking.specs.AskingLaws.{asked_refused, asked_11, asked_12}
 use Rattle.asking.proofs.AskedRight.{given_refused}
 use Rattle.asking.proofs.DecidedLaws.{given_answer, sized_for, decided_for}
 use Rattle.asking.proofs.ask.Goals as goal
 
-pub returns-then-reading-ne0 : goal.returns-then-reading-ne0
-returns-then-reading-ne0 c =
-    given_refused c.args.question.now _ _ _ _
-    (asked_refused c.args.question.now _ _ _ _ (answer_refused c.args.question.now _ c.read-reading.ensures.answer c.if-reading-ne0.true)) _ refl
+pub returns-in_err-read : goal.returns-in_err-read
+returns-in_err-read c =
+    let refused = err_from_is_err_and c.from_residual.result c.from_residual.ensures.1 in
+    given_refused c.args.question.now _ _ _ _ (asked_refused c.args.question.now _ _ _ _ (answer_refused c.args.question.now _ _ c.in_err-read.ensures.answer)) _
+    (ap told (refused.1 ∙ ap Err refused.2))
 
 pub returns-then-answer-lt-ANSWER_BYTES : goal.returns-then-answer-lt-ANSWER_BYTES
 returns-then-answer-lt-ANSWER_BYTES c =
