@@ -72,7 +72,8 @@ fn mark(present: &mut [u64; 64], choice: usize)
     present[choice / 64] |= 1 << (choice % 64);
 }
 
-// Marks the choices at the given leaves of word w. Each turn takes out every leaf of one choice, so no iterator over the bits of the word fits.
+// Marks the choices at the given leaves of word w. Each turn takes out every leaf of one choice, so no iterator over
+// the bits of the word fits.
 fn mark_word(
     table: &[u64; TABLE_WORDS],
     free: usize,
@@ -143,8 +144,9 @@ fn still_wanted(x: u64, wanted: u64, left: &[u64; 32], count: usize) -> u64
     r
 }
 
-// What is still wanted once the given choices of word w are looked at, with the values that the table of terms has: bit j for each of the second system's
-// disequations that no own choice so far meets beside its positive clauses. None if some free choice has no own choice that meets these.
+// What is still wanted once the given choices of word w are looked at, with the values that the table of terms has: bit
+// j for each of the second system's disequations that no own choice so far meets beside its positive clauses. None if
+// some free choice has no own choice that meets these.
 fn look_word(
     question: &Searchable<'_>,
     terms: &mut [u64; 64],
@@ -169,7 +171,8 @@ fn look_word(
     Some(still_wanted(x, wanted, &left, sizes.counts[3]))
 }
 
-// What is still wanted once all choices of a set are looked at, with those values; None if some choice of it has no own choice.
+// What is still wanted once all choices of a set are looked at, with those values; None if some choice of it has no own
+// choice.
 fn look_words(
     question: &Searchable<'_>,
     terms: &mut [u64; 64],
@@ -185,7 +188,8 @@ fn look_words(
     Some(rest)
 }
 
-// What is still wanted once the free choices below all leaves with the constants' values of leaf b are looked at; they are already if an earlier leaf has these.
+// What is still wanted once the free choices below all leaves with the constants' values of leaf b are looked at; they
+// are already if an earlier leaf has these.
 fn look_leaf(
     question: &Searchable<'_>,
     table: &[u64; TABLE_WORDS],
@@ -198,7 +202,7 @@ fn look_leaf(
     ensures placed_within { PlacedWithin question.now.sizes.free question.now.sizes.own question.now.sizes.named terms.new }
     ensures by_index { (start : ℕ) → KeysOf (posed question.now) keys.now → LeavesLooked (posed question.now) table.now b start (Some wanted) → LeavesLooked (posed question.now) table.now (b + 1) start result }
 {
-    if pass::first_like(keys, keys[b], b) < b {
+    if pass::first_like(keys, keys[b], b).is_some() {
         return Some(wanted);
     }
     let mut present = [0u64; 64];

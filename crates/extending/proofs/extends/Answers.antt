@@ -1,5 +1,6 @@
--- `extending::extends`: at first all disequations are wanted; each leaf of the constants is looked at, up to one that fails.
-use Rattle.std.proofs.Common.{◌+◌, ◌-◌, ◌^◌, get_or, refl, sym, arith}
+-- `extending::extends`: at first all disequations are wanted; each leaf of the constants is looked at, up to one that
+-- fails.
+use Rattle.std.proofs.Common.{◌+◌, ◌-◌, ◌^◌, get_or, sym, arith}
 use Rattle.std.proofs.Math.ListN.{get_or-replicate}
 use Rattle.std.proofs.Math.Pow.{pow-lt}
 use Rattle.shares.specs.BitLaws.{bit_zero}
@@ -10,7 +11,7 @@ use Rattle.extending.specs.LookLaws.{leaves_start, leaves_unmet, leaves_all}
 use Rattle.extending.proofs.extends.Goals as goal
 
 pub start_terms-requires : goal.start_terms-requires
-start_terms-requires c = (c.args.question.now.readable.variables, refl, λ t l. get_or-replicate 64 t 0 0 l)
+start_terms-requires c = (c.args.question.now.readable.variables, λ t l. get_or-replicate 64 t 0 0 l)
 
 pub loop-b-init : goal.loop-b-init
 loop-b-init c =

@@ -1,15 +1,22 @@
--- `extending::look_leaf`: an earlier leaf has the values of leaf b, or all choices below leaves that look like it are looked at.
-use Rattle.std.proofs.Common.{arith}
+-- `extending::look_leaf`: an earlier leaf has the values of leaf b, or all choices below leaves that look like it are
+-- looked at.
+use Rattle.std.proofs.Common.{◌≡◌, ℕ, Option, Some, None, IfSome, is_some, true, sym, ◌∙◌, arith}
+use Rattle.std.proofs.lemmas.Bool.{false≢true}
 use Rattle.words.specs.Table.{Within}
 use Rattle.steps.specs.Steps.{posed}
 use Rattle.extending.specs.LookLaws.{leaf_known, leaf_looked}
 use Rattle.extending.proofs.look_leaf.Goals as goal
 
-pub returns-then-first_like-b-clause-by_index : goal.returns-then-first_like-b-clause-by_index
-returns-then-first_like-b-clause-by_index c start K L =
+-- the value that is there
+there : {P : ℕ → Type 0} (o : Option ℕ) → IfSome o P → is_some o ≡ true → (a : ℕ) × P a
+there None h e = absurd (false≢true e)
+there (Some a) h e = (a, h)
+
+pub returns-then-is_some-clause-by_index : goal.returns-then-is_some-clause-by_index
+returns-then-is_some-clause-by_index c start K L =
     let a = c.args in
-    leaf_known (posed a.question.now) a.table.now a.keys.now a.b start a.wanted c.requires.0 K L
-    c.first_like.result c.if-first_like-b.true (c.first_like.ensures.1 c.if-first_like-b.true)
+    let (e, (l, same)) = there _ c.first_like.ensures (sym c.is_some.ensures ∙ c.if-is_some.true) in
+    leaf_known (posed a.question.now) a.table.now a.keys.now a.b start a.wanted c.requires.0 K L e l same
 
 pub returns-clause-placed_within : goal.returns-clause-placed_within
 returns-clause-placed_within c =

@@ -1,4 +1,5 @@
--- `extending::look_word`: without a choice nothing is asked; else what is missing says whether one fails, and what the choices leave.
+-- `extending::look_word`: without a choice nothing is asked; else what is missing says whether one fails, and what the
+-- choices leave.
 use Rattle.std.proofs.Common.{◌%◌, T, subst, ap, ◌∙◌, arith}
 use Rattle.shares.specs.Constant.{bit}
 use Rattle.shares.specs.BitLaws.{bit_zero}

@@ -1,4 +1,5 @@
--- `extending::mark_word`: the lowest leaf of the rest is one of those with its choice, so each turn makes the rest smaller.
+-- `extending::mark_word`: the lowest leaf of the rest is one of those with its choice, so each turn makes the rest
+-- smaller.
 use Rattle.std.proofs.Common.{◌+◌, ◌-◌, ◌*◌, ◌^◌, arith, rules}
 use Rattle.std.proofs.lemmas.Nat.{and_le_l}
 use Rattle.std.proofs.Math.Pow.{pow_mono}
