@@ -2,9 +2,9 @@
 // ones, so that where there are fewer than six free variables a word holds own choices too.
 #![tactic(auto)]
 
-ghost use Rattle.std.specs.Prelude.{◌≡◌, ◌&&◌, not, ℕ, ◌+◌, ◌*◌, ◌%◌, ◌<◌, ◌≤◌, T, length, get_or};
+ghost use Rattle.std.specs.Prelude.{◌≡◌, ◌&&◌, not, ℕ, ◌+◌, ◌*◌, ◌%◌, ◌^◌, ◌<◌, ◌≤◌, T, length, get_or};
 ghost use Rattle.shares.specs.Constant.{bit};
-ghost use Rattle.words.specs.Clause.{clause_test, Clauses};
+ghost use Rattle.words.specs.Clause.{clause_test};
 ghost use Rattle.words.specs.Choices.{word_count};
 ghost use Rattle.words.specs.Table.{Terms};
 ghost use Rattle.beside.specs.Beside.{Merged, Shared, SameFree, Taken, TakenAll, SweptAll, Missing, Readable};
@@ -25,6 +25,17 @@ pub struct Sizes {
     pub height: usize,
 }
 
+// A question that can be searched: its numbers, and its clauses and constants where they are stored.
+#[derive(Clone, Copy)]
+pub struct Searchable<'a> {
+    pub sizes: Sizes,
+    pub clauses: &'a [u8; CLAUSE_BYTES],
+    pub constants: &'a [u64; 32],
+    pub ghost readable: { Readable clauses.now sizes.counts sizes.free sizes.own },
+    pub ghost named: { sizes.named < 2 ^ 32 },
+    pub ghost height: { sizes.height ≤ 5 },
+}
+
 // The word turned by k bits: bit i of the result is bit i + k of x, counted round.
 fn turned(x: u64, k: usize) -> u64
     requires { (0 < k) × (k < 64) }
@@ -37,14 +48,9 @@ fn turned(x: u64, k: usize) -> u64
 pub fn merge_word(x: u64, n: usize) -> u64
     ensures { Merged n x result }
 {
-    if 6 <= n {
-        return x;
-    }
     let mut r = x;
-    let mut p = n;
-    while p < 6 {
+    for p in n..6 {
         r = r | turned(r, 1 << p);
-        p += 1;
     }
     r
 }
@@ -56,32 +62,15 @@ fn share_word(x: u64, n: usize) -> u64
     !merge_word(!x, n)
 }
 
-// The same of the first `count` words.
-fn share_words(words: &mut [u64], count: usize, n: usize)
-    requires { count ≤ length words.old }
-    ensures by_index { (j : ℕ) → j < count → Shared n (get_or words.old j 0) (get_or words.new j 0) }
-    ensures by_index_2 { (k : ℕ) → count ≤ k → get_or words.new k 0 ≡ get_or words.old k 0 }
+// The same of each word.
+fn share_words(words: &mut [u64], n: usize)
+    ensures { (j : ℕ) → j < length words.old → Shared n (get_or words.old j 0) (get_or words.new j 0) }
 {
     if 6 <= n {
         return;
     }
-    let mut j: usize = 0;
-    while j < count {
-        words[j] = share_word(words[j], n);
-        j += 1;
-    }
-}
-
-// Puts x into the first `count` words.
-fn put_all(words: &mut [u64], count: usize, x: u64)
-    requires { count ≤ length words.old }
-    ensures by_index { (j : ℕ) → j < count → get_or words.new j 0 ≡ x }
-    ensures by_index_2 { (k : ℕ) → count ≤ k → get_or words.new k 0 ≡ get_or words.old k 0 }
-{
-    let mut j: usize = 0;
-    while j < count {
-        words[j] = x;
-        j += 1;
+    for word in words.iter_mut() {
+        *word = share_word(*word, n);
     }
 }
 
@@ -96,21 +85,20 @@ fn own_words(n: usize, m: usize) -> usize
     basics::power(m)
 }
 
-// Takes the choices of y in which the clause at byte `at` fails out of word j, which is wanted. Bit j of `wanted` stays set only if some choice is left.
+// Takes the choices of y in which disequation j of the second system holds out of word j, which is wanted. Bit j of `wanted` stays set only if some
+// choice is left.
 fn take_one(
+    question: &Searchable<'_>,
     terms: &[u64; 64],
-    clauses: &[u8; CLAUSE_BYTES],
-    at: usize,
     y: u64,
     wanted: u64,
     j: usize,
     left: &mut [u64],
 ) -> u64
-    requires j_bound { (j < 32) × (32 ≤ length left.old) × T (bit wanted j) }
-    requires clauses { Clauses clauses.now at 1 }
-    ensures { Taken j (λ i. bit y i && not (clause_test clauses.now (λ t. bit (get_or terms.now t 0) i) at)) wanted left.old result left.new }
+    requires { (j < get_or question.now.sizes.counts 3 0) × (32 ≤ length left.old) × T (bit wanted j) }
+    ensures { Taken j (λ i. bit y i && not (clause_test question.now.clauses.now (λ t. bit (get_or terms.now t 0) i) (640 + 4 * j))) wanted left.old result left.new }
 {
-    let z = left[j] & !words::failing_word(terms, clauses, at, y);
+    let z = left[j] & !words::failing_word(terms, question.clauses, SECOND_DISEQUATIONS + 4 * j, y);
     left[j] = z;
     if z == 0 {
         return wanted & !(1 << j);
@@ -118,29 +106,23 @@ fn take_one(
     wanted
 }
 
-// Takes the choices of y in which disequation j of the second system holds out of word j, for each j whose bit of `wanted` is set. A bit stays set
-// only if some choice is left.
+// The same of each j whose bit of `wanted` is set.
 fn take_all(
+    question: &Searchable<'_>,
     terms: &[u64; 64],
-    clauses: &[u8; CLAUSE_BYTES],
-    count: usize,
     y: u64,
     wanted: u64,
     left: &mut [u64],
 ) -> u64
-    requires count_bound { (count ≤ 32) × (32 ≤ length left.old) }
-    requires clauses { Clauses clauses.now 640 count }
-    ensures { TakenAll count (λ j i. bit y i && not (clause_test clauses.now (λ t. bit (get_or terms.now t 0) i) (640 + 4 * j))) wanted left.old result left.new }
+    requires { 32 ≤ length left.old }
+    ensures { TakenAll (get_or question.now.sizes.counts 3 0) (λ j i. bit y i && not (clause_test question.now.clauses.now (λ t. bit (get_or terms.now t 0) i) (640 + 4 * j))) wanted left.old result left.new }
 {
     if y == 0 {
         return wanted;
     }
     let mut r = wanted;
-    let mut rest = words::first_bits(wanted, count);
-    while rest != 0 {
-        let j = words::lowest(rest);
-        r = take_one(terms, clauses, SECOND_DISEQUATIONS + 4 * j, y, r, j, left);
-        rest = words::without_lowest(rest);
+    for j in words::bits(words::first_bits(wanted, question.sizes.counts[3])) {
+        r = take_one(question, terms, y, r, j, left);
     }
     r
 }
@@ -148,35 +130,36 @@ fn take_all(
 // Goes over the words beside word w: the result has the choices of x that meet the second system's positive clauses in none of them, and word j,
 // for each j whose bit of `wanted` is set, those of x that meet them and disequation j in none. Stops as soon as no choice is left anywhere.
 fn sweep(
+    question: &Searchable<'_>,
     terms: &mut [u64; 64],
-    clauses: &[u8; CLAUSE_BYTES],
-    sizes: Sizes,
     w: usize,
     x: u64,
     wanted: u64,
     left: &mut [u64],
 ) -> u64
-    requires readable { Readable clauses.now sizes.counts sizes.free sizes.own }
-    requires w_bound { (w < word_count sizes.free) × (32 ≤ length left.old) × ((j : ℕ) → j < get_or sizes.counts 3 0 → get_or left.old j 0 ≡ x) }
-    ensures by_index { (values : ℕ) → Terms sizes.free sizes.own values w terms.old → SweptAll clauses.now sizes.counts sizes.free sizes.own values w x wanted result terms.new left.new }
+    requires w_bound { (w < word_count question.now.sizes.free) × (32 ≤ length left.old) × ((j : ℕ) → j < get_or question.now.sizes.counts 3 0 → get_or left.old j 0 ≡ x) }
+    ensures by_index { (values : ℕ) → Terms question.now.sizes.free question.now.sizes.own values w terms.old → SweptAll question.now.clauses.now question.now.sizes.counts question.now.sizes.free question.now.sizes.own values w x wanted result terms.new left.new }
     ensures by_index_2 { (k : ℕ) → 32 ≤ k → get_or left.new k 0 ≡ get_or left.old k 0 }
 {
+    let sizes = question.sizes;
     let words = words::word_count(sizes.free);
     let total = own_words(sizes.free, sizes.own);
     let mut none = x;
     let mut going = wanted;
-    let mut o: usize = 0;
-    while o < total {
-        if none == 0 {
-            if going == 0 {
-                return 0;
-            }
+    for o in 0..total {
+        if none == 0 && going == 0 {
+            return 0;
         }
         words::move_terms(sizes.free, sizes.own, o * words + w, terms);
-        let y = words::section_word(terms, clauses, SECOND_POSITIVES, sizes.counts[2], x);
+        let y = words::section_word(
+            terms,
+            question.clauses,
+            SECOND_POSITIVES,
+            sizes.counts[2],
+            x,
+        );
         none = none & !y;
-        going = take_all(terms, clauses, sizes.counts[3], y, going, left);
-        o += 1;
+        going = take_all(question, terms, y, going, left);
     }
     none
 }
@@ -184,23 +167,22 @@ fn sweep(
 // The choices of x, of word w, beside which no own choice meets the second system's positive clauses. Word j of `left`, for each j whose bit of `wanted`
 // is set, becomes those beside which none meets them and disequation j; words from 32 on stay as they are.
 pub fn missing(
+    question: &Searchable<'_>,
     terms: &mut [u64; 64],
-    clauses: &[u8; CLAUSE_BYTES],
-    sizes: Sizes,
     w: usize,
     x: u64,
     wanted: u64,
     left: &mut [u64],
 ) -> u64
-    requires readable { Readable clauses.now sizes.counts sizes.free sizes.own }
-    requires w_bound { (w < word_count sizes.free) × (32 ≤ length left.old) × SameFree sizes.free x }
-    ensures by_index { (values : ℕ) → Terms sizes.free sizes.own values w terms.old → Terms sizes.free sizes.own values w terms.new × Missing clauses.now sizes.counts sizes.free sizes.own values w x wanted result left.new }
+    requires w_bound { (w < word_count question.now.sizes.free) × (32 ≤ length left.old) × SameFree question.now.sizes.free x }
+    ensures by_index { (values : ℕ) → Terms question.now.sizes.free question.now.sizes.own values w terms.old → Terms question.now.sizes.free question.now.sizes.own values w terms.new × Missing question.now.clauses.now question.now.sizes.counts question.now.sizes.free question.now.sizes.own values w x wanted result left.new }
     ensures by_index_2 { (k : ℕ) → 32 ≤ k → get_or left.new k 0 ≡ get_or left.old k 0 }
 {
+    let sizes = question.sizes;
     let count = sizes.counts[3];
-    put_all(left, count, x);
-    let none = sweep(terms, clauses, sizes, w, x, wanted, left);
+    left[..count].fill(x);
+    let none = sweep(question, terms, w, x, wanted, left);
     words::move_terms(sizes.free, sizes.own, w, terms);
-    share_words(left, count, sizes.free);
+    share_words(&mut left[..count], sizes.free);
     share_word(none, sizes.free)
 }

@@ -2,16 +2,21 @@
 // disequation of the second system which disequations of the first were met.
 #![tactic(auto)]
 
-ghost use Rattle.std.specs.Prelude.{◌≡◌, ◌&&◌, ◌||◌, not, ℕ, ◌+◌, ◌*◌, ◌<◌, ◌≤◌, T, eqb, length, get_or};
+ghost use Rattle.std.specs.Prelude.{◌≡◌, ◌&&◌, ◌||◌, not, ℕ, ◌+◌, ◌*◌, ◌<◌, ◌≤◌, T, eqb, get_or};
 ghost use Rattle.shares.specs.Constant.{bit};
 ghost use Rattle.words.specs.Clause.{clause_test, Clauses};
 ghost use Rattle.entries.specs.Entry.{Kept, KeptAll, common, InAny, Settling, Marked, MarkedAll};
 
 use basics::{CLAUSE_BYTES, FIRST_DISEQUATIONS};
+use words::FIRST_WORDS;
+
+// The rows of a leaf are so many words: of up to 32 disequations of the second system the choices left, of up to 32 of the first the choices in which they
+// hold, and a mark for each of the second.
+pub const ROWS: usize = 96;
 
 // Keeps word number `turn` as that of search e, with the choices y in it that pass, if there are any and the search has found none yet.
-pub fn keep_word(e: usize, turn: usize, y: u64, met: u64, firsts: &mut [u64]) -> u64
-    requires { (e < 33) × (length firsts.old ≡ 66) }
+pub fn keep_word(e: usize, turn: usize, y: u64, met: u64, firsts: &mut [u64; FIRST_WORDS]) -> u64
+    requires { e < 33 }
     ensures { Kept e turn (bit y) met firsts.old result firsts.new }
 {
     if basics::digit(met, e) {
@@ -33,9 +38,9 @@ fn keep_one(
     turn: usize,
     x: u64,
     met: u64,
-    firsts: &mut [u64],
+    firsts: &mut [u64; FIRST_WORDS],
 ) -> u64
-    requires i_bound { (i < 33) × (length firsts.old ≡ 66) }
+    requires i_bound { i < 33 }
     requires clauses { Clauses clauses.now (256 + 4 * i) 1 }
     ensures { Kept i turn (λ k. bit x k && not (clause_test clauses.now (λ t. bit (get_or terms.now t 0) k) (256 + 4 * i))) met firsts.old result firsts.new }
 {
@@ -51,18 +56,15 @@ pub fn keep_all(
     turn: usize,
     x: u64,
     met: u64,
-    firsts: &mut [u64],
+    firsts: &mut [u64; FIRST_WORDS],
 ) -> u64
-    requires count_bound { (count ≤ 31) × (length firsts.old ≡ 66) }
+    requires count_bound { count ≤ 31 }
     requires clauses { Clauses clauses.now 256 count }
     ensures { KeptAll count turn (λ i k. bit x k && not (clause_test clauses.now (λ t. bit (get_or terms.now t 0) k) (256 + 4 * i))) met firsts.old result firsts.new }
 {
     let mut r = met;
-    let mut rest = words::first_bits(!met, count);
-    while rest != 0 {
-        let i = words::lowest(rest);
+    for i in words::bits(words::first_bits(!met, count)) {
         r = keep_one(terms, clauses, i, turn, x, r, firsts);
-        rest = words::without_lowest(rest);
     }
     r
 }
@@ -73,21 +75,19 @@ pub fn fill_failing(
     clauses: &[u8; CLAUSE_BYTES],
     count: usize,
     x: u64,
-    rows: &mut [u64],
+    rows: &mut [u64; ROWS],
 ) -> u64
-    requires count_bound { (count ≤ 32) × (length rows.old ≡ 96) }
+    requires count_bound { count ≤ 32 }
     requires clauses { Clauses clauses.now 256 count }
     ensures by_index { (i : ℕ) → i < count → (k : ℕ) → k < 64 → bit (get_or rows.new (32 + i) 0) k ≡ (bit x k && not (clause_test clauses.now (λ t. bit (get_or terms.now t 0) k) (256 + 4 * i))) }
     ensures by_index_2 { (k : ℕ) → (32 ≤ k → 32 + count ≤ k) → get_or rows.new k 0 ≡ get_or rows.old k 0 }
     ensures in_any { InAny count result rows.new }
 {
     let mut any: u64 = 0;
-    let mut i: usize = 0;
-    while i < count {
+    for i in 0..count {
         let y = words::failing_word(terms, clauses, FIRST_DISEQUATIONS + 4 * i, x);
         rows[32 + i] = y;
-        any = any | y;
-        i += 1;
+        any |= y;
     }
     any
 }
@@ -97,14 +97,6 @@ fn have_common(a: u64, b: u64) -> bool
     ensures { result ≡ common a b }
 {
     a & b != 0
-}
-
-// Word k of some rows.
-fn word_of(rows: &[u64], k: usize) -> u64
-    requires { k < length rows.now }
-    ensures { result ≡ get_or rows.now k 0 }
-{
-    rows[k]
 }
 
 // Sets bit i of a mark, if two words have a bit in common.
@@ -119,29 +111,26 @@ fn mark_bit(a: u64, b: u64, i: usize, mark: u64) -> u64
 }
 
 // Sets bit i of a mark for each i below `count` whose word 32 + i has a bit in common with word j.
-fn mark_row(rows: &[u64], j: usize, count: usize, mark: u64) -> u64
-    requires { (j < 32) × (count ≤ 32) × (length rows.now ≡ 96) }
+fn mark_row(rows: &[u64; ROWS], j: usize, count: usize, mark: u64) -> u64
+    requires { (j < 32) × (count ≤ 32) }
     ensures { (i : ℕ) → i < count → bit result i ≡ (bit mark i || common (get_or rows.now (32 + i) 0) (get_or rows.now j 0)) }
 {
-    let left = word_of(rows, j);
+    let left = rows[j];
     let mut r = mark;
-    let mut rest = words::first_bits(!mark, count);
-    while rest != 0 {
-        let i = words::lowest(rest);
-        r = mark_bit(word_of(rows, 32 + i), left, i, r);
-        rest = words::without_lowest(rest);
+    for i in words::bits(words::first_bits(!mark, count)) {
+        r = mark_bit(rows[32 + i], left, i, r);
     }
     r
 }
 
 // Mark j, which is word 64 + j, with bit i set for each i below `count` whose word 32 + i has a bit in common with word j. It is as it was where word j has
 // no bit of any of them.
-fn mark_of(rows: &[u64], any: u64, j: usize, count: usize) -> u64
-    requires { (j < 32) × (count ≤ 32) × (length rows.now ≡ 96) × InAny count any rows.now }
+fn mark_of(rows: &[u64; ROWS], any: u64, j: usize, count: usize) -> u64
+    requires { (j < 32) × (count ≤ 32) × InAny count any rows.now }
     ensures { (i : ℕ) → i < count → bit result i ≡ (bit (get_or rows.now (64 + j) 0) i || common (get_or rows.now (32 + i) 0) (get_or rows.now j 0)) }
 {
-    let mark = word_of(rows, 64 + j);
-    if have_common(any, word_of(rows, j)) {
+    let mark = rows[64 + j];
+    if have_common(any, rows[j]) {
         return mark_row(rows, j, count, mark);
     }
     mark
@@ -169,11 +158,11 @@ fn still_wanted(mark: u64, count: usize, wanted: u64, j: usize) -> u64
 
 // If word j is not empty: sets bit j of `here`, and adds to mark j, which is word 64 + j, the disequations of the first system that have a choice in common
 // with word j. Once its mark is full it is no longer wanted.
-fn mark_one(rows: &mut [u64], any: u64, count: usize, j: usize, marks: Marks) -> Marks
-    requires { (j < 32) × (count ≤ 32) × (length rows.old ≡ 96) × T (bit marks.wanted j) × InAny count any rows.old }
+fn mark_one(rows: &mut [u64; ROWS], any: u64, count: usize, j: usize, marks: Marks) -> Marks
+    requires { (j < 32) × (count ≤ 32) × T (bit marks.wanted j) × InAny count any rows.old }
     ensures { Marked j count marks.wanted marks.here rows.old result.wanted result.here rows.new }
 {
-    if word_of(rows, j) == 0 {
+    if rows[j] == 0 {
         return marks;
     }
     let mark = mark_of(rows, any, j, count);
@@ -186,21 +175,18 @@ fn mark_one(rows: &mut [u64], any: u64, count: usize, j: usize, marks: Marks) ->
 
 // The same for each disequation of the second system that is wanted. `any` has the bits of the first system's words.
 pub fn mark_all(
-    rows: &mut [u64],
+    rows: &mut [u64; ROWS],
     any: u64,
     first_count: usize,
     second_count: usize,
     marks: Marks,
 ) -> Marks
-    requires { (first_count ≤ 32) × (second_count ≤ 32) × (length rows.old ≡ 96) × InAny first_count any rows.old }
+    requires { (first_count ≤ 32) × (second_count ≤ 32) × InAny first_count any rows.old }
     ensures { MarkedAll second_count first_count marks.wanted marks.here rows.old result.wanted result.here rows.new }
 {
     let mut r = marks;
-    let mut rest = words::first_bits(marks.wanted, second_count);
-    while rest != 0 {
-        let j = words::lowest(rest);
+    for j in words::bits(words::first_bits(marks.wanted, second_count)) {
         r = mark_one(rows, any, first_count, j, r);
-        rest = words::without_lowest(rest);
     }
     r
 }

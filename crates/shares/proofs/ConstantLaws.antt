@@ -6,7 +6,7 @@ use Rattle.std.specs.Int.Bits.{bit_and, and_lt}
 use Rattle.std.proofs.lemmas.Nat.{or_disjoint, or_lt}
 use Rattle.std.proofs.Math.Dec.{not_T}
 use Rattle.shares.specs.Examples
-use Rattle.shares.specs.Test.{is_true, is_false, passes}
+use Rattle.shares.specs.Test.{is_true, is_false, of_false, passes}
 use Rattle.shares.specs.BelowLaws.{Below, some_intro, some_found}
 use Rattle.shares.specs.Tree.{Tree, leaf, Folded, height, leaf_at, join_leaf, join, leaf_test}
 use Rattle.shares.specs.declared.Way.TheVariants.{Holds}
@@ -107,3 +107,7 @@ module _ (k x y : ℕ) (hx : x < 2 ^ (2 ^ k)) (hy : y < 2 ^ (2 ^ k)) where
           → join (number_tree k x) (number_tree k y) ≡ cond (set_in_both (2 ^ k) x y) none (some (number_tree k (x + y)))
       go (inl t) = rw (is_true (set_in_both (2 ^ k) x y) t) (join_undefined_iff.1 ((shared_iff (2 ^ k) x y).0 t))
       go (inr t) = rw (is_false (set_in_both (2 ^ k) x y) t) (join_sum (apart (2 ^ k) x y hx hy t))
+
+-- the sum of two constants that share no bit, as the code has it
+pub sum_fits : (a b : ℕ) → set_in_both 32 a b ≡ false → a < 2 ^ 32 → b < 2 ^ 32 → a + b < 2 ^ 32
+sum_fits a b e ha hb = sum_lt 32 a b ha hb (of_false e)

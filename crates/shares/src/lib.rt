@@ -9,6 +9,7 @@ ghost use Rattle.shares.specs.Answer.{join_of};
 
 // The join of two constants, all leaves at once: none, where it is undefined, exactly where some bit is set in both, and otherwise
 // their sum.
+#[tactic(auto, using(crate::proofs::ConstantLaws::sum_fits))]
 pub fn join_constants(a: u32, b: u32) -> Option<u32>
     ensures tree { join_of constant_levels result ≡ join (number_tree constant_levels a) (number_tree constant_levels b) }
     ensures numbers { result ≡ cond (set_in_both (2 ^ constant_levels) a b) None (Some (a + b)) }

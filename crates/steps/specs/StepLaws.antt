@@ -1,5 +1,5 @@
 -- One word more of a leaf. Assumes nothing.
-use Rattle.std.specs.Prelude.{◌≡◌, refl, Bool, false, not, ◌&&◌, ◌||◌, List, [], ℕ, ◌+◌, ◌*◌, ◌/◌, ◌%◌, ◌≤◌, ◌<◌, T, get_or}
+use Rattle.std.specs.Prelude.{◌≡◌, Bool, false, not, ◌&&◌, ◌||◌, List, ℕ, ◌+◌, ◌*◌, ◌/◌, ◌%◌, ◌≤◌, ◌<◌, T, get_or}
 use Rattle.std.proofs.Common.{sym, ap, ap₂, ◌∙◌, subst, arith}
 use Rattle.std.proofs.Math.Bool.{or-false}
 use Rattle.std.proofs.Math.Arith.{digits_lt, digits_div, digits_mod}
@@ -22,7 +22,7 @@ use Rattle.steps.specs.Tests.{leaf_values, first_meets, first_differs, second_me
 use Rattle.steps.specs.Steps.{stored_by, on_pairs, meets_here, unmet_here, Settled, Second, Amid}
 use Rattle.steps.specs.TestLaws.{differs_bits}
 use Rattle.steps.specs.declared.Search.{Search}
-use Rattle.steps.specs.declared.Search.TheVariants.{First, Unmet, Missed}
+use Rattle.steps.specs.declared.Search.TheVariants.{Unmet, Missed}
 use Rattle.steps.specs.declared.Seen.{Seen}
 
 -- ---- pairs
@@ -37,13 +37,6 @@ pair_parts n b w k l m =
 pub on_pairs_lem : (S : Stored) (h b w k : ℕ) (f : ℕ → ℕ → Bool) → w < word_count S.free → k < 64
     → on_pairs S h f (64 * (b * word_count S.free + w) + k) ≡ f (leaf_values S h b) (64 * w + k)
 on_pairs_lem S h b w k f l m = let (e, r) = pair_parts S.free b w k l m in ap₂ (λ a z. f (leaf_values S h a) z) e r
-
--- no test of a leaf needs the constants themselves
-pub allowed_same : (sizes : Sizes) (clauses constants : List ℕ) (search : Search) (values z : ℕ)
-    → allowed_in (stored_by sizes clauses []) search values z ≡ allowed_in (stored_by sizes clauses constants) search values z
-allowed_same sizes clauses constants First values z = refl
-allowed_same sizes clauses constants Unmet values z = refl
-allowed_same sizes clauses constants (Missed j) values z = refl
 
 -- the word after word w
 next : (c b w : ℕ) → (b * c + w) + 1 ≡ b * c + (w + 1)
@@ -116,7 +109,7 @@ module _ (sizes : Sizes) (clauses constants : List ℕ) (h b w : ℕ) (search : 
     meeting : (i : ℕ) → i < get_or sizes.counts 1 0
         → WordOf (λ k. bit x k && not (clause_test clauses (λ t. bit (get_or terms t 0) k) (256 + 4 * i))) (on_pairs S h (meets_here S search i)) turn
     meeting i m k u =
-        ap₂ ◌&&◌ (bits k u) (differs_bits sizes clauses R values w terms table i m k u) ∙ sym (on_pairs_lem S h b w k (meets_here S search i) l u)
+        ap₂ ◌&&◌ (bits k u) (differs_bits sizes clauses constants R values w terms table i m k u) ∙ sym (on_pairs_lem S h b w k (meets_here S search i) l u)
 
     pub plain_after : Entry (allowed_in S search values) (w + 1) met₂ firsts₂ 32
     plain_after =
@@ -151,7 +144,7 @@ module _ (sizes : Sizes) (clauses constants : List ℕ) (h b w : ℕ) (search : 
 
     -- a search for an unmet choice
     module _ (e : search ≡ Unmet) (seen₃ : Seen) (firsts₃ rows₃ : List ℕ)
-        (Q : Second (stored_by sizes clauses []) values (record { word = w; turn = turn; choices = x }) (record { met = met₂; possible = seen.possible; here = seen.here; wanted = seen.wanted }) firsts₂ rows seen₃ firsts₃ rows₃)
+        (Q : Second (stored_by sizes clauses constants) values (record { word = w; turn = turn; choices = x }) (record { met = met₂; possible = seen.possible; here = seen.here; wanted = seen.wanted }) firsts₂ rows seen₃ firsts₃ rows₃)
         (possible_kept : seen₃.possible ≡ seen.possible)
         (met_kept : (k : ℕ) → (k ≡ 31 → ⊥) → bit seen₃.met k ≡ bit met₂ k) (firsts_kept : (k : ℕ) → (k ≡ 31 → ⊥) → number_at firsts₃ k ≡ number_at firsts₂ k) where
       before : T (not (bit seen₃.met 31)) → T (not (bit seen.met 31))

@@ -7,6 +7,7 @@ use Rattle.format.specs.Stored.{Stored, stored}
 use Rattle.words.specs.Choices.{word_count}
 use Rattle.words.specs.Table.{Terms, Within}
 use Rattle.beside.specs.declared.Sizes.{Sizes}
+use Rattle.beside.specs.declared.Searchable.{Searchable}
 use Rattle.entries.specs.Entry.{Entry, WordOf, FullMark}
 use Rattle.plans.specs.Pairs.{leaf_width}
 use Rattle.steps.specs.Tests.{leaf_values, first_meets, first_differs, second_meets, allowed_in}
@@ -18,6 +19,10 @@ use Rattle.steps.specs.declared.Allowed.{Allowed}
 -- what is stored of a question, from its numbers, its clauses' bytes and its constants
 abbrev pub stored_by : Sizes → List ℕ → List ℕ → Stored
 stored_by sizes clauses constants = stored clauses sizes.counts constants sizes.named sizes.free sizes.own
+
+-- what is stored of a question that can be searched
+abbrev pub posed : Searchable → Stored
+posed q = stored_by q.sizes q.clauses.now q.constants.now
 
 -- the table of terms is at word w, for some values of the constants
 abbrev pub Tabled : ℕ → ℕ → ℕ → List ℕ → Type 0

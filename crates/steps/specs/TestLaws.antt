@@ -1,5 +1,5 @@
 -- Laws of the tests at a leaf: only the digits of the free variables count, and the words of a table of terms have them. Assumes nothing.
-use Rattle.std.specs.Prelude.{◌≡◌, Bool, ◌&&◌, List, [], ℕ, ◌+◌, ◌*◌, ◌%◌, ◌^◌, ◌≤◌, ◌<◌, get_or}
+use Rattle.std.specs.Prelude.{◌≡◌, Bool, ◌&&◌, List, ℕ, ◌+◌, ◌*◌, ◌%◌, ◌^◌, ◌≤◌, ◌<◌, get_or}
 use Rattle.std.proofs.Common.{sym, ap₂, ◌∙◌, arith}
 use Rattle.std.proofs.Math.Path.{ap}
 use Rattle.std.proofs.Math.Bool.{not}
@@ -62,11 +62,11 @@ free_same n m values z t l =
 fixed_same : (n m values z t : ℕ) → n + m ≤ 12 → 12 ≤ t → term_value n m values z t ≡ term_value n 0 values z t
 fixed_same n m values z t h l = value_fixed n m n 0 values z z t (omega arith) (omega arith)
 
-module _ (sizes : Sizes) (clauses : List ℕ) (R : Readable clauses sizes.counts sizes.free sizes.own) (values w : ℕ) (terms : List ℕ)
+module _ (sizes : Sizes) (clauses constants : List ℕ) (R : Readable clauses sizes.counts sizes.free sizes.own) (values w : ℕ) (terms : List ℕ)
     (table : Terms sizes.free sizes.own values w terms) where
   -- the word of its positive clauses
   pub first_bits : (i : ℕ) → i < 64
-      → all_clauses clauses (λ t. bit (get_or terms t 0) i) 0 (get_or sizes.counts 0 0) ≡ first_meets (stored_by sizes clauses []) values (64 * w + i)
+      → all_clauses clauses (λ t. bit (get_or terms t 0) i) 0 (get_or sizes.counts 0 0) ≡ first_meets (stored_by sizes clauses constants) values (64 * w + i)
   unfolding all_pass all_clauses
   first_bits i l =
       table_section sizes.free sizes.own values w terms clauses table 0 (get_or sizes.counts 0 0) R.first_positive i l
@@ -77,7 +77,7 @@ module _ (sizes : Sizes) (clauses : List ℕ) (R : Readable clauses sizes.counts
 
   -- the word of its disequation j
   pub differs_bits : (j : ℕ) → j < get_or sizes.counts 1 0 → (i : ℕ) → i < 64
-      → not (clause_test clauses (λ t. bit (get_or terms t 0) i) (256 + 4 * j)) ≡ first_differs (stored_by sizes clauses []) values j (64 * w + i)
+      → not (clause_test clauses (λ t. bit (get_or terms t 0) i) (256 + 4 * j)) ≡ first_differs (stored_by sizes clauses constants) values j (64 * w + i)
   unfolding clause_fails
   differs_bits j k i l =
       ap not
@@ -85,18 +85,3 @@ module _ (sizes : Sizes) (clauses : List ℕ) (R : Readable clauses sizes.counts
       ∙ R.disequation_free j k (term_value sizes.free sizes.own values (64 * w + i)) (term_value sizes.free 0 values (64 * w + i))
       (λ t. free_same sizes.free sizes.own values (64 * w + i) t)
       (λ t. fixed_same sizes.free sizes.own values (64 * w + i) t R.variables))
-
--- ---- the searches are apart
-
-number : Search → ℕ
-number First = 0
-number Unmet = 1
-number (Missed j) = 2
-
-pub first_not_unmet : First ≡ Unmet → ⊥
-unfolding number
-first_not_unmet e = let z : ◌≡◌ {A = ℕ} 0 1 = ap number e in omega arith
-
-pub missed_not_unmet : (j : ℕ) → Missed j ≡ Unmet → ⊥
-unfolding number
-missed_not_unmet j e = let z : ◌≡◌ {A = ℕ} 2 1 = ap number e in omega arith

@@ -1,17 +1,16 @@
 // One word of choices at a leaf: which of them a search allows, and what is kept of them.
 #![tactic(auto)]
 
-ghost use Rattle.std.specs.Prelude.{◌≡◌, List, [], ℕ, ◌+◌, ◌*◌, ◌<◌, get_or};
+ghost use Rattle.std.specs.Prelude.{◌≡◌, ℕ, ◌+◌, ◌*◌, ◌<◌, get_or};
 ghost use Rattle.shares.specs.Constant.{bit};
 ghost use Rattle.words.specs.Choices.{word_count};
 ghost use Rattle.words.specs.Kept.{number_at};
 ghost use Rattle.words.specs.Table.{Terms};
-ghost use Rattle.beside.specs.Beside.{SameFree, Readable};
+ghost use Rattle.beside.specs.Beside.{SameFree};
 ghost use Rattle.steps.specs.Tests.{leaf_values, first_meets, allowed_in, Named};
-ghost use Rattle.steps.specs.Steps.{stored_by, Tabled, Settled, Amid, Second};
+ghost use Rattle.steps.specs.Steps.{posed, Tabled, Settled, Amid, Second};
 
-use basics::CLAUSE_BYTES;
-use beside::Sizes;
+use beside::Searchable;
 use entries::Marks;
 use words::FIRST_WORDS;
 
@@ -57,144 +56,131 @@ pub struct Allowed {
 
 // Of the choices x of word w those beside which no own choice meets the second system's positive clauses and its disequation j.
 fn missed_word(
+    question: &Searchable<'_>,
     terms: &mut [u64; 64],
-    clauses: &[u8; CLAUSE_BYTES],
-    sizes: Sizes,
     j: usize,
     w: usize,
     x: u64,
     rows: &mut [u64; 96],
 ) -> u64
-    requires readable { Readable clauses.now sizes.counts sizes.free sizes.own }
-    requires w_bound { (w < word_count sizes.free) × (j < get_or sizes.counts 3 0) × SameFree sizes.free x }
-    ensures { (values : ℕ) → Terms sizes.free sizes.own values w terms.old → ((i : ℕ) → i < 64 → bit x i ≡ first_meets (stored_by sizes clauses.now []) values (64 * w + i)) → Terms sizes.free sizes.own values w terms.new × ((i : ℕ) → i < 64 → bit result i ≡ allowed_in (stored_by sizes clauses.now []) (Search.Missed j) values (64 * w + i)) }
+    requires { (w < word_count question.now.sizes.free) × (j < get_or question.now.sizes.counts 3 0) × SameFree question.now.sizes.free x }
+    ensures { (values : ℕ) → Terms question.now.sizes.free question.now.sizes.own values w terms.old → ((i : ℕ) → i < 64 → bit x i ≡ first_meets (posed question.now) values (64 * w + i)) → Terms question.now.sizes.free question.now.sizes.own values w terms.new × ((i : ℕ) → i < 64 → bit result i ≡ allowed_in (posed question.now) (Search.Missed j) values (64 * w + i)) }
 {
     if x == 0 {
         return 0;
     }
-    beside::missing(terms, clauses, sizes, w, x, 1 << j, rows);
+    beside::missing(question, terms, w, x, 1 << j, rows);
     rows[j]
 }
 
 // The choices of word w that the first system's positive clauses allow.
-fn first_word(terms: &[u64; 64], clauses: &[u8; CLAUSE_BYTES], sizes: Sizes, w: usize) -> u64
-    requires readable { Readable clauses.now sizes.counts sizes.free sizes.own }
-    requires w_bound { (w < word_count sizes.free) × Tabled sizes.free sizes.own w terms.now }
-    ensures { SameFree sizes.free result × ((values : ℕ) → Terms sizes.free sizes.own values w terms.now → (i : ℕ) → i < 64 → bit result i ≡ first_meets (stored_by sizes clauses.now []) values (64 * w + i)) }
+fn first_word(question: &Searchable<'_>, terms: &[u64; 64], w: usize) -> u64
+    requires { (w < word_count question.now.sizes.free) × Tabled question.now.sizes.free question.now.sizes.own w terms.now }
+    ensures { SameFree question.now.sizes.free result × ((values : ℕ) → Terms question.now.sizes.free question.now.sizes.own values w terms.now → (i : ℕ) → i < 64 → bit result i ≡ first_meets (posed question.now) values (64 * w + i)) }
 {
-    words::section_word(terms, clauses, 0, sizes.counts[0], 0xFFFF_FFFF_FFFF_FFFF)
+    words::section_word(
+        terms,
+        question.clauses,
+        0,
+        question.sizes.counts[0],
+        0xFFFF_FFFF_FFFF_FFFF,
+    )
 }
 
 // The choices of word w that the search allows.
 fn allowed_word(
+    question: &Searchable<'_>,
     terms: &mut [u64; 64],
-    clauses: &[u8; CLAUSE_BYTES],
-    sizes: Sizes,
     search: Search,
     w: usize,
     rows: &mut [u64; 96],
 ) -> u64
-    requires readable { Readable clauses.now sizes.counts sizes.free sizes.own }
-    requires w_bound { (w < word_count sizes.free) × Named sizes.counts search × Tabled sizes.free sizes.own w terms.old }
-    ensures by_index { (values : ℕ) → Terms sizes.free sizes.own values w terms.old → Terms sizes.free sizes.own values w terms.new × ((i : ℕ) → i < 64 → bit result i ≡ allowed_in (stored_by sizes clauses.now []) search values (64 * w + i)) }
-    ensures same_free { search ≡ Search.Unmet → (SameFree sizes.free result × (rows.new ≡ rows.old)) }
+    requires { (w < word_count question.now.sizes.free) × Named question.now.sizes.counts search × Tabled question.now.sizes.free question.now.sizes.own w terms.old }
+    ensures by_index { (values : ℕ) → Terms question.now.sizes.free question.now.sizes.own values w terms.old → Terms question.now.sizes.free question.now.sizes.own values w terms.new × ((i : ℕ) → i < 64 → bit result i ≡ allowed_in (posed question.now) search values (64 * w + i)) }
+    ensures same_free { search ≡ Search.Unmet → (SameFree question.now.sizes.free result × (rows.new ≡ rows.old)) }
 {
-    let x = first_word(terms, clauses, sizes, w);
+    let x = first_word(question, terms, w);
     match search {
-        Search::First => x,
-        Search::Unmet => x,
-        Search::Missed(j) => missed_word(terms, clauses, sizes, j, w, x, rows),
+        Search::First | Search::Unmet => x,
+        Search::Missed(j) => missed_word(question, terms, j, w, x, rows),
     }
 }
 
 // What the second system says of the choices that the first allows.
 fn second_word(
+    question: &Searchable<'_>,
     terms: &mut [u64; 64],
-    clauses: &[u8; CLAUSE_BYTES],
-    sizes: Sizes,
     at: Allowed,
     seen: Seen,
     firsts: &mut [u64; FIRST_WORDS],
     rows: &mut [u64; 96],
 ) -> Seen
-    requires readable { Readable clauses.now sizes.counts sizes.free sizes.own }
-    requires word_bound { (at.word < word_count sizes.free) × SameFree sizes.free at.choices }
-    ensures by_index { (values : ℕ) → Terms sizes.free sizes.own values at.word terms.old → Terms sizes.free sizes.own values at.word terms.new × (((i : ℕ) → i < 64 → bit at.choices i ≡ first_meets (stored_by sizes clauses.now []) values (64 * at.word + i)) → Settled (stored_by sizes clauses.now []) seen rows.old → Second (stored_by sizes clauses.now []) values at seen firsts.old rows.old result firsts.new rows.new) }
+    requires { (at.word < word_count question.now.sizes.free) × SameFree question.now.sizes.free at.choices }
+    ensures by_index { (values : ℕ) → Terms question.now.sizes.free question.now.sizes.own values at.word terms.old → Terms question.now.sizes.free question.now.sizes.own values at.word terms.new × (((i : ℕ) → i < 64 → bit at.choices i ≡ first_meets (posed question.now) values (64 * at.word + i)) → Settled (posed question.now) seen rows.old → Second (posed question.now) values at seen firsts.old rows.old result firsts.new rows.new) }
     ensures possible_value { (result.possible ≡ seen.possible) × ((k : ℕ) → (k ≡ 31 → ⊥) → bit result.met k ≡ bit seen.met k) × ((k : ℕ) → (k ≡ 31 → ⊥) → number_at firsts.new k ≡ number_at firsts.old k) }
 {
     if basics::digit(seen.met, 31) {
         return seen;
     }
-    let none = beside::missing(
-        terms,
-        clauses,
-        sizes,
-        at.word,
-        at.choices,
-        seen.wanted,
-        rows,
-    );
+    let none = beside::missing(question, terms, at.word, at.choices, seen.wanted, rows);
     let met = entries::keep_word(31, at.turn, none, seen.met, firsts);
     if seen.wanted == 0 {
-        return Seen {
-            met,
-            possible: seen.possible,
-            here: seen.here,
-            wanted: seen.wanted,
-        };
+        return Seen { met, ..seen };
     }
-    let any = entries::fill_failing(terms, clauses, sizes.counts[1], at.choices, rows);
+    let counts = question.sizes.counts;
+    let any = entries::fill_failing(terms, question.clauses, counts[1], at.choices, rows);
     let marks = Marks {
         here: seen.here,
         wanted: seen.wanted,
     };
-    let more = entries::mark_all(rows, any, sizes.counts[1], sizes.counts[3], marks);
+    let more = entries::mark_all(rows, any, counts[1], counts[3], marks);
     Seen {
         met,
-        possible: seen.possible,
         here: more.here,
         wanted: more.wanted,
+        ..seen
     }
 }
 
 // One word of a leaf.
 pub fn pass_word(
+    question: &Searchable<'_>,
     terms: &mut [u64; 64],
-    clauses: &[u8; CLAUSE_BYTES],
-    sizes: Sizes,
     spot: Spot,
     seen: Seen,
     firsts: &mut [u64; FIRST_WORDS],
     rows: &mut [u64; 96],
 ) -> Seen
-    requires readable { Readable clauses.now sizes.counts sizes.free sizes.own }
-    requires named { Named sizes.counts spot.search × (spot.leaf < 64) × (spot.word < word_count sizes.free) × Tabled sizes.free sizes.own spot.word terms.old }
-    ensures by_index { (values : ℕ) → Terms sizes.free sizes.own values spot.word terms.old → Terms sizes.free sizes.own values spot.word terms.new }
-    ensures by_index_2 { (h : ℕ) (constants : List ℕ) → Terms sizes.free sizes.own (leaf_values (stored_by sizes clauses.now constants) h spot.leaf) spot.word terms.old → Amid (stored_by sizes clauses.now constants) h spot.search spot.leaf spot.word seen firsts.old rows.old → Amid (stored_by sizes clauses.now constants) h spot.search spot.leaf (spot.word + 1) result firsts.new rows.new }
+    requires { Named question.now.sizes.counts spot.search × (spot.leaf < 64) × (spot.word < word_count question.now.sizes.free) × Tabled question.now.sizes.free question.now.sizes.own spot.word terms.old }
+    ensures by_index { (values : ℕ) → Terms question.now.sizes.free question.now.sizes.own values spot.word terms.old → Terms question.now.sizes.free question.now.sizes.own values spot.word terms.new }
+    ensures by_index_2 { (h : ℕ) → Terms question.now.sizes.free question.now.sizes.own (leaf_values (posed question.now) h spot.leaf) spot.word terms.old → Amid (posed question.now) h spot.search spot.leaf spot.word seen firsts.old rows.old → Amid (posed question.now) h spot.search spot.leaf (spot.word + 1) result firsts.new rows.new }
     ensures possible_value { result.possible ≡ seen.possible }
 {
     let search = spot.search;
-    let x = allowed_word(terms, clauses, sizes, search, spot.word, rows);
+    let sizes = question.sizes;
+    let x = allowed_word(question, terms, search, spot.word, rows);
     if x == 0 {
         return seen;
     }
     let turn = spot.leaf * words::word_count(sizes.free) + spot.word;
     let least = entries::keep_word(32, spot.word, x, seen.met, firsts);
-    let met = entries::keep_all(terms, clauses, sizes.counts[1], turn, x, least, firsts);
-    let kept = Seen {
-        met,
-        possible: seen.possible,
-        here: seen.here,
-        wanted: seen.wanted,
-    };
+    let met = entries::keep_all(
+        terms,
+        question.clauses,
+        sizes.counts[1],
+        turn,
+        x,
+        least,
+        firsts,
+    );
+    let kept = Seen { met, ..seen };
     let at = Allowed {
         word: spot.word,
         turn,
         choices: x,
     };
     match search {
-        Search::First => kept,
-        Search::Unmet => second_word(terms, clauses, sizes, at, kept, firsts, rows),
-        Search::Missed(_) => kept,
+        Search::Unmet => second_word(question, terms, at, kept, firsts, rows),
+        Search::First | Search::Missed(_) => kept,
     }
 }

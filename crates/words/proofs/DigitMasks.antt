@@ -1,11 +1,6 @@
 -- Entry p of the table of masks has bit i set where digit p of i is set. Assumes nothing.
-use mathlib.Core.Path.{◌≡◌, sym, ap, ◌∙◌}
-use mathlib.Core.Bool.{Bool, beq}
-use mathlib.Core.List.{List, [], ◌∷◌}
-use Prim.Native.Nat.{ℕ, ◌+◌, ◌*◌, ◌^◌, ◌<◌}
-use native.Mathlib.Omega.{arith}
-use lib.Dec.{T}
-use lib.ListN.{get_or}
+use Rattle.std.proofs.Common.{◌≡◌, sym, ap, ◌∙◌, Bool, List, [], ◌∷◌, ℕ, ◌+◌, ◌*◌, ◌^◌, ◌<◌, T, get_or, arith}
+use Rattle.std.proofs.Math.Bool.{beq}
 use Rattle.shares.specs.Test.{beq_iff}
 use Rattle.shares.specs.Below.{every_below}
 use Rattle.shares.specs.BelowLaws.{every_at}

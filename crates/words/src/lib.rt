@@ -1,7 +1,7 @@
 // Clauses at one leaf for 64 choices of Boolean values at a time: bit i of word w is choice 64 * w + i.
 #![tactic(auto)]
 
-ghost use Rattle.std.specs.Prelude.{◌≡◌, ◌&&◌, not, ℕ, ◌+◌, ◌-◌, ◌*◌, ◌^◌, ◌<◌, ◌≤◌, eqb, ltb, length, get_or};
+ghost use Rattle.std.specs.Prelude.{◌≡◌, ◌&&◌, not, ℕ, ◌+◌, ◌-◌, ◌*◌, ◌^◌, ◌<◌, ◌≤◌, eqb, ltb, get_or};
 ghost use Rattle.shares.specs.Below.{first_below};
 ghost use Rattle.shares.specs.Constant.{constant_levels, bit};
 ghost use Rattle.words.specs.Clause.{test_way, test_value, WaysOf, clause_test, all_clauses, position, Clauses};
@@ -25,8 +25,7 @@ fn term_word(terms: &[u64; 64], clauses: &[u8; CLAUSE_BYTES], at: usize) -> u64
     requires { (at < 768) × (get_or clauses.now at 0 < 64) }
     ensures { result ≡ get_or terms.now (get_or clauses.now at 0) 0 }
 {
-    let t = basics::index(clauses[at]);
-    terms[t]
+    terms[usize::from(clauses[at])]
 }
 
 // How a test comes out at 64 leaves: those where the parts overlap, those with a surplus, and those with a shortfall. It holds at the others.
@@ -113,13 +112,11 @@ pub fn section_word(
     ensures { (i : ℕ) → i < 64 → bit result i ≡ (bit x i && all_clauses clauses.now (λ t. bit (get_or terms.now t 0) i) start count) }
 {
     let mut r = x;
-    let mut k: usize = 0;
-    while k < count {
+    for k in 0..count {
         if r == 0 {
             return 0;
         }
-        r = r & clause_word(terms, clauses, start + 4 * k);
-        k += 1;
+        r &= clause_word(terms, clauses, start + 4 * k);
     }
     r
 }
@@ -131,7 +128,7 @@ fn leaf_values(constants: &[u64; 32], named: u64, leaf: usize) -> u64
 {
     let mut r: u64 = 0;
     for i in bits(named) {
-        r = r | (((constants[i] >> leaf) & 1) << i);
+        r |= ((constants[i] >> leaf) & 1) << i;
     }
     r
 }
@@ -184,8 +181,8 @@ fn variable_at(n: usize, m: usize, p: usize) -> usize
 }
 
 // Puts the words of the constants that are named into the table of terms, in place of those of other values.
-pub fn set_constants(values: u64, named: u64, terms: &mut [u64])
-    requires { (named < 2 ^ 32) × (length terms.old ≡ 64) }
+pub fn set_constants(values: u64, named: u64, terms: &mut [u64; 64])
+    requires { named < 2 ^ 32 }
     ensures { (n m old w : ℕ) → n + m ≤ 12 → Within named old → Within named values → Terms n m old w terms.old → Terms n m values w terms.new }
 {
     for i in bits(named) {
@@ -194,31 +191,28 @@ pub fn set_constants(values: u64, named: u64, terms: &mut [u64])
 }
 
 // Puts the words at w of the variables with digit `from` or above into the table.
-fn set_variables(n: usize, m: usize, from: usize, w: usize, terms: &mut [u64])
-    requires { (n + m ≤ 12) × (length terms.old ≡ 64) }
+fn set_variables(n: usize, m: usize, from: usize, w: usize, terms: &mut [u64; 64])
+    requires { n + m ≤ 12 }
     ensures { Changed n m from w terms.old terms.new }
 {
-    let mut p = from;
-    while p < n + m {
+    for p in from..n + m {
         let t = variable_at(n, m, p);
         terms[t] = digit_word(p, w);
-        p += 1;
     }
 }
 
 // Makes the table of terms at word 0 of a table that is empty, where all constants are 0. The part that is always full has its word from here on.
-pub fn start_terms(n: usize, m: usize, terms: &mut [u64])
-    requires { (n + m ≤ 12) × (length terms.old ≡ 64) × ((t : ℕ) → t < 64 → get_or terms.old t 0 ≡ 0) }
+pub fn start_terms(n: usize, m: usize, terms: &mut [u64; 64])
+    requires { (n + m ≤ 12) × ((t : ℕ) → t < 64 → get_or terms.old t 0 ≡ 0) }
     ensures { Terms n m 0 0 terms.new }
 {
     set_variables(n, m, 0, 0, terms);
-    let full = basics::index(FULL_PART);
-    terms[full] = spread(true);
+    terms[usize::from(FULL_PART)] = spread(true);
 }
 
 // Takes the table of terms from any word to word w: only the digits above the sixth change.
-pub fn move_terms(n: usize, m: usize, w: usize, terms: &mut [u64])
-    requires { (n + m ≤ 12) × (length terms.old ≡ 64) }
+pub fn move_terms(n: usize, m: usize, w: usize, terms: &mut [u64; 64])
+    requires { n + m ≤ 12 }
     ensures { (values v : ℕ) → Terms n m values v terms.old → Terms n m values w terms.new }
 {
     set_variables(n, m, 6, w, terms);
@@ -228,7 +222,7 @@ pub fn move_terms(n: usize, m: usize, w: usize, terms: &mut [u64])
 pub fn lowest(x: u64) -> usize
     ensures { result ≡ first_below 64 (bit x) }
 {
-    u64::trailing_zeros(x) as usize
+    x.trailing_zeros() as usize
 }
 
 // A word that is not 0, without its lowest bit that is set.

@@ -1,6 +1,6 @@
 -- The shifted number's lowest bit, as the definition says. Assumes nothing.
 use Rattle.std.proofs.Common.{ap, eqb, ◌/◌, ◌^◌}
-use lib.Bits.{and_mask}
+use Rattle.std.proofs.lemmas.Nat.{and_mask}
 use Rattle.shares.specs.Constant.{bit}
 use Rattle.basics.proofs.digit.Goals as goal
 

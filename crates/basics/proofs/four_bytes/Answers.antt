@@ -1,6 +1,6 @@
 -- Four bytes of a list, as the number that they make. Assumes nothing.
 use Rattle.std.proofs.Common.{◌≡◌, List, ℕ, suc, ◌+◌, ◌*◌, ◌≤◌, length, get_or, take, drop, add-one, arith}
-use native.Mathlib.Numerals.{add-two, add-three}
+use Rattle.std.proofs.Math.Numerals.{add-two, add-three}
 use Rattle.std.proofs.Math.Seq.{drop-cons}
 use Rattle.shares.specs.Constant.{number}
 use Rattle.basics.proofs.four_bytes.Goals as goal

@@ -1,11 +1,10 @@
 -- The law of the join of two numbers, at 32 leaves. Assumes nothing.
 use Rattle.std.proofs.Common.{◌≡◌, refl, sym, ◌∙◌, Bool, true, false, cond, ℕ, ◌+◌, ◌^◌, ◌<◌, arith}
 use Rattle.std.specs.Prelude.{None, Some}
-use Rattle.shares.specs.Test.{of_false}
 use Rattle.shares.specs.Tree.{join}
 use Rattle.shares.specs.Constant.{constant_levels, number_tree, set_in_both}
 use Rattle.shares.specs.Answer.{join_of}
-use Rattle.shares.proofs.ConstantLaws.{sum_lt, join_numbers}
+use Rattle.shares.proofs.ConstantLaws.{join_numbers}
 use Rattle.shares.proofs.join_constants.Goals as goal
 
 -- what either answer stands for
@@ -16,9 +15,6 @@ joined levels a b ha hb false e = sym (join_numbers levels a b ha hb ∙ rw e re
 
 pub returns-then-overlap-clause-tree : goal.returns-then-overlap-clause-tree
 returns-then-overlap-clause-tree c = joined constant_levels c.args.a c.args.b (omega arith) (omega arith) true (sym c.overlap.ensures ∙ c.if-overlap.true)
-
-pub overflow_add-result : goal.overflow_add-result
-overflow_add-result c = omega (arith, sum_lt (2 ^ constant_levels) c.args.a c.args.b (omega arith) (omega arith) (of_false (sym c.overlap.ensures ∙ c.if-overlap.false)))
 
 pub returns-clause-tree : goal.returns-clause-tree
 returns-clause-tree c = joined constant_levels c.args.a c.args.b (omega arith) (omega arith) false (sym c.overlap.ensures ∙ c.if-overlap.false)

@@ -3,7 +3,7 @@ use Rattle.std.proofs.Common.{◌≡◌, refl, sym, ap, ◌∙◌, ◌&&◌, ◌
 use Rattle.std.proofs.Math.Path.{ap₂}
 use Rattle.std.proofs.Math.Bool.{or-false}
 use Rattle.std.proofs.Math.Pow.{shl_exact}
-use lib.Bits.{and_mask}
+use Rattle.std.proofs.lemmas.Nat.{and_mask}
 use Rattle.shares.specs.Constant.{bit}
 use Rattle.shares.specs.BitLaws.{bit_zero, bit_of_or}
 use Rattle.shares.specs.BitParts.{bit_digit, digit_of}
