@@ -9,7 +9,7 @@ ghost use Rattle.rows.specs.Emptied.{emptied};
 ghost use Rattle.show.specs.Plans.{Shows, shown_answer};
 
 use plans::Plan;
-use rows::blocks::{change_block, first_leaf};
+use rows::blocks::{Block, change_block};
 use rows::{ANSWER_BYTES, ROW_BYTES, ROW_LEVELS};
 
 // Digit p of a choice.
@@ -42,9 +42,14 @@ fn write_sub_leaves(row: &mut [u8], plan: &Plan, p: usize)
 {
     let height = ROW_LEVELS - plan.high;
     for entry in &plan.entries[..plan.count] {
-        let s = usize::from(entry.subleaf);
-        let old = first_leaf(row, height, s);
-        change_block(row, height, s, old, digit_of(entry.choice, p));
+        let number = usize::from(entry.subleaf);
+        let block = Block {
+            row,
+            height,
+            number,
+        };
+        let old = block.first_leaf();
+        change_block(row, height, number, old, digit_of(entry.choice, p));
     }
 }
 
