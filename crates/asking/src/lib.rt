@@ -163,18 +163,11 @@ pub fn ask(question: &[u8], answer: &mut [u8], work: &mut [u8]) -> Result<Answer
     if work.len() < WORK_BYTES {
         return Err(Refusal::ShortWork);
     }
-    let sizes = decide::sizes_of(read, &read.constants);
+    let searched = decide::searchable(&read, &clauses);
     let mut firsts = [0u64; FIRST_WORDS];
     let mut leaves = [0u64; LEAF_WORDS];
-    let finding = decide::decide(
-        read,
-        sizes,
-        &clauses,
-        &read.constants,
-        &mut firsts,
-        &mut leaves,
-    );
-    show_solution(answer, sizes, finding, &firsts, &leaves);
+    let finding = decide::decide(&searched, read.kind, &mut firsts, &mut leaves);
+    show_solution(answer, searched.sizes, finding, &firsts, &leaves);
     clear_work(work);
-    Ok(found(sizes, finding))
+    Ok(found(searched.sizes, finding))
 }

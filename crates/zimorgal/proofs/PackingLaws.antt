@@ -1,9 +1,9 @@
 -- Laws of packing: a result whose fields fit takes seven bytes, and is read back from its number. Assumes nothing.
 use Rattle.std.specs.Prelude.{◌≡◌, ◌/◌, ◌%◌, ◌^◌, ◌<◌}
 use Rattle.std.proofs.Common.{arith}
-use Rattle.asking.specs.declared.Outcome.{Outcome}
 use Rattle.zimorgal.specs.Packing.{packed, unpacked}
 use Rattle.zimorgal.specs.Fields.{InBytes}
+use Rattle.asking.specs.Asking.{Outcome}
 
 module _ (o : Outcome) (f : InBytes o) where
   -- the eighth byte is 0

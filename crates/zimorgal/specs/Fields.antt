@@ -1,6 +1,6 @@
 -- When the fields of a result fit the bytes of its number. Assumes nothing.
 use Rattle.std.specs.Prelude.{◌^◌, ◌<◌}
-use Rattle.asking.specs.declared.Outcome.{Outcome}
+use Rattle.asking.specs.Asking.{Outcome}
 
 -- each field fits its bytes
 pub record InBytes (o : Outcome) : Type 0 where

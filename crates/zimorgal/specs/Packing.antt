@@ -1,6 +1,6 @@
 -- The result of asking as one number, lowest byte first, and the result that a number holds. Assumes nothing.
 use Rattle.std.specs.Prelude.{ℕ, ◌+◌, ◌*◌, ◌/◌, ◌%◌, ◌^◌}
-use Rattle.asking.specs.declared.Outcome.{Outcome}
+use Rattle.asking.specs.Asking.{Outcome}
 
 -- verdict, refusal number, place in two bytes, low first, height, reason, disequation number, and a byte 0
 abbrev pub packed : Outcome → ℕ

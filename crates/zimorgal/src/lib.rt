@@ -9,6 +9,7 @@ ghost use Rattle.rows.specs.Rows.{row_levels, row_range, row_part};
 ghost use Rattle.text.specs.Texts.{text_answer, text_after};
 ghost use Rattle.constants.specs.FromText.{from_text};
 ghost use Rattle.asking.specs.Asking.{answered, asked_with, outcome_of, answer_after, work_after};
+ghost use Rattle.asking.specs.Told.{told};
 ghost use Rattle.asking.specs.Exact.{Exact};
 ghost use Rattle.asking.specs.Demand3.{row_shares, Demand3};
 ghost use Rattle.judging.specs.Judging.{Accepted, judged, judged_with, judgement_of};
@@ -19,23 +20,32 @@ ghost use Rattle.zimorgal.specs.Fields.{InBytes};
 ghost use Rattle.zimorgal.specs.Calls.{range_number, text_number, constant_number, undefined_join, number_join, version_number, judgement_number, Small};
 ghost use Rattle.zimorgal.specs.Joins.{join_number};
 
-use asking::Outcome;
+use asking::{Answer, Refusal};
 use constants::NoConstant;
 use judging::{BrokenClause, Failing, Refusal, Verdict};
 use text::TextRefusal;
 
-// The result as one number: each field is multiplied to its bytes.
-fn pack(outcome: Outcome) -> u64
-    requires { InBytes outcome }
-    ensures { result ≡ packed outcome }
+// The result as one number, byte by byte.
+fn pack(outcome: Result<Answer, Refusal>) -> u64
+    requires { InBytes (told outcome) }
+    ensures { result ≡ packed (told outcome) }
 {
-    let low = basics::wide(outcome.verdict)
-        + 256 * basics::wide(outcome.refusal)
-        + 65536 * (outcome.place as u64);
-    let height = 4294967296 * (outcome.height as u64);
-    let reason = 1099511627776 * basics::wide(outcome.reason);
-    let number = 281474976710656 * (outcome.number as u64);
-    low + height + reason + number
+    match outcome {
+        Ok(answer) => u64::from_le_bytes([
+            answer.verdict(),
+            0,
+            0,
+            0,
+            answer.height as u8,
+            answer.reason(),
+            answer.disequation() as u8,
+            0,
+        ]),
+        Err(refusal) => {
+            let [low, high] = (refusal.place() as u16).to_le_bytes();
+            u64::from_le_bytes([0, u8::from(refusal), low, high, 0, 0, 0, 0])
+        }
+    }
 }
 
 // Asking, its result as one number.
@@ -104,7 +114,7 @@ pub extern "C" fn zimorgal_row(answer: &[u8], variable: usize) -> u64
     ensures part { take (result / 2 ^ 32) (drop (result % 2 ^ 32) answer.now) ≡ row_part (row_levels constant_levels) answer.now variable }
 {
     let range = rows::row_range(answer.len(), variable);
-    (range.offset as u64) + 4294967296 * (range.bytes as u64)
+    (range.offset as u64) + ((range.bytes as u64) << 32)
 }
 
 // The text of a row: the length in the low 32 bits, the refusal number in the byte after them.
@@ -122,7 +132,7 @@ fn text_number(written: Result<usize, TextRefusal>) -> u64
 {
     match written {
         Ok(length) => length as u64,
-        Err(refusal) => 4294967296 * u64::from(u8::from(refusal)),
+        Err(refusal) => u64::from(u8::from(refusal)) << 32,
     }
 }
 
@@ -140,7 +150,7 @@ fn constant_number(read: Result<u32, NoConstant>) -> u64
 {
     match read {
         Ok(constant) => u64::from(constant),
-        Err(why) => 4294967296 * u64::from(u8::from(why)),
+        Err(why) => u64::from(u8::from(why)) << 32,
     }
 }
 
@@ -159,7 +169,7 @@ fn join_number(joined: Option<u32>) -> u64
 {
     match joined {
         Some(n) => u64::from(n),
-        None => 4294967296,
+        None => 1 << 32,
     }
 }
 

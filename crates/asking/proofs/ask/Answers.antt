@@ -6,6 +6,7 @@ use Rattle.format.proofs.Callers.{answer_taken, answer_refused, levels_are}
 use Rattle.asking.specs.AskingLaws.{asked_refused, asked_11, asked_12}
 use Rattle.asking.proofs.AskedRight.{given_refused}
 use Rattle.asking.proofs.DecidedLaws.{given_answer, sized_for, decided_for}
+use Rattle.decide.proofs.PosedLaws.{posed_decided}
 use Rattle.asking.proofs.ask.Goals as goal
 
 pub returns-in_err-read : goal.returns-in_err-read
@@ -26,29 +27,26 @@ returns-then-work-lt-WORK_BYTES c =
     given_refused c.args.question.now _ _ 12 0
     (asked_12 c.args.question.now _ _ T.question T.read (rw (levels_are _ _ T.stands) c.if-answer-lt-ANSWER_BYTES.false) c.if-work-lt-WORK_BYTES.true) _ refl
 
-pub sizes_of-sizes-requires : goal.sizes_of-sizes-requires
-sizes_of-sizes-requires c =
+pub searchable-searched-requires : goal.searchable-searched-requires
+searchable-searched-requires c =
     let T = answer_taken c.args.question.now _ c.in_ok-read.ensures.answer _ c.in_ok-read.ensures.stands in
-    (refl, (T.question, record { clauses = _; stands = T.stands }))
-
-pub decide-finding-requires : goal.decide-finding-requires
-decide-finding-requires c =
-    let T = answer_taken c.args.question.now _ c.in_ok-read.ensures.answer _ c.in_ok-read.ensures.stands in
-    ((T.question, T.stands, T.formed), c.sizes_of-sizes.ensures, refl)
+    (T.question, T.stands, T.formed)
 
 pub show_solution-requires-clause-decided_for : goal.show_solution-requires-clause-decided_for
 show_solution-requires-clause-decided_for c =
     let T = answer_taken c.args.question.now _ c.in_ok-read.ensures.answer _ c.in_ok-read.ensures.stands in
-    (T.question, decided_for _ _ _ T _ c.sizes_of-sizes.ensures _ _ _ (c.decide-finding.ensures T.question T.stands T.formed))
+    let S = c.searchable-searched.ensures in
+    (T.question, decided_for _ _ _ T _ S.sizes _ _ _ (posed_decided c.in_ok-read.read _ c.searchable-searched.result S.sizes S.clauses S.constants _ _ _ c.decide-finding.ensures T.question T.stands))
 
 pub found-requires : goal.found-requires
 found-requires c =
     let T = answer_taken c.args.question.now _ c.in_ok-read.ensures.answer _ c.in_ok-read.ensures.stands in
-    (T.question, sized_for _ _ _ T _ c.sizes_of-sizes.ensures)
+    (T.question, sized_for _ _ _ T _ c.searchable-searched.ensures.sizes)
 
 pub returns : goal.returns
 returns c =
     let T = answer_taken c.args.question.now _ c.in_ok-read.ensures.answer _ c.in_ok-read.ensures.stands in
+    let S = c.searchable-searched.ensures in
     given_answer c.args.question.now _ _ _ _ T (rw (levels_are _ _ T.stands) c.if-answer-lt-ANSWER_BYTES.false) c.if-work-lt-WORK_BYTES.false _ _ _ _
-    (decided_for _ _ _ T _ c.sizes_of-sizes.ensures _ _ _ (c.decide-finding.ensures T.question T.stands T.formed)) _ c.found.ensures _ c.show_solution.ensures _
+    (decided_for _ _ _ T _ S.sizes _ _ _ (posed_decided c.in_ok-read.read _ c.searchable-searched.result S.sizes S.clauses S.constants _ _ _ c.decide-finding.ensures T.question T.stands)) _ c.found.ensures _ c.show_solution.ensures _
     c.clear_work.ensures
