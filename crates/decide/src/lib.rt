@@ -22,7 +22,7 @@ use words::{FIRST_WORDS, LEAF_WORDS};
 // What deciding finds. Of a question of satisfiability: a solution; none. Of an entailment: the first system has no solution; every
 // solution extends; some solution cannot meet the second's positive clauses; some solution cannot have this disequation of the second
 // beside them, and it is the lowest such.
-#[derive(Clone, Copy)]
+#[derive(Clone, Copy, PartialEq, Eq, Debug)]
 pub enum Finding {
     Satisfied,
     Unsatisfied,
