@@ -1,49 +1,59 @@
 -- What the code finds of the rows is the judgement. Assumes nothing.
-use Rattle.std.specs.Prelude.{◌≡◌, refl, Bool, true, false, cond, List, ◌↔◌, ℕ, ◌+◌, ◌-◌, ◌*◌, ◌^◌, ◌<◌, T, ltb, length, get_or, drop}
+use Rattle.std.specs.Prelude.{◌≡◌, refl, Bool, true, false, cond, Option, Some, None, List, ◌↔◌, ℕ, ◌+◌, ◌-◌, ◌*◌, T, ltb, length, get_or, drop}
 use Rattle.std.proofs.Common.{sym, ap, ap₂, ◌∙◌, subst, arith, length-drop, get_or-drop}
+use Rattle.shares.specs.declared.Way.TheVariants.{Holds}
 use Rattle.shares.specs.Constant.{constant_levels}
 use Rattle.shares.specs.Test.{same_test, is_true, of_true}
 use Rattle.systems.specs.Questions.{entailment, Question}
 use Rattle.format.specs.declared.Question as stored
+use Rattle.format.specs.declared.Kind.{Kind}
+use Rattle.format.specs.declared.Kind.TheVariants.{Satisfiability, Entailment}
 use Rattle.format.proofs.FormatLaws.{accepted_formed}
-use Rattle.format.specs.Stored.{stored_of, Stands}
-use Rattle.format.proofs.Callers.{kind_satisfiability, kind_entailment}
-use Rattle.beside.specs.declared.Sizes.{Sizes}
-use Rattle.beside.specs.Beside.{Readable}
-use Rattle.steps.specs.Steps.{stored_by}
+use Rattle.format.specs.Numbers.{kind_value}
+use Rattle.format.specs.Format.{read}
+use Rattle.format.specs.Stored.{stored_of, Stands, refused_with, reading_of}
+use Rattle.rows.specs.Rows.{row_bytes, answer_bytes}
+use borrow.Author.Tests.{ne_eqb}
+use Rattle.format.proofs.Callers.{Taken, answer_refused, levels_are, kind_satisfiability, kind_entailment}
+use Rattle.beside.specs.declared.Searchable.{Searchable}
+use Rattle.steps.specs.Steps.{stored_by, posed}
 use Rattle.decide.specs.Decision.{sizes_of}
-use Rattle.decide.specs.ReadableLaws.{readable}
-use Rattle.decide.specs.NamedLaws.{named_lt, first_kept}
+use Rattle.decide.specs.NamedLaws.{first_kept}
 use Rattle.unfolded.specs.Unfolded.{Unfolded, ZeroBytes}
 use Rattle.extending.specs.Extending.{extends_in}
 use Rattle.asking.specs.Demand3.{row_shares}
 use Rattle.judging.specs.Judging.{turned_away, judged, is_zero, judged_with, clause_of, lowest_broken, extends_at, broken_as, unbroken, judgement_of}
+use Rattle.judging.specs.Told.{said_told, broken_told}
+use Rattle.judging.specs.declared.Failing.{Failing}
+use Rattle.judging.specs.declared.BrokenClause.{BrokenClause}
 use Rattle.judging.specs.Exactly.{Exactly, AskingShows}
 use Rattle.judging.specs.Walk.{Laid, first_judged}
 use Rattle.judging.specs.ExtendLaws.{extends_same}
-use Rattle.judging.specs.CaseLaws.{zero_part, zero_bytes, judged_read}
-use Rattle.judging.proofs.ModelLaws.{said_broken, judged_exactly}
+use Rattle.judging.specs.CaseLaws.{zero_part, zero_bytes, judged_read, judged_refused, judged_18, judged_19, judged_on}
+use Rattle.judging.proofs.ModelLaws.{only_broken, said_broken, judged_exactly}
 use Rattle.judging.proofs.ShownAccepted.{shown_accepted}
-use Rattle.judging.specs.declared.Judgement.{Judgement}
-use Rattle.judging.specs.declared.Judgement.TheVariants.{Refused, Accepted, Extending}
+use Rattle.judging.specs.Judging.{Judgement, Refused, Accepted, Extending}
 
 -- ---- rows of a question that was read
 
-module _ (x : stored.Question) (clauses rows : List ℕ) (q : Question) (St : Stands x.kind (stored_of x clauses) q) where
+-- the kind with number 0
+kind_zero : (k : Kind) → kind_value k ≡ 0 → k ≡ Satisfiability
+kind_zero Satisfiability e = refl
+kind_zero Entailment e = absurd (omega arith)
+
+module _ (x : stored.Question) (clauses rows : List ℕ) (q : Question) (St : Stands (kind_value x.kind) (stored_of x clauses) q) where
   -- a table of the rows and the constants
   pub laid : (table : List ℕ) → Unfolded constant_levels rows x.constants x.named table
       → Laid constant_levels q rows x.constants x.named table
   laid table U = record { constants_are = St.constants; kept = first_kept (stored_of x clauses) q St; unfolded = U }
 
-  -- what the second system's clauses are asked with
-  module _ (sizes : Sizes) (sized : sizes ≡ sizes_of x) where
-    pub sizes_readable : Readable clauses sizes.counts sizes.free sizes.own × (sizes.named < 2 ^ 32)
-    sizes_readable = rw sized (readable (stored_of x clauses) q St, named_lt (stored_of x clauses) q St)
-
-    pub extends_found : (table : List ℕ) → Unfolded constant_levels rows x.constants x.named table → (b : Bool)
-        → b ≡ extends_in (stored_by sizes clauses x.constants) table → b ≡ extends_at q rows
-    extends_found table U b e =
-        e ∙ ap (λ z. extends_in (stored_by z clauses x.constants) table) sized ∙ extends_same (stored_of x clauses) q St rows x.constants table x.named U
+  -- whether they extend, by the question as it is searched
+  pub extends_found : (searched : Searchable) → searched.sizes ≡ sizes_of x → searched.clauses.now ≡ clauses → searched.constants.now ≡ x.constants
+      → (table : List ℕ) → Unfolded constant_levels rows x.constants x.named table
+      → (b : Bool) → b ≡ extends_in (posed searched) table → b ≡ extends_at q rows
+  extends_found searched sized same same' table U b e =
+      e ∙ ap (λ z. extends_in (stored_by z searched.clauses.now searched.constants.now) table) sized
+      ∙ ap₂ (λ c n. extends_in (stored_by (sizes_of x) c n) table) same same' ∙ extends_same (stored_of x clauses) q St rows x.constants table x.named U
 
   -- the judgement of the first system alone
   module _ (r : Judgement) (found : r ≡ first_judged q rows) where
@@ -67,18 +77,26 @@ module _ (x : stored.Question) (clauses rows : List ℕ) (q : Question) (St : St
           go true e = absurd ((said_broken q.constants rows (lowest_broken q rows) (clause_of q.first (lowest_broken q rows))).accepted e)
           go false e = refl
 
-      pub rows_satisfied : x.kind ≡ 0 → Accepted ≡ judgement_of (judged q) rows
-      rows_satisfied z = sym (unbroken_here ∙ ap (λ k. unbroken k (extends_at q rows)) (kind_satisfiability (stored_of x clauses) q St z))
+      pub rows_satisfied : x.kind ≡ Satisfiability → Accepted ≡ judgement_of (judged q) rows
+      rows_satisfied e = sym (unbroken_here ∙ ap (λ k. unbroken k (extends_at q rows)) (kind_satisfiability (stored_of x clauses) q St (ap kind_value e)))
 
-      module _ (n : x.kind ≡ 0 → ⊥) (b : Bool) (extends : b ≡ extends_at q rows) where
+      module _ (n : x.kind ≡ Satisfiability → ⊥) (b : Bool) (extends : b ≡ extends_at q rows) where
         entailed : judgement_of (judged q) rows ≡ unbroken entailment b
-        entailed = unbroken_here ∙ ap₂ unbroken (kind_entailment (stored_of x clauses) q St n) (sym extends)
+        entailed = unbroken_here ∙ ap₂ unbroken (kind_entailment (stored_of x clauses) q St (λ e. n (kind_zero x.kind e))) (sym extends)
 
         pub rows_extending : b ≡ true → Extending ≡ judgement_of (judged q) rows
         rows_extending e = sym (entailed ∙ ap (unbroken entailment) e)
 
         pub rows_accepted : b ≡ false → Accepted ≡ judgement_of (judged q) rows
         rows_accepted e = sym (entailed ∙ ap (unbroken entailment) e)
+
+-- what is told of a broken clause is not that the rows are accepted
+pub told_broken : (b : BrokenClause) → broken_told b ≡ Accepted → ⊥
+told_broken b = go b.number b.failing
+  where
+    go : (k : ℕ) (f : Option Failing) → said_told k f ≡ Accepted → ⊥
+    go k None = (only_broken k Holds 0).accepted
+    go k (Some f) = (only_broken k f.way f.leaf).accepted
 
 -- ---- every question and all rows
 
@@ -109,9 +127,28 @@ module _ (s rows : List ℕ) where
   )
 
   -- a refusal
-  pub judges_refused : (n place : ℕ) → judged_with s rows ≡ turned_away n place → Judges (Refused n place)
+  judges_refused : (n place : ℕ) → judged_with s rows ≡ turned_away n place → Judges (Refused n place)
   judges_refused n place e = judges (Refused n place) (sym (ap (λ j. judgement_of j rows) e))
 
-  -- and what is found of the rows
-  pub judges_rows : (q : Question) → judged_with s rows ≡ judged q → (r : Judgement) → r ≡ judgement_of (judged q) rows → Judges r
-  judges_rows q e r f = judges r (f ∙ sym (ap (λ j. judgement_of j rows) e))
+  -- by the reader
+  pub refused_read : (n place : ℕ) → refused_with n place ≡ reading_of (read s) → Judges (Refused n place)
+  refused_read n place e = judges_refused n place (judged_refused s rows n place (answer_refused s n place e))
+
+  -- of rows for a question that was read
+  module _ (x : stored.Question) (clauses : List ℕ) (got : Taken s x clauses) where
+    pub refused_length : (length rows ≡ 1536 → ⊥) → Judges (Refused 18 0)
+    refused_length n = judges_refused 18 0 (judged_18 s rows got.question got.read (rw (levels_are _ _ got.stands) (ne_eqb _ 1536 n)))
+
+    module _ (l : length rows ≡ 1536) (zero : Bool) (E : T zero ↔ ZeroBytes rows (8 * (x.free * 16)) (length rows)) where
+      long : length rows ≡ answer_bytes got.question.constants.levels
+      long = rw (levels_are _ _ got.stands) l
+
+      others : zero ≡ is_zero (drop (got.question.free * row_bytes got.question.constants.levels) rows)
+      others = rw (levels_are _ _ got.stands, ← got.stands.free) (others_are rows (x.free * 16) (x.free * 128) zero (omega arith) E)
+
+      pub refused_rows : zero ≡ false → Judges (Refused 19 0)
+      refused_rows e = judges_refused 19 0 (judged_19 s rows got.question got.read long (sym others ∙ e))
+
+      -- what is found of them
+      pub judges_rows : zero ≡ true → (r : Judgement) → r ≡ judgement_of (judged got.question) rows → Judges r
+      judges_rows e r f = judges r (f ∙ sym (ap (λ j. judgement_of j rows) (judged_on s rows got.question got.read long (sym others ∙ e))))

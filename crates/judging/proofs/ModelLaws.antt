@@ -32,8 +32,7 @@ use Rattle.asking.specs.Demand3.{row_shares}
 use Rattle.judging.specs.Worked
 use Rattle.judging.specs.Judging.{judged, row_at, row_way, everywhere, failing_leaf, clause_met, no_clause, clause_of, lowest_broken, choices, extends_at, broken_as, unbroken, judgement_of}
 use Rattle.judging.specs.Exactly.{FailsAt, SaidOf, BrokenAt, ExtendsToo, Exactly}
-use Rattle.judging.specs.declared.Judgement.{Judgement}
-use Rattle.judging.specs.declared.Judgement.TheVariants.{Refused, Accepted, Broken, Extending}
+use Rattle.judging.specs.Judging.{Judgement, Refused, Accepted, Broken, Extending}
 
 -- ---- clauses by their number
 
@@ -66,7 +65,7 @@ pub record OnlyBroken (j : Judgement) : Type 0 where
   pub extending : ¬ (j ≡ Extending)
   pub refused : (n place : ℕ) → ¬ (j ≡ Refused n place)
 
-only_broken : (k : ℕ) (w : Way) (i : ℕ) → OnlyBroken (Broken k w i)
+pub only_broken : (k : ℕ) (w : Way) (i : ℕ) → OnlyBroken (Broken k w i)
 only_broken k w i = record {
   accepted = λ e. let z : ◌≡◌ {A = ℕ} 0 1 = cc in omega arith;
   extending = λ e. let z : ◌≡◌ {A = ℕ} 0 1 = cc in omega arith;

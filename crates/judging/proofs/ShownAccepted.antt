@@ -21,7 +21,7 @@ use Rattle.judging.specs.Judging.{is_zero, judged_with, judgement_of}
 use Rattle.judging.specs.CaseLaws.{zero_part, judged_on}
 use Rattle.judging.specs.Exactly.{ExtendsToo}
 use Rattle.judging.proofs.ModelLaws.{judged_exactly}
-use Rattle.judging.specs.declared.Judgement.TheVariants.{Accepted}
+use Rattle.judging.specs.Judging.{Accepted}
 
 -- a solution that is shown with a no does not extend
 not_extending : (q : Question) (σ : Assignment) (a : Answer) → T (shows a) → Fails q σ a → ¬ ExtendsToo (kind_of a) q σ

@@ -1,10 +1,10 @@
 -- Going over the commands of an accepted question meets the clauses of its first system one by one. Assumes nothing.
 use Rattle.std.proofs.Math.Path.{◌≡◌, refl, ap}
 use Rattle.std.proofs.Common.{sym, ◌∙◌, subst, true≢false, inl, inr, eq-or-lt_of_le, le_of_suc-le-suc, not-suc-le-zero, arith, length-append}
-use Rattle.std.specs.Prelude.{Bool, not, cond, ◌⊎◌, eqb, ltb, get_or, take, Some, None}
+use Rattle.std.specs.Prelude.{Bool, not, cond, ◌⊎◌, eqb, ltb, take}
 use Rattle.std.proofs.Math.Bool.{true, false, not-not}
 use mathlib.Core.List.{List, [], ◌∷◌, ◌++◌, append-nil, append_assoc}
-use Prim.Native.Nat.{ℕ, zero, suc, ◌+◌, ◌-◌, ◌^◌, ◌≤◌, ◌<◌}
+use Prim.Native.Nat.{ℕ, zero, suc, ◌+◌, ◌^◌, ◌≤◌, ◌<◌}
 use borrow.Author.Tests.{lt-ltb, le-ltb, eq-eqb}
 use Rattle.std.proofs.Math.Arith.{lt_of_le-ne}
 use Rattle.std.proofs.Math.ListN.{length}
@@ -20,10 +20,9 @@ use Rattle.systems.specs.AtLeaves.{read_as}
 use Rattle.systems.specs.SystemLaws.{in_system}
 use Rattle.format.specs.declared.Section.{Section}
 use Rattle.format.specs.declared.Section.TheVariants.{FirstPositive, FirstDisequation, SecondPositive, SecondDisequation}
-use Rattle.format.specs.declared.Shape.{Shape}
 use Rattle.format.specs.declared.Command.{Command}
 use Rattle.format.specs.Format.{Take, Refused}
-use Rattle.format.specs.Format.{most_positive, most_disequations, accepted, read, entry_of, operands, command_of, whole_at, read_at, atom_of}
+use Rattle.format.specs.Format.{most_positive, most_disequations, accepted, read, read_at, atom_of}
 use Rattle.format.specs.SectionLaws.{both_counts}
 use Rattle.format.specs.Limits.{Limited}
 use Rattle.format.proofs.FormatLaws.{size_some, Whole, read_whole, accepted_formed, accepted_limited}
@@ -39,28 +38,7 @@ use Rattle.judging.specs.Judging.{row_way, everywhere, failing_leaf, clause_met,
 use Rattle.judging.specs.Walk.{breaks_in, said_in, command_breaks, command_said, CommandFits, says_first, Laid, first_judged, First, Walk, HeldBelow, Gone}
 use Rattle.judging.proofs.ModelLaws.{InClause, in_clause}
 use Rattle.judging.specs.TableLaws.{DefinedKept, join_way_lem, join_failing_lem, parts_in}
-use Rattle.judging.specs.declared.Judgement.TheVariants.{Accepted, Broken}
-
--- ---- what stands at an offset, by its byte and the bytes left
-
-module _ (s : List ℕ) (at : ℕ) where
-  pub read_past : length s ≤ at → read_at s at ≡ Refused 2
-  unfolding read_at
-  read_past l = rw (le-ltb at (length s) l) refl
-
-  module _ (l : at < length s) where
-    pub read_unknown : entry_of (get_or s at 0) ≡ None → read_at s at ≡ Refused 3
-    unfolding read_at whole_at
-    read_unknown e = rw (lt-ltb at (length s) l, e) refl
-
-    module _ (h : Shape) (e : entry_of (get_or s at 0) ≡ Some h) where
-      pub read_short : length s - (at + 1) < operands h → read_at s at ≡ Refused 2
-      unfolding read_at whole_at
-      read_short m = rw (lt-ltb at (length s) l, e, lt-ltb (length s - (at + 1)) (operands h) m) refl
-
-      pub read_take : operands h ≤ length s - (at + 1) → read_at s at ≡ Take (command_of s (at + 1) h) (at + 1 + operands h)
-      unfolding read_at whole_at
-      read_take m = rw (lt-ltb at (length s) l, e, le-ltb (length s - (at + 1)) (operands h) m) refl
+use Rattle.judging.specs.Judging.{Accepted, Broken}
 
 -- ---- the commands from an offset on
 
@@ -93,6 +71,13 @@ module _ (s : List ℕ) (at : ℕ) where
         pick Command.Head d = refl
         pick (Command.Constant x) d = refl
         pick (Command.Clause σ t x y z) d = refl
+
+-- a command that is not the end
+pub not_end : (c : Command) → (c ≡ Command.End → ⊥) → is_end c ≡ false
+not_end Command.End n = absurd (n refl)
+not_end Command.Head n = refl
+not_end (Command.Constant x) n = refl
+not_end (Command.Clause σ t x y z) n = refl
 
 -- a command passes over a byte or more, within the string
 pub moves : (s : List ℕ) (at : ℕ) {c : Command} {next : ℕ} → read_at s at ≡ Take c next → (at < next) × (next ≤ length s)
@@ -333,12 +318,6 @@ first_none_broken q rows n held e =
 first_is_broken : (q : Question) (rows : List ℕ) (n : ℕ) → HeldBelow q rows n → n < length q.first
     → not (clause_met q.constants rows (clause_of q.first n)) ≡ true → broken_as q.constants rows n (clause_of q.first n) ≡ first_judged q rows
 first_is_broken q rows n held l broken = rw (lowest_there q rows n held l broken, lt-ltb n (length q.first) l) refl
-
--- the number of "accepted" among the judgements is that of no other
-pub no_other : (◌≡◌ {A = ℕ} 1 0) ⊎ ((◌≡◌ {A = ℕ} 1 2) ⊎ (◌≡◌ {A = ℕ} 1 3)) → ⊥
-no_other (inl e) = omega arith
-no_other (inr (inl e)) = omega arith
-no_other (inr (inr e)) = omega arith
 
 -- ---- a turn of going over the commands
 

@@ -11,8 +11,7 @@ use Rattle.systems.specs.AtLeaves.{tree_way}
 use Rattle.rows.specs.Rows.{row_levels, answer_bytes}
 use Rattle.asking.specs.Asking.{answered, asked_with, answer_after}
 use Rattle.judging.specs.Judging.{clause_of}
-use Rattle.judging.specs.declared.Judgement.{Judgement}
-use Rattle.judging.specs.declared.Judgement.TheVariants.{Refused, Accepted, Broken, Extending}
+use Rattle.judging.specs.Judging.{Judgement, Refused, Accepted, Broken, Extending}
 
 -- leaf i is the lowest of 2 ^ h at which an atom does not hold of the shares σ, and w says how it comes out there
 pub record FailsAt (h : ℕ) (cs : Constants) (σ : Assignment) (a : Atom) (w : Way) (i : ℕ) : Type 0 where

@@ -13,8 +13,6 @@ use Rattle.systems.specs.Questions.{Kind, satisfiability, entailment, Question}
 use Rattle.systems.specs.AtLeaves.{atom_way, second_at}
 use Rattle.format.specs.Format.{Result, refused, accepted, read}
 use Rattle.rows.specs.Rows.{row_levels, row_bytes, answer_bytes, row_leaf, row_part}
-use Rattle.judging.specs.declared.Judgement.{Judgement}
-use Rattle.judging.specs.declared.Judgement.TheVariants.{Refused, Accepted, Broken, Extending}
 
 -- ---- whether rows are judged
 
@@ -86,6 +84,15 @@ extends_at q rows =
     (beside q.constants.levels (second_at q.constants.levels q) (row_levels q.constants.levels) (choices q rows))
 
 -- ---- the result
+
+-- what judging gives: a refusal, with its number and its place; accepted; rejected because clause number k of the first
+-- system is broken, the lowest such; or because the rows extend. Of a broken positive clause: how its test comes out at
+-- the lowest leaf where it does not hold, and that leaf; of a disequation neither
+pub data Judgement : Type 0 where
+  Refused : ℕ → ℕ → Judgement
+  Accepted : Judgement
+  Broken : ℕ → Way → ℕ → Judgement
+  Extending : Judgement
 
 -- clause k is broken: of a positive one, how it comes out at the lowest leaf at which it does not hold, and that leaf; of a disequation neither
 abbrev pub broken_as : Constants → List ℕ → ℕ → Clause → Judgement

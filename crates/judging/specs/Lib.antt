@@ -1,4 +1,5 @@
 pub mod Judging
+pub mod Told
 pub mod Exactly
 pub mod Worked
 pub mod Walk

@@ -1,5 +1,5 @@
 -- Going over a question's commands with the rows in a table: definitions for the code. Assumes nothing.
-use Rattle.std.specs.Prelude.{◌≡◌, Bool, false, not, cond, List, ◌++◌, ℕ, ◌+◌, ◌^◌, ◌<◌, eqb, ltb, length, take}
+use Rattle.std.specs.Prelude.{◌≡◌, Bool, true, false, not, cond, Option, MatchOption, List, ◌++◌, ℕ, ◌+◌, ◌^◌, ◌<◌, eqb, ltb, length, take}
 use Rattle.shares.specs.declared.Way.{Way}
 use Rattle.shares.specs.declared.Way.TheVariants.{Holds}
 use Rattle.systems.specs.Clauses.{System}
@@ -14,9 +14,9 @@ use Rattle.decide.specs.StoredLaws.{Kept}
 use Rattle.encoding.specs.Order.{commands_from, first_clauses}
 use Rattle.rows.specs.Rows.{row_levels}
 use Rattle.unfolded.specs.Unfolded.{row_words, Unfolded, join_way, join_failing, PartsIn}
-use Rattle.judging.specs.Judging.{clause_met, clause_of, lowest_broken, broken_as}
-use Rattle.judging.specs.declared.Judgement.{Judgement}
-use Rattle.judging.specs.declared.Judgement.TheVariants.{Accepted, Broken}
+use Rattle.judging.specs.Judging.{Judgement, Accepted, Broken, clause_met, clause_of, lowest_broken, broken_as}
+use Rattle.judging.specs.Told.{broken_told}
+use Rattle.judging.specs.declared.BrokenClause.{BrokenClause}
 
 -- a clause of a section is broken, where its atom holds at every leaf or not: only those of the first system count
 abbrev pub breaks_in : Section → Bool → Bool
@@ -51,6 +51,15 @@ command_said levels table Command.End k = Accepted
 command_said levels table Command.Head k = Accepted
 command_said levels table (Command.Constant x) k = Accepted
 command_said levels table (Command.Clause σ t a b c) k = join_said levels table σ (join_for t a b c) k
+
+-- r is what is said of clause k that reads so if it is broken, and nothing if it is not; the same of a command's clause
+abbrev pub JoinBroken : ℕ → List ℕ → Section → LeafJoin → ℕ → Option BrokenClause → Type 0
+JoinBroken levels table σ j k r =
+    MatchOption r (join_breaks levels table σ j ≡ false) (λ b. (join_breaks levels table σ j ≡ true) × (broken_told b ≡ join_said levels table σ j k))
+
+abbrev pub CommandBroken : ℕ → List ℕ → Command → ℕ → Option BrokenClause → Type 0
+CommandBroken levels table c k r =
+    MatchOption r (command_breaks levels table c ≡ false) (λ b. (command_breaks levels table c ≡ true) × (broken_told b ≡ command_said levels table c k))
 
 -- its parts have a place in the table
 abbrev pub CommandFits : Command → Type 0

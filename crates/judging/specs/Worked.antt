@@ -12,7 +12,7 @@ use Rattle.systems.specs.AtLeaves.{reading_way, term_at, part_at, all_at, both_a
 use Rattle.format.specs.Format.{refused, accepted}
 use Rattle.rows.specs.Rows.{row_leaf, row_range, row_part, zeros}
 use Rattle.judging.specs.Judging.{turned_away, judged, is_zero, handed_to, everywhere, failing_leaf, extends_at, judgement_of}
-use Rattle.judging.specs.declared.Judgement.TheVariants.{Accepted, Broken, Extending}
+use Rattle.judging.specs.Judging.{Accepted, Broken, Extending}
 
 -- ---- the questions
 

@@ -1,192 +1,196 @@
 // Judging: whether the rows that someone hands over solve a question's first system and, for an entailment, do not extend to the second.
 #![tactic(auto)]
 
-ghost use Rattle.std.specs.Prelude.{◌≡◌, true, List, ℕ, ◌+◌, ◌≤◌, length};
+ghost use Rattle.std.specs.Prelude.{◌≡◌, ℕ, length};
 ghost use Rattle.shares.specs.Constant.{constant_levels};
 ghost use Rattle.systems.specs.Questions as model;
-ghost use Rattle.format.specs.declared.Section.TheVariants.{FirstPositive};
-ghost use Rattle.format.specs.Format.{most_constants, term_count, operands, term_byte, command_of, accepted, read};
-ghost use Rattle.format.specs.Stored.{join_for, stored_of, Stands, place_of, leading};
-ghost use Rattle.format.specs.Keeping.{is_end};
+ghost use Rattle.format.specs.declared.Section.TheVariants.{FirstPositive, FirstDisequation};
+ghost use Rattle.format.specs.Format.{most_constants, accepted, read};
+ghost use Rattle.format.specs.Numbers.{kind_value};
+ghost use Rattle.format.specs.Stored.{stored_of, Stands, place_of, leading};
 ghost use Rattle.rows.specs.Rows.{answer_bytes};
 ghost use Rattle.asking.specs.Demand3.{row_shares};
 ghost use Rattle.unfolded.specs.Unfolded.{PartsIn};
 ghost use Rattle.judging.specs.Judging.{judged, judged_with, judgement_of};
+ghost use Rattle.judging.specs.Judging as given;
 ghost use Rattle.judging.specs.Exactly.{Exactly, AskingShows};
-ghost use Rattle.judging.specs.declared.Judgement.TheVariants.{Accepted};
-ghost use Rattle.judging.specs.Walk.{join_breaks, join_said, command_breaks, command_said, CommandFits, says_first, First};
+ghost use Rattle.judging.specs.Told.{refusal_number, refusal_place, first_told, verdict_told, told};
+ghost use Rattle.judging.specs.declared.Refusal.TheVariants as refusals;
+ghost use Rattle.judging.specs.Walk.{JoinBroken, CommandBroken, CommandFits, says_first, First};
 
 use basics::CLAUSE_BYTES;
 use commands::{CONSTANT_SIZE, table};
 use faults::sections;
-use format::{Entry, LeafJoin, Question, Section, Shape, Test};
+use format::{Command, Kind, LeafJoin, Question, Refused, Section, Taken};
 use rows::ANSWER_BYTES;
 use shares::Way;
 use unfolded::{ROW_WORDS, TABLE_WORDS};
 
-// What judging gives. Refused: the question with the reader's number and place, or the rows with 18 or 19. Accepted. Rejected because clause number k of the
-// first system is broken, the lowest such; or because the rows extend. Of a broken positive clause: how its test comes out at the lowest leaf where it does not hold,
-// and that leaf; of a disequation neither.
+// Why nothing is judged: the question is refused, the rows have another length than they must have, or a row of no free
+// variable has a bit set.
 #[derive(Clone, Copy)]
-pub enum Judgement {
-    Refused {
-        number: u8,
-        place: usize,
-    },
+pub enum Refusal {
+    Question(Refused),
+    RowsLength,
+    RowsNotZero,
+}
+
+// The number of a refusal.
+impl From<Refusal> for u8 {
+    ghost from_gives = { λ refusal number. number ≡ refusal_number refusal };
+
+    fn from(refusal: Refusal) -> u8 {
+        match refusal {
+            Refusal::Question(refused) => u8::from(refused.fault),
+            Refusal::RowsLength => 18,
+            Refusal::RowsNotZero => 19,
+        }
+    }
+}
+
+impl Refusal {
+    // The offset of a question's fault, 0 where the rows are refused.
+    pub fn place(self) -> usize
+        ensures { result ≡ refusal_place self }
+    {
+        match self {
+            Refusal::Question(refused) => refused.place,
+            Refusal::RowsLength | Refusal::RowsNotZero => 0,
+        }
+    }
+}
+
+impl From<Refused> for Refusal {
+    ghost from_gives = { λ refused refusal. refusal ≡ refusals.Question refused };
+
+    fn from(refused: Refused) -> Refusal {
+        Refusal::Question(refused)
+    }
+}
+
+// How the test of a positive clause comes out at the lowest leaf where it does not hold, and that leaf.
+#[derive(Clone, Copy)]
+pub struct Failing {
+    pub way: Way,
+    pub leaf: usize,
+}
+
+// A clause of the first system that is broken, by its number; a positive one fails at a leaf, and a disequation at
+// none.
+#[derive(Clone, Copy)]
+pub struct BrokenClause {
+    pub number: usize,
+    pub failing: Option<Failing>,
+}
+
+// What is judged of rows: they are accepted; or rejected because a clause of the first system is broken, the lowest
+// such; or because they extend.
+#[derive(Clone, Copy)]
+pub enum Verdict {
     Accepted,
-    Broken {
-        clause: usize,
-        way: Way,
-        leaf: usize,
-    },
+    Broken(BrokenClause),
     Extending,
 }
 
-// Whether a command byte announces the end, whatever stands behind it.
-fn is_end(shape: Shape) -> bool
-    ensures { (s : List ℕ) (i : ℕ) → result ≡ is_end (command_of s i shape) }
+// Whether a command is a clause of the first system.
+fn is_first(command: Command) -> bool
+    ensures { result ≡ says_first command }
 {
-    match shape {
-        Shape::End => true,
-        Shape::Head => false,
-        Shape::Constant => false,
-        Shape::Clause(_, _) => false,
-    }
+    matches!(command, Command::Clause { section, .. } if !sections::is_second(section))
 }
 
-// Whether it announces a clause of the first system.
-fn is_first(shape: Shape) -> bool
-    ensures { (s : List ℕ) (i : ℕ) → result ≡ says_first (command_of s i shape) }
-{
-    match shape {
-        Shape::End => false,
-        Shape::Head => false,
-        Shape::Constant => false,
-        Shape::Clause(section, _) => !sections::is_second(section),
-    }
-}
-
-// Whether the rows of a table break a clause of the first system that reads so: a positive one that fails at some leaf, or a disequation whose atom holds at
-// every leaf.
-fn breaks(leaves: &[u64; TABLE_WORDS], section: Section, join: LeafJoin) -> bool
-    requires { PartsIn join }
-    ensures { result ≡ join_breaks constant_levels leaves.now section join }
-{
-    let holds = unfolded::everywhere(leaves, join);
-    match section {
-        Section::FirstPositive => !holds,
-        Section::FirstDisequation => holds,
-        Section::SecondPositive => false,
-        Section::SecondDisequation => false,
-    }
-}
-
-// What is said of positive clause k, which reads so and is broken: how its test comes out at the lowest leaf where it does not hold, and that leaf.
-fn broken_positive(leaves: &[u64; TABLE_WORDS], join: LeafJoin, k: usize) -> Judgement
-    requires { PartsIn join × (join_breaks constant_levels leaves.now FirstPositive join ≡ true) }
-    ensures { result ≡ join_said constant_levels leaves.now FirstPositive join k }
-{
-    let leaf = unfolded::first_failing(leaves, join);
-    Judgement::Broken {
-        clause: k,
-        way: unfolded::way_at(leaves, join, leaf),
-        leaf,
-    }
-}
-
-// Of clause k of a section. A disequation has neither, and one of the second system is never broken.
-fn broken(leaves: &[u64; TABLE_WORDS], section: Section, join: LeafJoin, k: usize) -> Judgement
-    requires { PartsIn join × (join_breaks constant_levels leaves.now section join ≡ true) }
-    ensures { result ≡ join_said constant_levels leaves.now section join k }
-{
-    match section {
-        Section::FirstPositive => broken_positive(leaves, join, k),
-        Section::FirstDisequation => {
-            Judgement::Broken {
-                clause: k,
-                way: Way::Holds,
-                leaf: 0,
-            }
-        }
-        Section::SecondPositive => Judgement::Accepted,
-        Section::SecondDisequation => Judgement::Accepted,
-    }
-}
-
-// How the clause of a test reads whose terms start at an offset.
-fn join_at(bytes: &[u8], i: usize, test: Test) -> LeafJoin
-    requires { i + term_count test ≤ length bytes.now }
-    ensures { result ≡ join_for test (term_byte bytes.now i (term_count test) 0) (term_byte bytes.now i (term_count test) 1) (term_byte bytes.now i (term_count test) 2) }
-{
-    let count = table::term_count(test);
-    let a = commands::term_byte(bytes, i, count, 0);
-    let b = commands::term_byte(bytes, i, count, 1);
-    let c = commands::term_byte(bytes, i, count, 2);
-    table::join_for(test, a, b, c)
-}
-
-// Whether the rows of a table break the clause of the first system whose terms start at an offset.
-fn is_broken(leaves: &[u64; TABLE_WORDS], bytes: &[u8], i: usize, shape: Shape) -> bool
-    requires { (i + operands shape ≤ length bytes.now) × CommandFits (command_of bytes.now i shape) }
-    ensures { result ≡ command_breaks constant_levels leaves.now (command_of bytes.now i shape) }
-{
-    match shape {
-        Shape::End => false,
-        Shape::Head => false,
-        Shape::Constant => false,
-        Shape::Clause(section, test) => breaks(leaves, section, join_at(bytes, i, test)),
-    }
-}
-
-// What is said of that clause, which is broken, as clause k.
-fn broken_at(
+// What is said of a positive clause that reads so, if the rows of a table break it.
+fn broken_positive(
     leaves: &[u64; TABLE_WORDS],
-    bytes: &[u8],
-    i: usize,
-    shape: Shape,
-    k: usize,
-) -> Judgement
-    requires shape_in_bounds { (i + operands shape ≤ length bytes.now) × CommandFits (command_of bytes.now i shape) }
-    requires shape_value { command_breaks constant_levels leaves.now (command_of bytes.now i shape) ≡ true }
-    ensures { result ≡ command_said constant_levels leaves.now (command_of bytes.now i shape) k }
+    join: LeafJoin,
+    number: usize,
+) -> Option<BrokenClause>
+    requires { PartsIn join }
+    ensures { JoinBroken constant_levels leaves.now FirstPositive join number result }
 {
-    let Shape::Clause(section, test) = shape else {
-        return Judgement::Accepted;
-    };
-    broken(leaves, section, join_at(bytes, i, test), k)
+    if unfolded::everywhere(leaves, join) {
+        return None;
+    }
+    let leaf = unfolded::first_failing(leaves, join);
+    let way = unfolded::way_at(leaves, join, leaf);
+    Some(BrokenClause {
+        number,
+        failing: Some(Failing { way, leaf }),
+    })
 }
 
-// The judgement of the first system alone: its lowest clause that the rows of a table break, in the order of the question, or accepted. The question is gone over
-// once more from behind its constants, for what was stored of it is apart by sections.
-fn judge_first(bytes: &[u8], from: usize, leaves: &[u64; TABLE_WORDS]) -> Judgement
+// The same of a disequation, whose atom then holds at every leaf.
+fn broken_disequation(
+    leaves: &[u64; TABLE_WORDS],
+    join: LeafJoin,
+    number: usize,
+) -> Option<BrokenClause>
+    requires { PartsIn join }
+    ensures { JoinBroken constant_levels leaves.now FirstDisequation join number result }
+{
+    let broken = BrokenClause {
+        number,
+        failing: None,
+    };
+    unfolded::everywhere(leaves, join).then_some(broken)
+}
+
+// The same of a clause of a section; the rows break none of the second system.
+fn broken_in(
+    leaves: &[u64; TABLE_WORDS],
+    section: Section,
+    join: LeafJoin,
+    number: usize,
+) -> Option<BrokenClause>
+    requires { PartsIn join }
+    ensures { JoinBroken constant_levels leaves.now section join number result }
+{
+    match section {
+        Section::FirstPositive => broken_positive(leaves, join, number),
+        Section::FirstDisequation => broken_disequation(leaves, join, number),
+        Section::SecondPositive | Section::SecondDisequation => None,
+    }
+}
+
+// The same of a command, as clause `number`.
+fn broken_by(leaves: &[u64; TABLE_WORDS], command: Command, number: usize) -> Option<BrokenClause>
+    requires { CommandFits command }
+    ensures { CommandBroken constant_levels leaves.now command number result }
+{
+    let Command::Clause {
+        section,
+        test,
+        a,
+        b,
+        c,
+    } = command
+    else {
+        return None;
+    };
+    broken_in(leaves, section, table::join_for(test, a, b, c), number)
+}
+
+// The lowest clause of the first system that the rows of a table break, in the order of the question. The question is
+// gone over once more from behind its constants, for what was stored of it is apart by sections.
+fn judge_first(bytes: &[u8], from: usize, leaves: &[u64; TABLE_WORDS]) -> Option<BrokenClause>
     requires { ((q : model.Question) × (read bytes.now ≡ accepted q)) × (from ≡ place_of (leading most_constants bytes.now 0)) }
-    ensures { First constant_levels bytes.now leaves.now result }
+    ensures { First constant_levels bytes.now leaves.now (first_told result) }
 {
     let mut count: usize = 0;
     let mut at = from;
-    while at < bytes.len() {
-        let entry = table::entry_of(bytes[at]);
-        let Entry::Known(shape) = entry else {
-            return Judgement::Accepted;
-        };
-        let width = table::operand_count(shape);
-        let first = at + 1;
-        if bytes.len() - first < width {
-            return Judgement::Accepted;
+    while let Ok(Taken { command, next }) = commands::read_at(bytes, at) {
+        if let Command::End = command {
+            return None;
         }
-        if is_end(shape) {
-            return Judgement::Accepted;
-        }
-        let next = first + width;
-        if is_first(shape) {
-            if is_broken(leaves, bytes, first, shape) {
-                return broken_at(leaves, bytes, first, shape, count);
+        if is_first(command) {
+            if let Some(broken) = broken_by(leaves, command, count) {
+                return Some(broken);
             }
             count += 1;
         }
         at = next;
     }
-    Judgement::Accepted
+    None
 }
 
 // Judges rows that are as long as they must be, of a question that was read.
@@ -195,53 +199,40 @@ fn judge_rows(
     question: Question,
     clauses: &[u8; CLAUSE_BYTES],
     rows: &[u8],
-) -> Judgement
+) -> Verdict
     requires rows_len { length rows.now ≡ answer_bytes constant_levels }
-    requires bytes_value { (q : model.Question) × (read bytes.now ≡ accepted q) × Stands question.kind (stored_of question clauses.now) q }
+    requires bytes_value { (q : model.Question) × (read bytes.now ≡ accepted q) × Stands (kind_value question.kind) (stored_of question clauses.now) q }
     requires defined_value { question.defined ≡ leading most_constants bytes.now 0 }
-    ensures { (q : model.Question) → read bytes.now ≡ accepted q → Stands question.kind (stored_of question clauses.now) q → result ≡ judgement_of (judged q) rows.now }
+    ensures { (q : model.Question) → read bytes.now ≡ accepted q → Stands (kind_value question.kind) (stored_of question clauses.now) q → verdict_told result ≡ judgement_of (judged q) rows.now }
 {
     let mut leaves = [0u64; TABLE_WORDS];
     unfolded::unfold(rows, &question.constants, question.named, &mut leaves);
-    let first = judge_first(bytes, 4 + CONSTANT_SIZE * question.defined, &leaves);
-    let Judgement::Accepted = first else {
-        return first;
-    };
-    if question.kind == 0 {
-        return Judgement::Accepted;
+    if let Some(broken) = judge_first(bytes, 4 + CONSTANT_SIZE * question.defined, &leaves) {
+        return Verdict::Broken(broken);
     }
-    let sizes = decide::sizes_of(question, &question.constants);
-    if extending::extends(&leaves, clauses, sizes, &question.constants) {
-        return Judgement::Extending;
+    if let Kind::Satisfiability = question.kind {
+        return Verdict::Accepted;
     }
-    Judgement::Accepted
+    let searchable = decide::searchable(&question, clauses);
+    if extending::extends(&searchable, &leaves) {
+        return Verdict::Extending;
+    }
+    Verdict::Accepted
 }
 
 // Reads a question and judges rows for it. Every byte string may be handed over, as either.
-pub fn judge(question: &[u8], rows: &[u8]) -> Judgement
-    ensures result { result ≡ judgement_of (judged_with question.now rows.now) rows.now }
-    ensures model { (q : model.Question) → judged_with question.now rows.now ≡ judged q → Exactly q (row_shares q.constants.levels rows.now) (λ j. result ≡ j) }
-    ensures shown { AskingShows question.now rows.now → result ≡ Accepted }
+pub fn judge(question: &[u8], rows: &[u8]) -> Result<Verdict, Refusal>
+    ensures result { told result ≡ judgement_of (judged_with question.now rows.now) rows.now }
+    ensures model { (q : model.Question) → judged_with question.now rows.now ≡ judged q → Exactly q (row_shares q.constants.levels rows.now) (λ j. told result ≡ j) }
+    ensures shown { AskingShows question.now rows.now → told result ≡ given.Accepted }
 {
     let mut clauses = [0u8; CLAUSE_BYTES];
-    let reading = questions::read(question, &mut clauses);
-    if reading.refusal != 0 {
-        return Judgement::Refused {
-            number: reading.refusal,
-            place: reading.place,
-        };
-    }
+    let read = questions::read(question, &mut clauses)?;
     if rows.len() != ANSWER_BYTES {
-        return Judgement::Refused {
-            number: 18,
-            place: 0,
-        };
+        return Err(Refusal::RowsLength);
     }
-    if !unfolded::zero_from(rows, reading.question.free * ROW_WORDS) {
-        return Judgement::Refused {
-            number: 19,
-            place: 0,
-        };
+    if !unfolded::zero_from(rows, read.free * ROW_WORDS) {
+        return Err(Refusal::RowsNotZero);
     }
-    judge_rows(question, reading.question, &clauses, rows)
+    Ok(judge_rows(question, read, &clauses, rows))
 }

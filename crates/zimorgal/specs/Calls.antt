@@ -8,8 +8,8 @@ use Rattle.text.specs.Texts.{text_length, text_refusal}
 use Rattle.text.specs.declared.TextRefusal.{TextRefusal}
 use Rattle.constants.specs.FromText.{constant_refusal, constant_given}
 use Rattle.constants.specs.declared.NoConstant.{NoConstant}
-use Rattle.judging.specs.declared.Judgement.{Judgement}
-use Rattle.judging.specs.declared.Judgement.TheVariants as judgement
+use Rattle.judging.specs.Judging.{Judgement}
+use Rattle.judging.specs.Judging as judgement
 
 -- a range's offset in the low 32 bits, its length in the high 32
 abbrev pub range_number : Range → ℕ

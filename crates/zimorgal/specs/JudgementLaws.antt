@@ -16,8 +16,7 @@ use Rattle.judging.specs.Exactly.{Exactly, AskingShows}
 use Rattle.judging.proofs.WalkLaws.{failing_le, first_few}
 use Rattle.judging.specs.CaseLaws.{judged_read, turned_away_small}
 use Rattle.judging.proofs.JudgeLaws.{Judges}
-use Rattle.judging.specs.declared.Judgement.{Judgement}
-use Rattle.judging.specs.declared.Judgement.TheVariants.{Refused, Accepted, Broken, Extending}
+use Rattle.judging.specs.Judging.{Judgement, Refused, Accepted, Broken, Extending}
 use Rattle.zimorgal.specs.Calls.{judgement_number, Small}
 
 -- what judging gives does

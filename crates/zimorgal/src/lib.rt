@@ -12,9 +12,9 @@ ghost use Rattle.asking.specs.Asking.{answered, asked_with, outcome_of, answer_a
 ghost use Rattle.asking.specs.Told.{told};
 ghost use Rattle.asking.specs.Exact.{Exact};
 ghost use Rattle.asking.specs.Demand3.{row_shares, Demand3};
-ghost use Rattle.judging.specs.Judging.{judged, judged_with, judgement_of};
+ghost use Rattle.judging.specs.Judging.{Accepted, judged, judged_with, judgement_of};
 ghost use Rattle.judging.specs.Exactly.{Exactly, AskingShows};
-ghost use Rattle.judging.specs.declared.Judgement.TheVariants.{Accepted, Broken};
+ghost use Rattle.judging.specs.Told.{broken_told, told};
 ghost use Rattle.zimorgal.specs.Packing.{packed, unpacked};
 ghost use Rattle.zimorgal.specs.Fields.{InBytes};
 ghost use Rattle.zimorgal.specs.Calls.{range_number, text_number, constant_number, undefined_join, number_join, version_number, judgement_number, Small};
@@ -22,8 +22,7 @@ ghost use Rattle.zimorgal.specs.Joins.{join_number};
 
 use asking::{Answer, Refusal};
 use constants::NoConstant;
-use judging::Judgement;
-use shares::Way;
+use judging::{BrokenClause, Failing, Refusal, Verdict};
 use text::TextRefusal;
 
 // The result as one number, byte by byte.
@@ -70,28 +69,38 @@ pub extern "C" fn zimorgal_judge(question: &[u8], rows: &[u8]) -> u64
     judgement_number(judging::judge(question, rows))
 }
 
-// The number of a broken clause: what it is, the number of the clause, that of the way, and the leaf in two bytes.
-fn broken_number(clause: usize, way: Way, leaf: usize) -> u64
-    requires { Small (Broken clause way leaf) }
-    ensures { result ≡ judgement_number (Broken clause way leaf) }
+// The number of a broken clause: what it is, the number of the clause, that of the way, and the leaf in two bytes; of a
+// disequation these are 0.
+fn broken_number(broken: BrokenClause) -> u64
+    requires { Small (broken_told broken) }
+    ensures { result ≡ judgement_number (broken_told broken) }
 {
-    let low = 2 + 4294967296 * (clause as u64);
+    let low = 2 + 4294967296 * (broken.number as u64);
+    let Some(Failing { way, leaf }) = broken.failing else {
+        return low;
+    };
     let middle = 1099511627776 * u64::from(u8::from(way));
     low + middle + 281474976710656 * (leaf as u64)
 }
 
-// The number of a judgement: what it is, and of a refusal its number, and its place in two bytes.
-fn judgement_number(judgement: Judgement) -> u64
-    requires { Small judgement }
-    ensures { result ≡ judgement_number judgement }
+// The number of a refusal in byte 1, and its place in two bytes.
+fn refused_number(refusal: Refusal) -> u64
+    requires { Small (told (Err refusal)) }
+    ensures { result ≡ judgement_number (told (Err refusal)) }
 {
-    match judgement {
-        Judgement::Refused { number, place } => {
-            256 * basics::wide(number) + 65536 * (place as u64)
-        }
-        Judgement::Accepted => 1,
-        Judgement::Broken { clause, way, leaf } => broken_number(clause, way, leaf),
-        Judgement::Extending => 3,
+    256 * u64::from(u8::from(refusal)) + 65536 * (refusal.place() as u64)
+}
+
+// The number of what judging gives: what it is, and what is said of a refusal or of a broken clause.
+fn judgement_number(judged: Result<Verdict, Refusal>) -> u64
+    requires { Small (told judged) }
+    ensures { result ≡ judgement_number (told judged) }
+{
+    match judged {
+        Err(refusal) => refused_number(refusal),
+        Ok(Verdict::Accepted) => 1,
+        Ok(Verdict::Broken(broken)) => broken_number(broken),
+        Ok(Verdict::Extending) => 3,
     }
 }
 

@@ -3,55 +3,40 @@
 
 ghost use Rattle.std.specs.Prelude.{◌≡◌, ◌≤◌, length, take};
 
-use judging::Judgement;
+use judging::{BrokenClause, Failing, Refusal, Verdict};
 use shares::Way;
 use std::io;
 use std::io::Read;
 
 // Each of these writes to standard output, and stops at the first write that fails.
-fn say_bytes(rt: &impl Print, bytes: &[u8]) -> io::Result<()> {
-    rt.write_all(bytes)
-}
 
-fn say_number(rt: &impl Print, number: usize) -> io::Result<()> {
-    rt.print(number)
-}
-
-// What is printed of a way in which a clause fails, and of the leaf.
-fn say_failing(rt: &impl Print, way: &[u8], leaf: usize) -> io::Result<()> {
-    say_bytes(rt, way)?;
-    say_bytes(rt, b" at ")?;
-    say_number(rt, leaf)
-}
-
-// Of a disequation there is neither.
-fn say_way(rt: &impl Print, way: Way, leaf: usize) -> io::Result<()> {
-    match way {
+// The way in which a clause fails, and the leaf.
+fn say_failing(rt: &impl Print, failing: Failing) -> io::Result<()> {
+    let leaf = failing.leaf;
+    match failing.way {
         Way::Holds => Ok(()),
-        Way::Overlap => say_failing(rt, b" overlap", leaf),
-        Way::Surplus => say_failing(rt, b" surplus", leaf),
-        Way::Shortfall => say_failing(rt, b" shortfall", leaf),
+        Way::Overlap => print!(rt; " overlap at {leaf}"),
+        Way::Surplus => print!(rt; " surplus at {leaf}"),
+        Way::Shortfall => print!(rt; " shortfall at {leaf}"),
     }
 }
 
+// A clause that is broken; a disequation fails at no leaf.
+fn say_broken(rt: &impl Print, broken: BrokenClause) -> io::Result<()> {
+    print!(rt; "broken {}", broken.number)?;
+    if let Some(failing) = broken.failing {
+        say_failing(rt, failing)?;
+    }
+    println!(rt; "")
+}
+
 // What is printed for rows.
-fn say(rt: &impl Print, judgement: Judgement) -> io::Result<()> {
-    match judgement {
-        Judgement::Refused { number, place } => {
-            say_bytes(rt, b"refused ")?;
-            say_number(rt, number as usize)?;
-            say_bytes(rt, b" at ")?;
-            say_number(rt, place)?;
-            say_bytes(rt, b"\n")
-        }
-        Judgement::Accepted => say_bytes(rt, b"accepted\n"),
-        Judgement::Broken { clause, way, leaf } => {
-            say_bytes(rt, b"broken ")?;
-            say_number(rt, clause)?;
-            say_way(rt, way, leaf)?;
-            say_bytes(rt, b"\n")
-        }
-        Judgement::Extending => say_bytes(rt, b"extends\n"),
+fn say(rt: &impl Print, judged: Result<Verdict, Refusal>) -> io::Result<()> {
+    match judged {
+        Err(refusal) => println!(rt; "refused {} at {}", u8::from(refusal), refusal.place()),
+        Ok(Verdict::Accepted) => rt.write_all(b"accepted\n"),
+        Ok(Verdict::Broken(broken)) => say_broken(rt, broken),
+        Ok(Verdict::Extending) => rt.write_all(b"extends\n"),
     }
 }
 
