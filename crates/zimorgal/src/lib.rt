@@ -14,7 +14,7 @@ ghost use Rattle.asking.specs.Exact.{Exact};
 ghost use Rattle.asking.specs.Demand3.{row_shares, Demand3};
 ghost use Rattle.judging.specs.Judging.{Accepted, judged, judged_with, judgement_of};
 ghost use Rattle.judging.specs.Exactly.{Exactly, AskingShows};
-ghost use Rattle.judging.specs.Told.{broken_told, told};
+ghost use Rattle.judging.specs.Told.{broken_told, told as judged_told};
 ghost use Rattle.zimorgal.specs.Packing.{packed, unpacked};
 ghost use Rattle.zimorgal.specs.Fields.{InBytes};
 ghost use Rattle.zimorgal.specs.Calls.{range_number, text_number, constant_number, undefined_join, number_join, version_number, judgement_number, Small};
@@ -22,7 +22,7 @@ ghost use Rattle.zimorgal.specs.Joins.{join_number};
 
 use asking::{Answer, Refusal};
 use constants::NoConstant;
-use judging::{BrokenClause, Failing, Refusal, Verdict};
+use judging::{BrokenClause, Failing, Verdict};
 use text::TextRefusal;
 
 // The result as one number, byte by byte.
@@ -84,17 +84,17 @@ fn broken_number(broken: BrokenClause) -> u64
 }
 
 // The number of a refusal in byte 1, and its place in two bytes.
-fn refused_number(refusal: Refusal) -> u64
-    requires { Small (told (Err refusal)) }
-    ensures { result ≡ judgement_number (told (Err refusal)) }
+fn refused_number(refusal: judging::Refusal) -> u64
+    requires { Small (judged_told (Err refusal)) }
+    ensures { result ≡ judgement_number (judged_told (Err refusal)) }
 {
     256 * u64::from(u8::from(refusal)) + 65536 * (refusal.place() as u64)
 }
 
 // The number of what judging gives: what it is, and what is said of a refusal or of a broken clause.
-fn judgement_number(judged: Result<Verdict, Refusal>) -> u64
-    requires { Small (told judged) }
-    ensures { result ≡ judgement_number (told judged) }
+fn judgement_number(judged: Result<Verdict, judging::Refusal>) -> u64
+    requires { Small (judged_told judged) }
+    ensures { result ≡ judgement_number (judged_told judged) }
 {
     match judged {
         Err(refusal) => refused_number(refusal),
