@@ -130,12 +130,13 @@ led_none s l h e = record { few = omega arith; place = refl; within = h; size = 
 
 module _ {s l₀ l : List ℕ} {n at : ℕ} (L : Led s l₀ n at l) where
   -- the last that may be
-  pub led_last : most_constants ≤ n → LedAll s l₀ most_constants l
+  pub led_last : most_constants ≤ n → LedAll s l₀ n l
   unfolding leading lead_into
-  led_last h =
-      let e : most_constants - n ≡ 0 = omega arith in
-      let m : most_constants ≡ n = omega (arith, L.few) in
-      (m ∙ (rw e at L.count), rw e at L.numbers)
+  led_last h = let e : most_constants - n ≡ 0 = omega arith in (rw e at L.count, rw e at L.numbers)
+
+  -- all that may be
+  pub led_full : most_constants ≤ n → LedAll s l₀ most_constants l
+  led_full h = let e : n ≡ most_constants = omega (arith, L.few) in subst (λ k. LedAll s l₀ k l) e (led_last h)
 
   module _ (h : n < most_constants) where
     more : most_constants - n ≡ suc (most_constants - (n + 1))

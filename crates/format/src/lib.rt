@@ -125,7 +125,6 @@ pub struct Head {
     pub kind: Kind,
     pub free: usize,
     pub own: usize,
-    pub ghost fits: { head_fits (kind_value kind) free own ≡ true },
     pub ghost own_bound: { free + own ≤ 12 },
 }
 

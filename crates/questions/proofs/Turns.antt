@@ -354,8 +354,8 @@ unfolding read clauses_after
 refused_head s n l₀ e = rw (← e) (refl, refl)
 
 module _ (s : List ℕ) (kind free own : ℕ) (e : Opens kind free own ≡ head_of s) where
-  pub head_taken : 4 ≤ length s
-  head_taken = (subst (HeadRight s) (sym e) (head_right s)).0
+  pub head_taken : (4 ≤ length s) × (head_fits kind free own ≡ true)
+  head_taken = subst (HeadRight s) (sym e) (head_right s)
 
   -- what the commands after it give is what the whole string gives
   pub read_on_lem : run (length s) s 4 (opened kind free own) ≡ read s

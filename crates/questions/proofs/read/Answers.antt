@@ -5,7 +5,10 @@ use Rattle.questions.proofs.Turns.{refused_head, head_taken, read_on_lem, writte
 use Rattle.questions.proofs.read.Goals as goal
 
 pub read_commands-requires-clause-in_bounds : goal.read_commands-requires-clause-in_bounds
-read_commands-requires-clause-in_bounds c = head_taken _ _ _ _ c.in-Ok.ensures
+read_commands-requires-clause-in_bounds c = (head_taken _ _ _ _ c.in-Ok.ensures).0
+
+pub read_commands-requires-clause-own_value : goal.read_commands-requires-clause-own_value
+read_commands-requires-clause-own_value c = (head_taken _ _ _ _ c.in-Ok.ensures).1
 
 pub returns-in-Ok : goal.returns-in-Ok
 returns-in-Ok c =

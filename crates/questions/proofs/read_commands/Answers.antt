@@ -15,7 +15,7 @@ loop-command-init c =
     let led = c.read_constants-defined.ensures.value in
     rw (led.0, led.1)
     (starts a.bytes.now (λ i. omega (arith, c.type_inv.bytes i)) _ _ _ _
-    c.requires.clauses_len c.requires.in_bounds a.head.fits)
+    c.requires.clauses_len c.requires.in_bounds c.requires.own_value)
 
 pub returns-in_default : goal.returns-in_default
 returns-in_default c =

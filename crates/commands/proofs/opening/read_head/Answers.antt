@@ -11,7 +11,7 @@ returns-in_default c =
 pub invariant_of-result : goal.invariant_of-result
 invariant_of-result c =
     let f = sym c.head_fits.ensures ∙ c.if-head_fits.true in
-    record { fits = f; own_bound = (head_fits_lem _ _ _ f).variables }
+    record { own_bound = (head_fits_lem _ _ _ f).variables }
 
 pub returns-then-head_fits : goal.returns-then-head_fits
 returns-then-head_fits c =
