@@ -68,6 +68,14 @@ module _ (count : ℕ) (meets : ℕ → Bool) (differs : ℕ → ℕ → Bool) w
       never j l u c (inl a) = L.none j l (M.fewer j (omega arith) u) c a
       never j l u c (inr b) = M.none j l u c b
 
+  -- none fails
+  pub looked_met : (A : ℕ → Type 0) (wanted rest : ℕ) → Looked count meets differs A wanted (Some rest) → AllMet count meets differs A wanted rest
+  looked_met A wanted rest L = L
+
+  -- one that fails is found among more
+  pub looked_wider : (A B : ℕ → Type 0) (wanted : ℕ) → ((c : ℕ) → A c → B c) → Looked count meets differs A wanted None → Looked count meets differs B wanted None
+  looked_wider A B wanted wider L = unmet_wider meets A B wider L
+
   -- other numbers, each of which has the tests of one of these, and each of these those of one of them
   looked_as : (meets' : ℕ → Bool) (differs' : ℕ → ℕ → Bool) (A B : ℕ → Type 0) (wanted : ℕ) (r : Option ℕ)
       → ((c : ℕ) → A c → (i : ℕ) × B i × (meets c ≡ meets' i) × ((j : ℕ) → differs j c ≡ differs' j i))

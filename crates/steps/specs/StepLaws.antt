@@ -1,5 +1,5 @@
 -- One word more of a leaf. Assumes nothing.
-use Rattle.std.specs.Prelude.{◌≡◌, Bool, false, not, ◌&&◌, ◌||◌, List, ℕ, ◌+◌, ◌*◌, ◌/◌, ◌%◌, ◌≤◌, ◌<◌, T, get_or}
+use Rattle.std.specs.Prelude.{◌≡◌, refl, Bool, false, not, ◌&&◌, ◌||◌, List, [], ℕ, ◌+◌, ◌*◌, ◌/◌, ◌%◌, ◌≤◌, ◌<◌, T, get_or}
 use Rattle.std.proofs.Common.{sym, ap, ap₂, ◌∙◌, subst, arith}
 use Rattle.std.proofs.Math.Bool.{or-false}
 use Rattle.std.proofs.Math.Arith.{digits_lt, digits_div, digits_mod}
@@ -22,7 +22,7 @@ use Rattle.steps.specs.Tests.{leaf_values, first_meets, first_differs, second_me
 use Rattle.steps.specs.Steps.{stored_by, on_pairs, meets_here, unmet_here, Settled, Second, Amid}
 use Rattle.steps.specs.TestLaws.{differs_bits}
 use Rattle.steps.specs.declared.Search.{Search}
-use Rattle.steps.specs.declared.Search.TheVariants.{Unmet, Missed}
+use Rattle.steps.specs.declared.Search.TheVariants.{First, Unmet, Missed}
 use Rattle.steps.specs.declared.Seen.{Seen}
 use Rattle.words.specs.declared.Passing.{Passing}
 
@@ -38,6 +38,13 @@ pair_parts n b w k l m =
 pub on_pairs_lem : (S : Stored) (h b w k : ℕ) (f : ℕ → ℕ → Bool) → w < word_count S.free → k < 64
     → on_pairs S h f (64 * (b * word_count S.free + w) + k) ≡ f (leaf_values S h b) (64 * w + k)
 on_pairs_lem S h b w k f l m = let (e, r) = pair_parts S.free b w k l m in ap₂ (λ a z. f (leaf_values S h a) z) e r
+
+-- no test of a leaf needs the constants themselves
+pub allowed_same : (sizes : Sizes) (clauses constants : List ℕ) (search : Search) (values z : ℕ)
+    → allowed_in (stored_by sizes clauses []) search values z ≡ allowed_in (stored_by sizes clauses constants) search values z
+allowed_same sizes clauses constants First values z = refl
+allowed_same sizes clauses constants Unmet values z = refl
+allowed_same sizes clauses constants (Missed j) values z = refl
 
 -- the word after word w
 next : (c b w : ℕ) → (b * c + w) + 1 ≡ b * c + (w + 1)

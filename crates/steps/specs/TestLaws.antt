@@ -85,3 +85,18 @@ module _ (sizes : Sizes) (clauses constants : List ℕ) (R : Readable clauses si
       ∙ R.disequation_free j k (term_value sizes.free sizes.own values (64 * w + i)) (term_value sizes.free 0 values (64 * w + i))
       (λ t. free_same sizes.free sizes.own values (64 * w + i) t)
       (λ t. fixed_same sizes.free sizes.own values (64 * w + i) t R.variables))
+
+-- ---- the searches are apart
+
+number : Search → ℕ
+number First = 0
+number Unmet = 1
+number (Missed j) = 2
+
+pub first_not_unmet : First ≡ Unmet → ⊥
+unfolding number
+first_not_unmet e = let z : ◌≡◌ {A = ℕ} 0 1 = ap number e in omega arith
+
+pub missed_not_unmet : (j : ℕ) → Missed j ≡ Unmet → ⊥
+unfolding number
+missed_not_unmet j e = let z : ◌≡◌ {A = ℕ} 2 1 = ap number e in omega arith
