@@ -14,7 +14,7 @@ ghost use Rattle.asking.specs.Exact.{Exact};
 ghost use Rattle.asking.specs.Demand3.{row_shares, Demand3};
 ghost use Rattle.judging.specs.Judging.{Accepted, judged, judged_with, judgement_of};
 ghost use Rattle.judging.specs.Exactly.{Exactly, AskingShows};
-ghost use Rattle.judging.specs.Told.{broken_told, told};
+ghost use Rattle.judging.specs.Told as judgement;
 ghost use Rattle.zimorgal.specs.Packing.{packed, unpacked};
 ghost use Rattle.zimorgal.specs.Fields.{InBytes};
 ghost use Rattle.zimorgal.specs.Calls.{range_number, text_number, constant_number, undefined_join, number_join, version_number, judgement_number, Small};
@@ -22,7 +22,7 @@ ghost use Rattle.zimorgal.specs.Joins.{join_number};
 
 use asking::{Answer, Refusal};
 use constants::NoConstant;
-use judging::{BrokenClause, Failing, Refusal, Verdict};
+use judging::{BrokenClause, Failing, Verdict};
 use text::TextRefusal;
 
 // The result as one number, byte by byte.
@@ -69,32 +69,33 @@ pub extern "C" fn zimorgal_judge(question: &[u8], rows: &[u8]) -> u64
     judgement_number(judging::judge(question, rows))
 }
 
-// The number of a broken clause: what it is, the number of the clause, that of the way, and the leaf in two bytes; of a
-// disequation these are 0.
+// The number of a broken clause, byte by byte: what it is, the number of the clause, that of the way, and the leaf in
+// two bytes; of a disequation the last two are 0.
 fn broken_number(broken: BrokenClause) -> u64
-    requires { Small (broken_told broken) }
-    ensures { result ≡ judgement_number (broken_told broken) }
+    requires { Small (judgement.broken_told broken) }
+    ensures { result ≡ judgement_number (judgement.broken_told broken) }
 {
-    let low = 2 + 4294967296 * (broken.number as u64);
+    let clause = broken.number as u8;
     let Some(Failing { way, leaf }) = broken.failing else {
-        return low;
+        return u64::from_le_bytes([2, 0, 0, 0, clause, 0, 0, 0]);
     };
-    let middle = 1099511627776 * u64::from(u8::from(way));
-    low + middle + 281474976710656 * (leaf as u64)
+    let [low, high] = (leaf as u16).to_le_bytes();
+    u64::from_le_bytes([2, 0, 0, 0, clause, u8::from(way), low, high])
 }
 
-// The number of a refusal in byte 1, and its place in two bytes.
-fn refused_number(refusal: Refusal) -> u64
-    requires { Small (told (Err refusal)) }
-    ensures { result ≡ judgement_number (told (Err refusal)) }
+// The number of a refusal, in byte 1, and its place, in two bytes.
+fn refused_number(refusal: judging::Refusal) -> u64
+    requires { Small (judgement.told (Err refusal)) }
+    ensures { result ≡ judgement_number (judgement.told (Err refusal)) }
 {
-    256 * u64::from(u8::from(refusal)) + 65536 * (refusal.place() as u64)
+    let [low, high] = (refusal.place() as u16).to_le_bytes();
+    u64::from_le_bytes([0, u8::from(refusal), low, high, 0, 0, 0, 0])
 }
 
 // The number of what judging gives: what it is, and what is said of a refusal or of a broken clause.
-fn judgement_number(judged: Result<Verdict, Refusal>) -> u64
-    requires { Small (told judged) }
-    ensures { result ≡ judgement_number (told judged) }
+fn judgement_number(judged: Result<Verdict, judging::Refusal>) -> u64
+    requires { Small (judgement.told judged) }
+    ensures { result ≡ judgement_number (judgement.told judged) }
 {
     match judged {
         Err(refusal) => refused_number(refusal),
