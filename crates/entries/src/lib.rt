@@ -15,6 +15,7 @@ use words::FIRST_WORDS;
 pub const ROWS: usize = 96;
 
 // Keeps word number `turn` as that of search e, with the choices y in it that pass, if there are any and the search has found none yet.
+// From has no conversion from usize to u64.
 pub fn keep_word(e: usize, turn: usize, y: u64, met: u64, firsts: &mut [u64; FIRST_WORDS]) -> u64
     requires { e < 33 }
     ensures { Kept e turn (bit y) met firsts.old result firsts.new }

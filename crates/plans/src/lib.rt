@@ -1,7 +1,7 @@
 // The plan of a solution that was found: which choice stands at each leaf, and at which sub-leaf each disequation stands with its own.
 #![tactic(auto)]
 
-ghost use Rattle.std.specs.Prelude.{◌≡◌, ℕ, ◌+◌, ◌-◌, ◌*◌, ◌/◌, ◌%◌, ◌^◌, ◌<◌, ◌≤◌, ◌&&◌, eqb, length, get_or, set};
+ghost use Rattle.std.specs.Prelude.{◌≡◌, ℕ, ◌+◌, ◌-◌, ◌*◌, ◌/◌, ◌%◌, ◌^◌, ◌<◌, ◌≤◌, length, get_or, set};
 ghost use Rattle.leaves.specs.Heights.{c};
 ghost use Rattle.leaves.specs.Problem.{Problem};
 ghost use Rattle.guesses.specs.Guesses.{least_number};
@@ -117,8 +117,8 @@ fn sub_leaf(leaf: usize, splits: usize, rank: usize) -> u16
 }
 
 // Takes the next sub-leaf of a leaf: its rank is how many were taken there before.
-fn take_rank(taken: &mut [u8], leaf: usize) -> usize
-    requires { (leaf < length taken.old) × (get_or taken.old leaf 0 < 32) }
+fn take_rank(taken: &mut [u8; 64], leaf: usize) -> usize
+    requires { (leaf < 64) × (get_or taken.old leaf 0 < 32) }
     ensures { (result ≡ get_or taken.old leaf 0) × (result < 32) × (taken.new ≡ set taken.old leaf (result + 1)) }
 {
     let rank = taken[leaf];
@@ -127,8 +127,8 @@ fn take_rank(taken: &mut [u8], leaf: usize) -> usize
 }
 
 // The least choice of leaf b: that of the leaf before it, if it has the same word.
-fn plain_at(leaves: &[u64; LEAF_WORDS], b: usize, free: usize, plain: &[u16]) -> u16
-    requires b_bound { (b < 64) × (free ≤ 12) × (length plain.now ≡ 64) }
+fn plain_at(leaves: &[u64; LEAF_WORDS], b: usize, free: usize, plain: &[u16; 64]) -> u16
+    requires b_bound { (b < 64) × (free ≤ 12) }
     requires b_bound_2 { (number_at leaves.now b < 2 ^ free) × (0 < b → get_or plain.now (b - 1) 0 ≡ number_at leaves.now (b - 1)) }
     ensures { result ≡ number_at leaves.now b }
 {
@@ -140,8 +140,8 @@ fn plain_at(leaves: &[u64; LEAF_WORDS], b: usize, free: usize, plain: &[u16]) ->
 }
 
 // Puts the least choices of the first `count` leaves into the plan.
-fn fill_plain(leaves: &[u64; LEAF_WORDS], count: usize, free: usize, plain: &mut [u16])
-    requires { (count ≤ 64) × (free ≤ 12) × (length plain.old ≡ 64) × ((b : ℕ) → b < count → number_at leaves.now b < 2 ^ free) }
+fn fill_plain(leaves: &[u64; LEAF_WORDS], count: usize, free: usize, plain: &mut [u16; 64])
+    requires { (count ≤ 64) × (free ≤ 12) × ((b : ℕ) → b < count → number_at leaves.now b < 2 ^ free) }
     ensures { (b : ℕ) → b < count → get_or plain.new b 0 ≡ number_at leaves.now b }
 {
     for b in 0..count {
@@ -150,9 +150,8 @@ fn fill_plain(leaves: &[u64; LEAF_WORDS], count: usize, free: usize, plain: &mut
 }
 
 // Gives each disequation its sub-leaf: from the left those of a leaf stand in order.
-fn fill_entries(firsts: &[u64; FIRST_WORDS], outline: Outline, entries: &mut [Entry])
+fn fill_entries(firsts: &[u64; FIRST_WORDS], outline: Outline, entries: &mut [Entry; 32])
     requires fitting { Fitting outline firsts.now }
-    requires entries_len { length entries.old ≡ 32 }
     ensures { Filled outline firsts.now (outline.extra + outline.count) entries.new }
 {
     let mut taken = [0u8; 64];

@@ -18,8 +18,8 @@ use format::{Command, Fault, Head, Question, Refused, Taken};
 // A question has at most this many constants.
 const MOST_CONSTANTS: usize = 32;
 
-// The constants that stand first, behind the head, up to the last that may be defined: their numbers, and how many there are. These are
-// all: one that stands behind a clause, or behind as many as there may be, is a fault.
+// The constants that stand first, behind the head, up to the last that may be defined: their numbers, and how many
+// there are. These are all: one that stands behind a clause, or behind as many as there may be, is a fault.
 #[tactic(auto, using(format::proofs::LeadLaws::led_last, format::proofs::LeadLaws::led_end))]
 fn read_constants(bytes: &[u8], constants: &mut [u64]) -> usize
     requires { (4 ≤ length bytes.now) × (length constants.old ≡ most_constants) }

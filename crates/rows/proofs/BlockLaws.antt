@@ -1,7 +1,7 @@
 -- Laws of blocks, for every height: which bytes and bits they are, and their trees. Assumes nothing.
-use Rattle.std.specs.Prelude.{◌≡◌, Bool, ◌&&◌, List, ◌++◌, ◌↔◌, eqb, ltb, length, get_or, set, take, drop, replicate}
+use Rattle.std.specs.Prelude.{◌≡◌, Bool, ◌&&◌, List, ◌++◌, ◌↔◌, T, eqb, ltb, length, get_or, set, take, drop, replicate}
 use Rattle.std.proofs.Math.Path.{refl, sym, ap}
-use Rattle.std.proofs.Common.{ap₂, ◌∙◌, subst, add-sub_of_le, mul-add, add-mul, mul_assoc, one-mul, two-mul, div-lt_iff_lt-mul, eq-eqb, ne_eqb, lt-ltb, le-ltb, lit<, pow_pos, pow-add, pow_mono, shr-shr, length-take-le, get_or-append-add, get_or-set_same, get_or-set_other, get_or-take, get_or-drop}
+use Rattle.std.proofs.Common.{ap₂, ◌∙◌, subst, add-sub_of_le, mul-add, add-mul, mul_assoc, mul_comm, length-drop, one-mul, two-mul, div-lt_iff_lt-mul, eq-eqb, ne_eqb, lt-ltb, le-ltb, lit<, pow_pos, pow-add, pow_mono, shr-shr, length-take-le, get_or-append-add, get_or-set_same, get_or-set_other, get_or-take, get_or-drop}
 use Rattle.std.proofs.Math.Bool.{true, false, cond}
 use Prim.Native.Nat.{ℕ, zero, suc, ◌+◌, ◌-◌, ◌*◌, ◌/◌, ◌%◌, ◌^◌, ◌≤◌, ◌<◌, zero-le}
 use Rattle.std.proofs.Math.Nat.{two-pow-succ, mod-lt, lt-div-mul-add}
@@ -11,6 +11,8 @@ use Rattle.std.proofs.Math.Arith.{digits_div, digits_lt}
 use Rattle.std.proofs.lemmas.List.{length-replicate, get_or-replicate}
 use Rattle.std.proofs.Math.ListN.{get_or-append}
 use Rattle.std.proofs.lemmas.Nat.{shl-shr}
+use Rattle.std.specs.Bool.{MatchBool}
+use Rattle.std.specs.List.{AllWithin, HoldsAt}
 use Rattle.std.proofs.Math.Pow.{field, split}
 use Rattle.shares.specs.Test.{is_true}
 use Rattle.shares.specs.Below.{every_below}
@@ -155,27 +157,47 @@ module _ (h : ℕ) (high : 3 ≤ h) where
         go true = whole_bit v (i % 8) (omega arith)
         go false = refl
 
-    part_at_lem : (r : ℕ) → r < 2 ^ (h - 3) → get_or (take (2 ^ (h - 3)) (drop (q * 2 ^ (h - 3)) row)) r 0 ≡ get_or row (q * 2 ^ (h - 3) + r) 0
-    part_at_lem r l = get_or-take (2 ^ (h - 3)) (drop (q * 2 ^ (h - 3)) row) r 0 l ∙ get_or-drop (q * 2 ^ (h - 3)) row r 0
-
-    pub bytes_constant : (v : Bool) → ((j : ℕ) → get_or row j 0 < 256)
-        → ((r : ℕ) → r < 2 ^ (h - 3) → get_or (take (2 ^ (h - 3)) (drop (q * 2 ^ (h - 3)) row)) r 0 ≡ whole_byte v) ↔ AllLeaves row h q v
+    -- the leaves of its bytes are those of the block
+    part_at_lem : (i : ℕ) → i < 2 ^ h → row_leaf (take (2 ^ (h - 3)) (drop (q * 2 ^ (h - 3)) row)) i ≡ row_leaf row (q * 2 ^ h + i)
     unfolding row_leaf
-    bytes_constant v byte = (
-      λ f i e. let r = i / 8 % 2 ^ (h - 3) in
-          let small : r < 2 ^ (h - 3) = mod-lt (i / 8) (pow_pos (h - 3)) in
-          let there : i / 8 ≡ q * 2 ^ (h - 3) + r =
-          sym (split (i / 8) (h - 3)) ∙ ap (λ (x : ℕ). x * 2 ^ (h - 3) + r) (of_bytes i ∙ e) in
-          ap (λ (x : ℕ). bit (get_or row x 0) (i % 8)) there ∙ ap (λ (x : ℕ). bit x (i % 8)) (sym (part_at_lem r small) ∙ f r small)
-          ∙ whole_bit v (i % 8) (omega arith),
-      λ g r l. let j = q * 2 ^ (h - 3) + r in
-          part_at_lem r l
-          ∙ bits_same 8 (get_or row j 0) (whole_byte v) (byte j) (whole_lt v)
-          (λ p u. let there : (8 * j + p) / 8 ≡ j = omega arith in
-          sym (leaf_byte row j p u)
-          ∙ g (8 * j + p) (sym (of_bytes (8 * j + p)) ∙ ap (λ (x : ℕ). x / 2 ^ (h - 3)) there ∙ digits_div q l)
-          ∙ sym (whole_bit v p u)),
+    part_at_lem i l =
+        let s = 2 ^ (h - 3) in
+        let start : q * 2 ^ h ≡ 8 * (q * s) =
+        ap (λ (n : ℕ). q * n) (eight h high) ∙ sym (mul_assoc q s 8) ∙ mul_comm (q * s) 8 in
+        ap (λ x. bit x (i % 8)) (get_or-take s (drop (q * s) row) (i / 8) 0 (omega (arith, eight h high)) ∙ get_or-drop (q * s) row (i / 8) 0)
+        ∙ ap₂ (λ x r. bit (get_or row x 0) r) (omega arith) (omega arith)
+
+    pub bytes_constant : (v : Bool)
+        → ((i : ℕ) → i < 8 * length (take (2 ^ (h - 3)) (drop (q * 2 ^ (h - 3)) row)) → row_leaf (take (2 ^ (h - 3)) (drop (q * 2 ^ (h - 3)) row)) i ≡ v) ↔ AllLeaves row h q v
+    bytes_constant v = (
+      λ f i e. let r = i % 2 ^ h in
+          let small : r < 2 ^ h = mod-lt i (pow_pos h) in
+          let there : q * 2 ^ h + r ≡ i = ap (λ (x : ℕ). x * 2 ^ h + r) (sym e) ∙ split i h in
+          ap (row_leaf row) (sym there) ∙ sym (part_at_lem r small) ∙ f r (omega (arith, small, size, eight h high)),
+      λ g i l. let small : i < 2 ^ h = omega (arith, size, eight h high) in
+          part_at_lem i small ∙ g (q * 2 ^ h + i) (digits_div q small),
     )
+      where
+        size : length (take (2 ^ (h - 3)) (drop (q * 2 ^ (h - 3)) row)) ≡ 2 ^ (h - 3)
+        size = length-take-le (2 ^ (h - 3)) (drop (q * 2 ^ (h - 3)) row) (omega (arith, length-drop (q * 2 ^ (h - 3)) row, bytes_inside))
+
+-- bytes are all the same whole byte exactly if their leaves are all the same
+module _ (part : List ℕ) (v : Bool) (byte : (j : ℕ) → get_or part j 0 < 256) where
+  pub whole_leaves : ((j : ℕ) → j < length part → get_or part j 0 ≡ whole_byte v) → (i : ℕ) → i < 8 * length part → row_leaf part i ≡ v
+  unfolding row_leaf
+  whole_leaves f i l = ap (λ (x : ℕ). bit x (i % 8)) (f (i / 8) (omega arith)) ∙ whole_bit v (i % 8) (omega arith)
+
+  pub leaves_whole : ((i : ℕ) → i < 8 * length part → row_leaf part i ≡ v) → (j : ℕ) → j < length part → get_or part j 0 ≡ whole_byte v
+  leaves_whole g j l =
+      bits_same 8 (get_or part j 0) (whole_byte v) (byte j) (whole_lt v)
+      (λ p u. sym (leaf_byte part j p u) ∙ g (8 * j + p) (omega arith) ∙ sym (whole_bit v p u))
+
+  -- as the walk over the bytes tells
+  pub filled_test : (b : ℕ) → b ≡ whole_byte v → (r : Bool)
+      → MatchBool r (AllWithin (λ x. x ≡ b) part 0 (length part)) ((k : ℕ) × (k < length part) × HoldsAt (λ x. x ≡ b → ⊥) part k)
+      → T r ↔ ((i : ℕ) → i < 8 * length part → row_leaf part i ≡ v)
+  filled_test b e true all = (λ _. whole_leaves (λ j l. all j 0 zero-le l ∙ e), λ _. tt)
+  filled_test b e false (k, l, other) = (λ t. absurd t, λ g. absurd (other 0 (leaves_whole g k l ∙ sym e)))
 
 -- ---- the tree of a block
 

@@ -7,9 +7,10 @@ use Prim.Native.Nat.{ℕ, ◌+◌, ◌-◌, ◌*◌, ◌/◌, ◌%◌, ◌^◌, 
 use native.Mathlib.Nat.{mod-lt}
 use native.Mathlib.Omega.{arith}
 use lib.Dec.{T, eqb}
-use lib.ListN.{length, get_or, set, take, drop, replicate, length-take, length-drop}
+use lib.ListN.{length, get_or, set, take, drop, replicate}
 use lib.Pow.{pow_pos}
 use Rattle.shares.specs.Constant.{bit}
+use Rattle.rows.specs.Rows.{row_leaf}
 use Rattle.rows.specs.Blocks.{Inside, AllLeaves, BlockSet, whole_byte}
 use Rattle.rows.proofs.BlockLaws.{byte_inside, set_byte, byte_constant, bytes_inside, set_bytes, bytes_constant}
 
@@ -51,11 +52,10 @@ module _ (row : List ℕ) (h q : ℕ) (inside : Inside h q (length row)) where
         → BlockSet row (take (q * s) row ++ (last ++ drop (q * s + s - q * s) (drop (q * s) row))) h q v
     fill_at m b v last em el eb = rw (el, ← em, part_size, e) (set_bytes h high row q inside.fits b v eb)
 
-    pub test_part : (b : ℕ) (v r : Bool) → ((j : ℕ) → get_or row j 0 < 256) → b ≡ whole_byte v
-        → T r ↔ ((i : ℕ) → i < length (take (q * s + s - q * s) (drop (q * s) row)) → get_or (take (q * s + s - q * s) (drop (q * s) row)) i 0 ≡ b)
+    pub test_part : (v r : Bool)
+        → T r ↔ ((i : ℕ) → i < 8 * length (take (q * s + s - q * s) (drop (q * s) row)) → row_leaf (take (q * s + s - q * s) (drop (q * s) row)) i ≡ v)
         → T r ↔ AllLeaves row h q v
-    test_part b v r byte eb given =
-        let size : length (take s (drop (q * s) row)) ≡ s = simp (length-take, length-drop) (omega (arith, part_fits)) in
-        let k = rw (part_size, size, eb, e) at given in
-        let iff = bytes_constant h high row q inside.fits v byte in
+    test_part v r given =
+        let k = rw (part_size, e) at given in
+        let iff = bytes_constant h high row q inside.fits v in
         (λ t. iff.0 (k.0 t), λ a. k.1 (iff.1 a))

@@ -1,10 +1,11 @@
 // Blocks of a row: block q of height h is the leaves q * 2^h to q * 2^h + 2^h - 1, some bits of one byte up to height 3, else whole bytes.
-ghost use Rattle.std.specs.Prelude.{◌≡◌, ◌↔◌, cond, ℕ, ◌-◌, ◌*◌, ◌/◌, ◌^◌, ◌<◌, ◌≤◌, T, eqb, length, get_or};
+ghost use Rattle.std.specs.Prelude.{◌≡◌, ◌↔◌, cond, ℕ, ◌+◌, ◌-◌, ◌*◌, ◌/◌, ◌^◌, ◌<◌, ◌≤◌, T, eqb, length, get_or};
 ghost use Rattle.shares.specs.Constant.{bit};
 ghost use Rattle.rows.specs.Rows.{row_leaf};
 ghost use Rattle.rows.specs.Blocks.{Inside, AllLeaves, BlockSet, whole_byte};
 
 // The bits of block `a` of a byte: as many ones as a block has leaves, moved to where it lies.
+#[tactic(auto, using(crate::proofs::Masks::mask_shift, crate::proofs::Masks::mask_fits, crate::proofs::Masks::mask_right))]
 fn mask(height: usize, a: usize) -> u8
     requires { (height ≤ 3) × (a < 2 ^ (3 - height)) }
     ensures { (i : ℕ) → i < 8 → bit result i ≡ eqb (i / 2 ^ height) a }
@@ -22,6 +23,7 @@ fn whole(full: bool) -> u8
 }
 
 // A byte with the leaves of its block `a` set.
+#[tactic(auto, using(crate::proofs::Bytes::block_bits))]
 fn with_block(byte: u8, height: usize, a: usize, full: bool) -> u8
     requires { (height ≤ 3) × (a < 2 ^ (3 - height)) }
     ensures { (i : ℕ) → i < 8 → bit result i ≡ cond (eqb (i / 2 ^ height) a) full (bit byte i) }
@@ -37,21 +39,16 @@ fn is_block(byte: u8, height: usize, a: usize, full: bool) -> bool
     (byte ^ whole(full)) & mask(height, a) == 0
 }
 
-// Whether every byte is the one given.
-fn is_filled(part: &[u8], byte: u8) -> bool
-    ensures { T result ↔ ((i : ℕ) → i < length part.now → get_or part.now i 0 ≡ byte) }
+// Whether every leaf of some bytes is the one asked for.
+fn is_filled(part: &[u8], full: bool) -> bool
+    ensures { T result ↔ ((i : ℕ) → i < 8 * length part.now → row_leaf part.now i ≡ full) }
 {
-    let mut i: usize = 0;
-    while i < part.len() {
-        if part[i] != byte {
-            return false;
-        }
-        i += 1;
-    }
-    true
+    let byte = whole(full);
+    part.iter().all(|b| *b == byte)
 }
 
 // Sets the leaves of block q: whole bytes, or some bits of one byte.
+#[tactic(auto, using(crate::proofs::Parts::set_at, crate::proofs::Parts::fill_at))]
 pub fn write_block(row: &mut [u8], height: usize, q: usize, full: bool)
     requires { Inside height q (length row.old) }
     ensures { BlockSet row.old row.new height q full }
@@ -64,7 +61,7 @@ pub fn write_block(row: &mut [u8], height: usize, q: usize, full: bool)
     }
     let size = basics::power(height - 3);
     let start = q * size;
-    basics::fill(&mut row[start..start + size], whole(full));
+    row[start..start + size].fill(whole(full));
 }
 
 // Sets the leaves of block q, which are all `old`. Nothing is written where they are to stay so.
@@ -78,25 +75,60 @@ pub fn change_block(row: &mut [u8], height: usize, q: usize, old: bool, full: bo
     write_block(row, height, q, full);
 }
 
-// The first leaf of block q.
-pub fn first_leaf(row: &[u8], height: usize, q: usize) -> bool
-    requires { Inside height q (length row.now) }
-    ensures { result ≡ row_leaf row.now (q * 2 ^ height) }
-{
-    let i = q * basics::power(height);
-    basics::digit(basics::wide(row[i / 8]), i % 8)
+// Block `number` of a row that is only read.
+#[derive(Clone, Copy)]
+pub struct Block<'a> {
+    pub row: &'a [u8],
+    pub height: usize,
+    pub number: usize,
+    pub ghost inside: { Inside height number (length row.now) },
 }
 
-// Whether every leaf of block q is the one asked for. It stops at the first byte that has another.
-pub fn is_uniform(row: &[u8], height: usize, q: usize, full: bool) -> bool
-    requires { Inside height q (length row.now) }
-    ensures { T result ↔ AllLeaves row.now height q full }
-{
-    if height <= 3 {
-        let blocks = basics::power(3 - height);
-        return is_block(row[q / blocks], height, q % blocks, full);
+impl<'a> Block<'a> {
+    // Its first leaf.
+    #[tactic(auto, unfolding(crate::specs::Rows::row_leaf))]
+    pub fn first_leaf(self) -> bool
+        ensures { result ≡ row_leaf self.entry.row.now (self.entry.number * 2 ^ self.entry.height) }
+    {
+        let i = self.number * basics::power(self.height);
+        basics::digit(u64::from(self.row[i / 8]), i % 8)
     }
-    let size = basics::power(height - 3);
-    let start = q * size;
-    is_filled(&row[start..start + size], whole(full))
+
+    // Whether every leaf of it is the one asked for. It stops at the first byte that has another.
+    pub fn is_uniform(self, full: bool) -> bool
+        ensures { T result ↔ AllLeaves self.entry.row.now self.entry.height self.entry.number full }
+    {
+        if self.height <= 3 {
+            let blocks = basics::power(3 - self.height);
+            return is_block(
+                self.row[self.number / blocks],
+                self.height,
+                self.number % blocks,
+                full,
+            );
+        }
+        let size = basics::power(self.height - 3);
+        let start = self.number * size;
+        is_filled(&self.row[start..start + size], full)
+    }
+
+    // Its left half and its right half.
+    pub fn halves(self) -> (Block<'a>, Block<'a>)
+        requires { 0 < self.height }
+        ensures left { (result.0.row.now ≡ self.entry.row.now) × (result.0.height ≡ self.entry.height - 1) × (result.0.number ≡ 2 * self.entry.number) }
+        ensures right { (result.1.row.now ≡ self.entry.row.now) × (result.1.height ≡ self.entry.height - 1) × (result.1.number ≡ 2 * self.entry.number + 1) }
+    {
+        let height = self.height - 1;
+        let left = Block {
+            row: self.row,
+            height,
+            number: 2 * self.number,
+        };
+        let right = Block {
+            row: self.row,
+            height,
+            number: 2 * self.number + 1,
+        };
+        (left, right)
+    }
 }

@@ -9,7 +9,7 @@ ghost use Rattle.rows.specs.Emptied.{emptied};
 ghost use Rattle.show.specs.Plans.{Shows, shown_answer};
 
 use plans::Plan;
-use rows::blocks::{change_block, first_leaf};
+use rows::blocks::{Block, change_block};
 use rows::{ANSWER_BYTES, ROW_BYTES, ROW_LEVELS};
 
 // Digit p of a choice.
@@ -20,14 +20,15 @@ fn digit_of(choice: u16, p: usize) -> bool
     basics::digit(u64::from(choice), p)
 }
 
-// Writes the 2^low leaves, each with digit p of its choice, to a row that is empty.
+// Writes the 2^low leaves, each with digit p of its choice, to a row that is empty. Their number is shifted down from 64,
+// since with `1 << low` the end of the loop is made a shift and a test at each turn.
 #[tactic(auto, using(crate::proofs::LeafLaws::leaves_few))]
 fn write_leaves(row: &mut [u8], plan: &Plan, p: usize)
     requires { (plan.now.low ≤ 6) × (row.old ≡ zeros (row_bytes constant_levels)) × (p < 16) }
     ensures { (i : ℕ) → i < 2 ^ row_levels constant_levels → row_leaf row.new i ≡ bit (get_or plan.now.plain (i / 2 ^ (row_levels constant_levels - plan.now.low)) 0) p }
 {
     let height = ROW_LEVELS - plan.low;
-    let count = basics::power(plan.low);
+    let count = 64 >> (6 - plan.low);
     for (k, choice) in plan.plain[..count].iter().enumerate() {
         change_block(row, height, k, false, digit_of(*choice, p));
     }
@@ -41,9 +42,14 @@ fn write_sub_leaves(row: &mut [u8], plan: &Plan, p: usize)
 {
     let height = ROW_LEVELS - plan.high;
     for entry in &plan.entries[..plan.count] {
-        let s = usize::from(entry.subleaf);
-        let old = first_leaf(row, height, s);
-        change_block(row, height, s, old, digit_of(entry.choice, p));
+        let number = usize::from(entry.subleaf);
+        let block = Block {
+            row,
+            height,
+            number,
+        };
+        let old = block.first_leaf();
+        change_block(row, height, number, old, digit_of(entry.choice, p));
     }
 }
 

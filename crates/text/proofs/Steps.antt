@@ -4,7 +4,6 @@ use mathlib.Core.Bool.{Bool, true, false}
 use mathlib.Core.List.{List, [], ◌∷◌, ◌++◌}
 use mathlib.Core.Logic.{◌↔◌}
 use Prim.Native.Nat.{ℕ, suc, ◌+◌, ◌-◌, ◌*◌, ◌^◌, ◌≤◌, ◌<◌}
-use native.Mathlib.Nat.{mul-one, mul-le-mul_left}
 use native.Mathlib.Numerals.{add-one}
 use native.Mathlib.Omega.{arith}
 use lib.Dec.{T}
@@ -16,7 +15,7 @@ use Rattle.shares.specs.NumberLaws.{halved}
 use Rattle.shares.specs.Tree.{Tree, leaf, pair}
 use Rattle.shares.specs.Text.{sign, text}
 use Rattle.rows.specs.Blocks.{Inside, block_tree, AllLeaves}
-use Rattle.rows.proofs.BlockLaws.{halves_inside, block_leaf_iff, block_pair}
+use Rattle.rows.proofs.BlockLaws.{block_leaf_iff, block_pair}
 use Rattle.text.specs.Put.{Put}
 
 -- ---- texts
@@ -86,9 +85,6 @@ module _ (row : List ℕ) (h q : ℕ) (inside : Inside h q (length row)) where
   right : Tree
   right = block_tree row (h - 1) (2 * q + 1)
 
-  pub number_small : 2 * q + 1 < 2 ^ 40
-  number_small = let e : q * 1 ≤ q * 2 ^ h = mul-le-mul_left q (pow_pos h) in omega (arith, inside.fits, inside.few, mul-one q)
-
   pub at_room : (at : ℕ) (buffer : List ℕ) → at + length (text (block_tree row h q)) ≤ length buffer → at < length buffer
   at_room at buffer room = omega (arith, text_some (block_tree row h q))
 
@@ -121,9 +117,6 @@ module _ (row : List ℕ) (h q : ℕ) (inside : Inside h q (length row)) where
 
     pub above : 0 < h
     above = is_pair_lem.0
-
-    pub insides : Inside (h - 1) (2 * q) (length row) × Inside (h - 1) (2 * q + 1) (length row)
-    insides = halves_inside h q (length row) above inside
 
     halves_length : length (text tree) ≡ 2 + length (text left) + length (text right)
     halves_length = ap (λ t. length (text t)) is_pair_lem.1 ∙ pair_length left right

@@ -5,11 +5,11 @@ ghost use Rattle.std.specs.Prelude.{◌≡◌, ◌+◌, ◌*◌, ◌^◌, ◌≤
 ghost use Rattle.shares.specs.Constant.{constant_levels};
 ghost use Rattle.shares.specs.Text.{text};
 ghost use Rattle.rows.specs.Rows.{row_levels, row_bytes};
-ghost use Rattle.rows.specs.Blocks.{Inside, block_tree};
+ghost use Rattle.rows.specs.Blocks.{block_tree};
 ghost use Rattle.text.specs.Texts.{refusal_number, row_text, text_answer, text_after};
 ghost use Rattle.text.specs.Put.{Put};
 
-use rows::blocks::is_uniform;
+use rows::blocks::Block;
 use rows::{ROW_BYTES, ROW_LEVELS};
 
 // No text of a row is longer than this.
@@ -34,50 +34,57 @@ impl From<TextRefusal> for u8 {
     }
 }
 
-// The first sign of the text of block q: the leaf that it is, or a bracket.
-fn first_sign(row: &[u8], height: usize, q: usize) -> u8
-    requires { Inside height q (length row.now) }
-    ensures { result ≡ get_or (text (block_tree row.now height q)) 0 0 }
+// The first sign of the text of a block: the leaf that it is, or a bracket.
+fn first_sign(block: Block<'_>) -> u8
+    ensures { result ≡ get_or (text (block_tree block.entry.row.now block.entry.height block.entry.number)) 0 0 }
 {
-    if is_uniform(row, height, q, false) {
+    if block.is_uniform(false) {
         return b'o';
     }
-    if is_uniform(row, height, q, true) {
+    if block.is_uniform(true) {
         return b'*';
     }
     b'('
 }
 
-// The length of the text of block q.
-fn text_length(row: &[u8], height: usize, q: usize) -> usize
-    requires { Inside height q (length row.now) }
-    ensures { (result ≡ length (text (block_tree row.now height q))) × (result + 2 ≤ 3 * 2 ^ height) }
+// The length of the text of a block.
+fn text_length(block: Block<'_>) -> usize
+    ensures { (result ≡ length (text (block_tree block.entry.row.now block.entry.height block.entry.number))) × (result + 2 ≤ 3 * 2 ^ block.entry.height) }
 {
-    if first_sign(row, height, q) != b'(' {
+    if first_sign(block) != b'(' {
         return 1;
     }
-    let below = height - 1;
-    let left = text_length(row, below, 2 * q);
-    let right = text_length(row, below, 2 * q + 1);
-    2 + left + right
+    let (left, right) = block.halves();
+    2 + text_length(left) + text_length(right)
 }
 
-// Writes the text of block q from an offset of the buffer on, and gives the offset after it.
-fn write_text(row: &[u8], height: usize, q: usize, buffer: &mut [u8], at: usize) -> usize
-    requires inside { Inside height q (length row.now) }
-    requires q_in_bounds { at + length (text (block_tree row.now height q)) ≤ length buffer.old }
-    ensures { Put (text (block_tree row.now height q)) buffer.old at result buffer.new }
+// Writes the text of a block from an offset of the buffer on, and gives the offset after it.
+fn write_text(block: Block<'_>, buffer: &mut [u8], at: usize) -> usize
+    requires { at + length (text (block_tree block.row.now block.height block.number)) ≤ length buffer.old }
+    ensures { Put (text (block_tree block.entry.row.now block.entry.height block.entry.number)) buffer.old at result buffer.new }
 {
-    let sign = first_sign(row, height, q);
+    let sign = first_sign(block);
     buffer[at] = sign;
     if sign != b'(' {
         return at + 1;
     }
-    let below = height - 1;
-    let middle = write_text(row, below, 2 * q, buffer, at + 1);
-    let end = write_text(row, below, 2 * q + 1, buffer, middle);
+    let (left, right) = block.halves();
+    let middle = write_text(left, buffer, at + 1);
+    let end = write_text(right, buffer, middle);
     buffer[end] = b')';
     end + 1
+}
+
+// A row as one block.
+fn whole(row: &[u8]) -> Block<'_>
+    requires { length row.now ≡ row_bytes constant_levels }
+    ensures { (result.row.now ≡ row.now) × (result.height ≡ row_levels constant_levels) × (result.number ≡ 0) }
+{
+    Block {
+        row,
+        height: ROW_LEVELS,
+        number: 0,
+    }
 }
 
 // Whether the text of a row fits so many bytes.
@@ -88,7 +95,7 @@ fn text_fits(row: &[u8], room: usize) -> bool
     if LONGEST_TEXT <= room {
         return true;
     }
-    text_length(row, ROW_LEVELS, 0) <= room
+    text_length(whole(row)) <= room
 }
 
 // Writes the text of a row to the buffer, and gives its length.
@@ -102,5 +109,5 @@ pub fn tree_text(row: &[u8], buffer: &mut [u8]) -> Result<usize, TextRefusal>
     if !text_fits(row, buffer.len()) {
         return Err(TextRefusal::TooLong);
     }
-    Ok(write_text(row, ROW_LEVELS, 0, buffer, 0))
+    Ok(write_text(whole(row), buffer, 0))
 }

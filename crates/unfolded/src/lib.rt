@@ -34,9 +34,7 @@ fn word_at(rows: &[u8], w: usize) -> u64
     requires { 8 * w + 8 ≤ length rows.now }
     ensures { WordOf (row_leaf rows.now) w result }
 {
-    let low = basics::four_bytes(rows, 8 * w);
-    let high = basics::four_bytes(rows, 8 * w + 4);
-    high * 0x1_0000_0000 + low
+    u64::from_le_bytes(rows[8 * w..8 * w + 8].try_into().unwrap())
 }
 
 // Whether the rows are zero from word `start` on. It stops at none: where all are zero, that is quicker than a test of each word.
@@ -45,44 +43,28 @@ pub fn zero_from(rows: &[u8], start: usize) -> bool
     ensures { T result ↔ ZeroBytes rows.now (8 * start) (length rows.now) }
 {
     let mut all: u64 = 0;
-    let mut w = start;
-    while w < ROWS_WORDS {
-        all = all | word_at(rows, w);
-        w += 1;
+    for w in start..ROWS_WORDS {
+        all |= word_at(rows, w);
     }
     all == 0
 }
 
 // Puts the rows into the table, each as it lies.
-fn put_rows(rows: &[u8], table: &mut [u64])
-    requires { (length rows.now ≡ answer_bytes constant_levels) × (length table.old ≡ 1024) }
+fn put_rows(rows: &[u8], table: &mut [u64; TABLE_WORDS])
+    requires { length rows.now ≡ answer_bytes constant_levels }
     ensures { Filled constant_levels 0 row_count (row_leaf rows.now) table.old table.new }
 {
-    let mut j: usize = 0;
-    while j < ROWS_WORDS {
-        table[j] = word_at(rows, j);
-        j += 1;
+    for w in 0..ROWS_WORDS {
+        table[w] = word_at(rows, w);
     }
 }
 
 // Puts the part that is always full into the table.
-fn put_full(table: &mut [u64])
-    requires { length table.old ≡ 1024 }
+fn put_full(table: &mut [u64; TABLE_WORDS])
     ensures { Filled constant_levels full_part 1 (λ i. true) table.old table.new }
 {
-    let start = ROW_WORDS * basics::index(FULL_PART);
-    let mut j: usize = 0;
-    while j < ROW_WORDS {
-        table[start + j] = 0xFFFF_FFFF_FFFF_FFFF;
-        j += 1;
-    }
-}
-
-// Half a word, all ones where `full` is set, else 0.
-fn half_word(full: bool) -> u64
-    ensures { (result < 2 ^ 32) × ((i : ℕ) → i < 32 → bit result i ≡ full) }
-{
-    if full { 0xFFFF_FFFF } else { 0 }
+    let start = ROW_WORDS * usize::from(FULL_PART);
+    table[start..start + ROW_WORDS].fill(u64::MAX);
 }
 
 // Word w of a constant: two of its leaves, each 32 times.
@@ -90,34 +72,29 @@ fn constant_word(x: u64, w: usize) -> u64
     requires { w < row_words constant_levels }
     ensures { WordOf (constant_leaf constant_levels x) w result }
 {
-    let low = half_word(basics::digit(x, 2 * w));
-    let high = half_word(basics::digit(x, 2 * w + 1));
+    let low = words::spread(basics::digit(x, 2 * w)) >> 32;
+    let high = words::spread(basics::digit(x, 2 * w + 1)) >> 32;
     high * 0x1_0000_0000 + low
 }
 
 // Puts the words of a constant into part 32 + c of the table.
-fn put_constant(x: u64, c: usize, table: &mut [u64])
-    requires { (c < 32) × (length table.old ≡ 1024) }
+fn put_constant(x: u64, c: usize, table: &mut [u64; TABLE_WORDS])
+    requires { c < 32 }
     ensures { Filled constant_levels (32 + c) 1 (constant_leaf constant_levels x) table.old table.new }
 {
     let start = CONSTANTS_START + ROW_WORDS * c;
-    let mut k: usize = 0;
-    while k < ROW_WORDS {
-        table[start + k] = constant_word(x, k);
-        k += 1;
+    for w in 0..ROW_WORDS {
+        table[start + w] = constant_word(x, w);
     }
 }
 
 // Puts the words of the constants that are named into the table.
-fn put_constants(constants: &[u64; 32], named: u64, table: &mut [u64])
-    requires { (named < 2 ^ 32) × (length table.old ≡ 1024) }
+fn put_constants(constants: &[u64; 32], named: u64, table: &mut [u64; TABLE_WORDS])
+    requires { named < 2 ^ 32 }
     ensures { ConstantParts constant_levels named 0 constants.now table.old table.new }
 {
-    let mut rest = named;
-    while rest != 0 {
-        let c = words::lowest(rest);
+    for c in words::bits(named) {
         put_constant(constants[c], c, table);
-        rest = words::without_lowest(rest);
     }
 }
 
@@ -139,14 +116,6 @@ pub fn word_of(table: &[u64; TABLE_WORDS], part: usize, w: usize) -> u64
     table[ROW_WORDS * part + w]
 }
 
-// Word w of a part that a byte names.
-fn part_word(table: &[u64; TABLE_WORDS], part: u8, w: usize) -> u64
-    requires { (part < 64) × (w < row_words constant_levels) }
-    ensures { result ≡ get_or table.now (row_words constant_levels * part + w) 0 }
-{
-    word_of(table, basics::index(part), w)
-}
-
 // A word of each part of a join.
 #[derive(Clone, Copy)]
 struct PartWords {
@@ -161,9 +130,9 @@ fn part_words(table: &[u64; TABLE_WORDS], join: LeafJoin, w: usize) -> PartWords
     ensures { WordsOf (row_words constant_levels) table.now join w result }
 {
     PartWords {
-        first: part_word(table, join.first, w),
-        second: part_word(table, join.second, w),
-        sum: part_word(table, join.sum, w),
+        first: word_of(table, usize::from(join.first), w),
+        second: word_of(table, usize::from(join.second), w),
+        sum: word_of(table, usize::from(join.sum), w),
     }
 }
 
@@ -181,14 +150,7 @@ pub fn everywhere(table: &[u64; TABLE_WORDS], join: LeafJoin) -> bool
     requires { PartsIn join }
     ensures { result ≡ eqb (join_failing constant_levels table.now join) (2 ^ row_levels constant_levels) }
 {
-    let mut w: usize = 0;
-    while w < ROW_WORDS {
-        if join_word(table, join, w) != 0xFFFF_FFFF_FFFF_FFFF {
-            return false;
-        }
-        w += 1;
-    }
-    true
+    (0..ROW_WORDS).all(|w| join_word(table, join, w) == u64::MAX)
 }
 
 // The lowest leaf at which the test of a join does not hold, or the number of leaves. Where it holds at all, `everywhere` is quicker.
@@ -196,13 +158,11 @@ pub fn first_failing(table: &[u64; TABLE_WORDS], join: LeafJoin) -> usize
     requires { PartsIn join }
     ensures { result ≡ join_failing constant_levels table.now join }
 {
-    let mut word: usize = 0;
-    while word < ROW_WORDS {
+    for word in 0..ROW_WORDS {
         let holds = join_word(table, join, word);
-        if holds != 0xFFFF_FFFF_FFFF_FFFF {
+        if holds != u64::MAX {
             return 64 * word + words::lowest(!holds);
         }
-        word += 1;
     }
     ROW_LEAVES
 }

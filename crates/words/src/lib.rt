@@ -20,6 +20,8 @@ pub const FIRST_WORDS: usize = 66;
 // A table of the leaves' least words has the same for each of up to 64 leaves.
 pub const LEAF_WORDS: usize = 128;
 
+// Numbers between usize, u32 and u64 are converted by `as`, since From has no conversion between them. Each is proved to fit.
+
 // The word of the part whose number is byte `at`.
 fn term_word(terms: &[u64; 64], clauses: &[u8; CLAUSE_BYTES], at: usize) -> u64
     requires { (at < 768) × (get_or clauses.now at 0 < 64) }
@@ -276,8 +278,5 @@ pub fn word_count(d: usize) -> usize
     requires { d ≤ 12 }
     ensures { result ≡ word_count d }
 {
-    if d < 6 {
-        return 1;
-    }
-    1 << (d - 6)
+    1 << d.saturating_sub(6)
 }

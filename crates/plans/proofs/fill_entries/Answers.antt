@@ -1,5 +1,5 @@
 -- Of each leaf's sub-leaves, those that the disequations before e took come first.
-use Rattle.std.proofs.Common.{ℕ, ◌≡◌, refl, ◌+◌, ◌<◌, ◌/◌, ◌%◌, List, ap, ◌∙◌, arith}
+use Rattle.std.proofs.Common.{length, length-set, ℕ, ◌≡◌, refl, ◌+◌, ◌<◌, ◌/◌, ◌%◌, List, ap, ◌∙◌, arith}
 use Rattle.guesses.specs.declared.Passing.{Passing}
 use Rattle.guesses.specs.Guesses.{least_number}
 use Rattle.words.specs.Kept.{number_at}
@@ -23,7 +23,7 @@ leaf_here o firsts e slot leaf kept fits l s k is =
 pub loop-e-init : goal.loop-e-init
 loop-e-init c =
     let a = c.args in
-    record { taken = taken_none a.outline a.firsts.now; filled = filled_none a.outline a.firsts.now _ }
+    record { taken = taken_none a.outline a.firsts.now; filled = filled_none a.outline a.firsts.now _; room = omega arith }
 
 pub take_rank-rank-requires : goal.take_rank-rank-requires
 take_rank-rank-requires c =
@@ -48,11 +48,13 @@ loop-e-preserved c =
     let rank = c.take_rank-rank in
     let at = leaf_here o firsts l.e _ _ _ c.requires.fitting c.loop-e-test.true c.slot_of.ensures c.word_at-kept.ensures c.leaf_of-leaf.ensures in
     let number = read firsts o.extra l.e _ _ c.slot_of.ensures c.word_at-kept.ensures in
+    let places : leaf < length l.taken = omega (arith, at.1, simp length-set at (ap length rank.ensures.2)) in
     record {
-      taken = taken_more o firsts l.e leaf rank.result l.taken at.0 at.1 rank.ensures.0 l.invariant.taken rank.new.taken (omega arith) rank.ensures.2;
+      taken = taken_more o firsts l.e leaf rank.result l.taken at.0 at.1 rank.ensures.0 l.invariant.taken rank.new.taken places rank.ensures.2;
       filled =
           filled_more o firsts l.e _ l.entries (omega arith) (
             c.sub_leaf.ensures ∙ sub_leaf_is o firsts l.e leaf rank.result l.taken at.0 at.1 rank.ensures.0 l.invariant.taken,
             c.choice_of.ensures ∙ ap (λ x. x % leaf_width o.free) number,
           ) l.invariant.filled;
+      room = simp length-set l.invariant.room;
     }

@@ -1,5 +1,5 @@
 -- The tables of a problem's pairs give the problem's plan.
-use Rattle.std.proofs.Common.{refl, arith}
+use Rattle.std.proofs.Common.{arith}
 use Rattle.plans.specs.PairLaws.{leaves_le, made}
 use Rattle.plans.proofs.plan_of.Goals as goal
 
@@ -7,7 +7,7 @@ pub fill_plain-requires : goal.fill_plain-requires
 fill_plain-requires c =
     let leaves = c.power.ensures in
     let fits = c.requires.0 in
-    (omega (arith, leaves, leaves_le c.args.outline c.args.firsts.now fits), fits.variables, refl, λ b l. c.requires.1 b (rw leaves at l))
+    (omega (arith, leaves, leaves_le c.args.outline c.args.firsts.now fits), fits.variables, λ b l. c.requires.1 b (rw leaves at l))
 
 pub returns : goal.returns
 returns c R e P =

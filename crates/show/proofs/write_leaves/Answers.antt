@@ -22,7 +22,7 @@ change_block-requires c =
     let plan = c.args.plan.now in
     let l = c.loop-k in
     let within : plan.low ≤ row_levels constant_levels = omega arith in
-    let below : l.k < 2 ^ plan.low = omega (arith, leaves_taken plan.low _ plan.plain c.requires.0 c.power-count.ensures (omega arith)) in
+    let below : l.k < 2 ^ plan.low = omega (arith, leaves_taken plan.low plan.plain c.requires.0 (omega arith)) in
     let bytes = l.auto.row ∙ ap length c.requires.1 ∙ zeros_length (row_bytes constant_levels) in (
       subst (Inside (row_levels constant_levels - plan.low) l.k) (sym bytes) (leaf_inside (lit≤ tt) (lit≤ tt) within below),
       blocks_next _ (digits plan.plain c.args.p) _ l.row l.invariant,
@@ -33,4 +33,4 @@ returns c i h =
     let plan = c.args.plan.now in
     let within : plan.low ≤ row_levels constant_levels = omega arith in
     blocks_all _ (digits plan.plain c.args.p) _ c.loop-k.row c.loop-k.invariant i
-    (omega (arith, block_lt within h, leaves_taken plan.low _ plan.plain c.requires.0 c.power-count.ensures (omega arith)))
+    (omega (arith, block_lt within h, leaves_taken plan.low plan.plain c.requires.0 (omega arith)))

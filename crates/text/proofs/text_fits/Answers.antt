@@ -1,10 +1,5 @@
--- `text::text_fits` is the test of the text's length. Assumes nothing.
-use native.Mathlib.Omega.{arith}
-use mathlib.Core.Path.{sym, ap, ◌∙◌}
-use Prim.Native.Nat.{ℕ, ◌≤◌}
-use borrow.Author.Tests.{le-leb}
-use lib.Dec.{leb}
-use lib.ListN.{length}
+-- No text is longer than the longest, and another is counted.
+use Rattle.std.proofs.Common.{ℕ, ◌≤◌, leb, length, sym, ap, ◌∙◌, le-leb, arith}
 use Rattle.shares.specs.Constant.{constant_levels}
 use Rattle.rows.specs.Rows.{row_levels}
 use Rattle.text.specs.Texts.{row_text}
@@ -21,4 +16,6 @@ returns-then-room-ge-LONGEST_TEXT c =
 
 pub returns : goal.returns
 returns c =
-    ap (λ (n : ℕ). leb n c.args.room) (c.text_length.ensures.0 ∙ ap length (row_text_lem _ c.args.row.now))
+    let (row, height, number) = c.whole.ensures in
+    let counted = rw (row, height, number) at c.text_length.ensures.0 in
+    ap (λ (n : ℕ). leb n c.args.room) (counted ∙ ap length (row_text_lem _ c.args.row.now))
