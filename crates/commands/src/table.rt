@@ -1,4 +1,5 @@
-// The table of commands: what a command byte announces, how many terms each test takes, and how it reads as a join at one leaf.
+// The table of commands: what a command byte announces, how many terms each test takes, and how it reads as a join at
+// one leaf.
 ghost use Rattle.std.specs.Prelude.{◌≡◌, ◌≤◌, ◌<◌};
 ghost use Rattle.format.specs.Format.{entry_of, term_count, operands};
 ghost use Rattle.format.specs.Stored.{four, join_for};
@@ -56,7 +57,8 @@ fn policy_entry(byte: u8) -> Option<Shape>
     }
 }
 
-// What a command byte announces. One long table would be a function of its own for the compiler, called for each command of a question.
+// What a command byte announces. One long table would be a function of its own for the compiler, called for each
+// command of a question.
 pub fn entry_of(byte: u8) -> Option<Shape>
     ensures { result ≡ entry_of byte }
 {

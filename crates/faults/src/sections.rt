@@ -18,7 +18,7 @@ pub fn section_start(section: Section) -> usize
     }
 }
 
-// How many clauses a section may have.
+// How many clauses a section may have, a row for each section.
 pub fn most_of(section: Section) -> usize
     ensures { result ≡ most_of section }
 {

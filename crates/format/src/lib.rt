@@ -53,7 +53,8 @@ impl From<Section> for usize {
     }
 }
 
-// What a clause says or denies: "a join b is c", "a is b", "a is full", "a is empty", or "a and b may be held together".
+// What a clause says or denies: "a join b is c", "a is b", "a is full", "a is empty", or "a and b may be held
+// together".
 #[derive(Clone, Copy)]
 pub enum Test {
     Join,
@@ -63,8 +64,9 @@ pub enum Test {
     Together,
 }
 
-// How a test reads as a join at one leaf. Form 0: the first part join the second is the sum; form 1: the two do not overlap. A part is a
-// term's byte, 0C for one that is always empty, or 0D for one that is always full.
+// How a test reads as a join at one leaf. Form 0: the first part join the second is the sum; form 1: the two do not
+// overlap. A part is a term's byte, 0C for one that is always empty, or 0D for one that is always full. All four are
+// bytes, form and parts alike, as they are stored.
 #[derive(Clone, Copy)]
 pub struct LeafJoin {
     pub form: u8,
@@ -128,9 +130,10 @@ pub struct Head {
     pub ghost own_bound: { free + own ≤ 12 },
 }
 
-// A question that was read: its kind, its free and own variables, its constants, of which so many are defined, which of them some clause names, constant i at bit i, and how many clauses each section has. The clauses themselves are bytes
-// beside it, four a clause: how it reads as a join at a leaf. Sections: 0 first positive, from byte 0; 1 first disequations, from 256;
-// 2 second positive, from 384; 3 second disequations, from 640.
+// A question that was read: its kind, its free and own variables, its constants, of which so many are defined, which of
+// them some clause names, constant i at bit i, and how many clauses each section has. The clauses themselves are bytes
+// beside it, four a clause: how it reads as a join at a leaf. Sections: 0 first positive, from byte 0; 1 first
+// disequations, from 256; 2 second positive, from 384; 3 second disequations, from 640.
 #[derive(Clone, Copy)]
 pub struct Question {
     pub kind: Kind,

@@ -17,7 +17,8 @@ fn store(clauses: &mut [u8], i: usize, join: LeafJoin)
     clauses[i + 3] = join.sum;
 }
 
-// The constants among the parts of a join, constant i at bit i. The other parts have numbers below 32, which the shift drops.
+// The constants among the parts of a join, constant i at bit i. The other parts have numbers below 32, which the shift
+// drops.
 fn constants_in(join: LeafJoin) -> u64
     requires { PartsSmall join }
     ensures { result ≡ constants_in join }

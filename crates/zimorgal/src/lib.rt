@@ -1,7 +1,7 @@
 // Every call that other programs link.
 #![tactic(auto)]
 
-ghost use Rattle.std.specs.Prelude.{◌≡◌, cond, ◌≤◌, ◌+◌, ◌/◌, ◌%◌, ◌^◌, length, take, drop};
+ghost use Rattle.std.specs.Prelude.{◌≡◌, cond, ◌≤◌, ◌<◌, ◌+◌, ◌*◌, ◌/◌, ◌%◌, ◌^◌, length, take, drop};
 ghost use Rattle.shares.specs.Tree.{height, join};
 ghost use Rattle.shares.specs.Constant.{constant_levels, number_tree, set_in_both};
 ghost use Rattle.systems.specs.Questions as model;
@@ -9,26 +9,35 @@ ghost use Rattle.rows.specs.Rows.{row_levels, row_range, row_part};
 ghost use Rattle.text.specs.Texts.{text_answer, text_after};
 ghost use Rattle.constants.specs.FromText.{from_text};
 ghost use Rattle.asking.specs.Asking.{answered, asked_with, outcome_of, answer_after, work_after};
-ghost use Rattle.asking.specs.Told.{told};
+ghost use Rattle.asking.specs.Told.{told as asking_told};
 ghost use Rattle.asking.specs.Exact.{Exact};
 ghost use Rattle.asking.specs.Demand3.{row_shares, Demand3};
 ghost use Rattle.judging.specs.Judging.{Accepted, judged, judged_with, judgement_of};
 ghost use Rattle.judging.specs.Exactly.{Exactly, AskingShows};
-ghost use Rattle.judging.specs.Told.{broken_told, told as judged_told};
+ghost use Rattle.judging.specs.Told.{broken_told, told as judging_told};
 ghost use Rattle.zimorgal.specs.Packing.{packed, unpacked};
 ghost use Rattle.zimorgal.specs.Fields.{InBytes};
 ghost use Rattle.zimorgal.specs.Calls.{range_number, text_number, constant_number, undefined_join, number_join, version_number, judgement_number, Small};
 ghost use Rattle.zimorgal.specs.Joins.{join_number};
 
-use asking::{Answer, Refusal};
+use asking::Answer;
 use constants::NoConstant;
 use judging::{BrokenClause, Failing, Verdict};
 use text::TextRefusal;
 
-// The result as one number, byte by byte.
-fn pack(outcome: Result<Answer, Refusal>) -> u64
-    requires { InBytes (told outcome) }
-    ensures { result ≡ packed (told outcome) }
+// A refusal as one number: its own in byte 1, and its place in bytes 2 and 3.
+fn refused_number(number: u8, place: usize) -> u64
+    requires { place < 2 ^ 16 }
+    ensures { result ≡ 2 ^ 8 * number + 2 ^ 16 * place }
+{
+    let [low, high] = (place as u16).to_le_bytes();
+    u64::from_le_bytes([0, number, low, high, 0, 0, 0, 0])
+}
+
+// The result of asking as one number, byte by byte.
+fn pack(outcome: Result<Answer, asking::Refusal>) -> u64
+    requires { InBytes (asking_told outcome) }
+    ensures { result ≡ packed (asking_told outcome) }
 {
     match outcome {
         Ok(answer) => u64::from_le_bytes([
@@ -41,10 +50,7 @@ fn pack(outcome: Result<Answer, Refusal>) -> u64
             answer.disequation() as u8,
             0,
         ]),
-        Err(refusal) => {
-            let [low, high] = (refusal.place() as u16).to_le_bytes();
-            u64::from_le_bytes([0, u8::from(refusal), low, high, 0, 0, 0, 0])
-        }
+        Err(refusal) => refused_number(u8::from(refusal), refusal.place()),
     }
 }
 
@@ -75,29 +81,21 @@ fn broken_number(broken: BrokenClause) -> u64
     requires { Small (broken_told broken) }
     ensures { result ≡ judgement_number (broken_told broken) }
 {
-    let low = 2 + 4294967296 * (broken.number as u64);
+    let number = broken.number as u8;
     let Some(Failing { way, leaf }) = broken.failing else {
-        return low;
+        return u64::from_le_bytes([2, 0, 0, 0, number, 0, 0, 0]);
     };
-    let middle = 1099511627776 * u64::from(u8::from(way));
-    low + middle + 281474976710656 * (leaf as u64)
-}
-
-// The number of a refusal in byte 1, and its place in two bytes.
-fn refused_number(refusal: judging::Refusal) -> u64
-    requires { Small (judged_told (Err refusal)) }
-    ensures { result ≡ judgement_number (judged_told (Err refusal)) }
-{
-    256 * u64::from(u8::from(refusal)) + 65536 * (refusal.place() as u64)
+    let [low, high] = (leaf as u16).to_le_bytes();
+    u64::from_le_bytes([2, 0, 0, 0, number, u8::from(way), low, high])
 }
 
 // The number of what judging gives: what it is, and what is said of a refusal or of a broken clause.
 fn judgement_number(judged: Result<Verdict, judging::Refusal>) -> u64
-    requires { Small (judged_told judged) }
-    ensures { result ≡ judgement_number (judged_told judged) }
+    requires { Small (judging_told judged) }
+    ensures { result ≡ judgement_number (judging_told judged) }
 {
     match judged {
-        Err(refusal) => refused_number(refusal),
+        Err(refusal) => refused_number(u8::from(refusal), refusal.place()),
         Ok(Verdict::Accepted) => 1,
         Ok(Verdict::Broken(broken)) => broken_number(broken),
         Ok(Verdict::Extending) => 3,

@@ -11,4 +11,4 @@ pub returns : goal.returns
 returns c =
     let e = c.judge.ensures in
     let N = judges_numbered _ _ _ (e.result, (e.model, e.shown)) _ c.judgement_number.ensures in
-    record { result = N.0; model = N.1.0; shown = N.1.1; }
+    record { result = N.0; model = N.1.0; shown = N.1.1 }
