@@ -5,6 +5,7 @@ use Rattle.shares.specs.Constant.{bit}
 use Rattle.words.specs.Clause.{clause_test, Clauses}
 use Rattle.words.specs.Choices.{word_count, all_pass, all_pass_but, some_own}
 use Rattle.words.specs.Table.{Terms}
+use Rattle.beside.specs.declared.Sizes.{Sizes}
 
 -- ---- what can be read
 
@@ -24,6 +25,11 @@ pub record Readable (clauses counts : List ℕ) (n m : ℕ) : Type 0 where
   pub positive_free : (k : ℕ) → k < get_or counts 0 0 → ReadsFree clauses n (0 + 4 * k)
   pub disequation_free : (k : ℕ) → k < get_or counts 1 0 → ReadsFree clauses n (256 + 4 * k)
   pub few : (get_or counts 1 0 ≤ 31) × (get_or counts 3 0 ≤ 31)
+
+-- which constants are named fits 32 bits, and the height is one that constants have
+pub record Bounded (sizes : Sizes) : Type 0 where
+  pub named : sizes.named < 2 ^ 32
+  pub height : sizes.height ≤ 5
 
 -- ---- words merged and shared
 

@@ -32,8 +32,6 @@ pub struct Searchable<'a> {
     pub clauses: &'a [u8; CLAUSE_BYTES],
     pub constants: &'a [u64; 32],
     pub ghost readable: { Readable clauses.now sizes.counts sizes.free sizes.own },
-    pub ghost named: { sizes.named < 2 ^ 32 },
-    pub ghost height: { sizes.height ≤ 5 },
 }
 
 // The word turned by k bits: bit i of the result is bit i + k of x, counted round.

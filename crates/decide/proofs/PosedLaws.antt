@@ -8,6 +8,7 @@ use Rattle.steps.specs.Steps.{posed}
 use Rattle.decide.specs.Decision.{sizes_of, Decided}
 use Rattle.decide.specs.NamedLaws.{height_is}
 use Rattle.decide.specs.declared.Finding.{Finding}
+use Rattle.words.specs.declared.Passing.{Passing}
 
 module _ (x : Question) (clauses : List ℕ) (y : Searchable) (sized : y.sizes ≡ sizes_of x) (same : y.clauses.now ≡ clauses) (constants : y.constants.now ≡ x.constants) where
   pub posed_is : posed y ≡ stored_of x clauses
@@ -18,7 +19,7 @@ module _ (x : Question) (clauses : List ℕ) (y : Searchable) (sized : y.sizes �
   posed_height q St = ap (λ s. s.height) sized ∙ height_is _ q St
 
   -- what decides the question that is searched decides the one that was read
-  pub posed_decided : {k : ℕ} (r : Finding) (firsts leaves : List ℕ)
+  pub posed_decided : {k : ℕ} (r : Finding) (firsts leaves : List Passing)
       → ((q : Asked) → Stands k (posed y) q → y.sizes.height ≡ question_height q → Decided (posed y) q r firsts leaves)
       → (q : Asked) → Stands k (stored_of x clauses) q → Decided (stored_of x clauses) q r firsts leaves
   posed_decided r firsts leaves D q St = (rw posed_is at D) q St (posed_height q St)

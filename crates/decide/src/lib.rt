@@ -8,6 +8,7 @@ ghost use Rattle.systems.specs.Answers.{shows, height_given};
 ghost use Rattle.format.specs.Numbers.{kind_value};
 ghost use Rattle.format.specs.Stored.{stored_of, Stands};
 ghost use Rattle.steps.specs.Steps.{posed};
+ghost use Rattle.beside.specs.Beside.{Bounded};
 ghost use Rattle.steps.specs.Tests.{extra_of, room_of};
 ghost use Rattle.decide.specs.Decision.{Standing, tallest_of, sizes_of, answer_of, search_of, Decided, DecidedAs, StandsFor, SizedFor, DecidedFor, outline_of, Planned};
 
@@ -50,6 +51,7 @@ pub fn searchable<'a>(question: &'a Question, clauses: &'a [u8; CLAUSE_BYTES]) -
     ensures sizes { result.sizes ≡ sizes_of question.now }
     ensures clauses { result.clauses.now ≡ clauses.now }
     ensures constants { result.constants.now ≡ question.now.constants }
+    ensures bounded { Bounded result.sizes }
 {
     let sizes = Sizes {
         free: question.free,
@@ -73,6 +75,7 @@ fn decide_satisfiability(
     firsts: &mut [Passing; FIRST_WORDS],
     leaves: &mut [Passing; LEAF_WORDS],
 ) -> Finding
+    requires { Bounded question.now.sizes }
     ensures { DecidedAs satisfiability question.now result firsts.new leaves.new }
 {
     if search::solve(question, Search::First, firsts, leaves) {
@@ -88,6 +91,7 @@ fn decide_entailment(
     firsts: &mut [Passing; FIRST_WORDS],
     leaves: &mut [Passing; LEAF_WORDS],
 ) -> Finding
+    requires { Bounded question.now.sizes }
     ensures { DecidedAs entailment question.now result firsts.new leaves.new }
 {
     match search::survey_leaves(question, firsts, leaves) {
@@ -110,6 +114,7 @@ pub fn decide(
     firsts: &mut [Passing; FIRST_WORDS],
     leaves: &mut [Passing; LEAF_WORDS],
 ) -> Finding
+    requires { Bounded question.now.sizes }
     ensures { (q : Asked) → Stands (kind_value kind) (posed question.now) q → question.now.sizes.height ≡ question_height q → Decided (posed question.now) q result firsts.new leaves.new }
 {
     match kind {

@@ -198,7 +198,7 @@ fn look_leaf(
     terms: &mut [u64; 64],
     wanted: u64,
 ) -> Option<u64>
-    requires { (b < 32) × Within question.now.sizes.named (get_or keys.now b 0) × PlacedWithin question.now.sizes.free question.now.sizes.own question.now.sizes.named terms.old }
+    requires { (b < 32) × (question.now.sizes.named < 2 ^ 32) × Within question.now.sizes.named (get_or keys.now b 0) × PlacedWithin question.now.sizes.free question.now.sizes.own question.now.sizes.named terms.old }
     ensures placed_within { PlacedWithin question.now.sizes.free question.now.sizes.own question.now.sizes.named terms.new }
     ensures by_index { (start : ℕ) → KeysOf (posed question.now) keys.now → LeavesLooked (posed question.now) table.now b start (Some wanted) → LeavesLooked (posed question.now) table.now (b + 1) start result }
 {
@@ -223,6 +223,7 @@ fn put_keys(constants: &[u64; 32], named: u64, keys: &mut [u32; 64])
 
 // Whether the rows of a table extend to the second system of a question, by own shares of any height.
 pub fn extends(question: &Searchable<'_>, table: &[u64; TABLE_WORDS]) -> bool
+    requires { question.now.sizes.named < 2 ^ 32 }
     ensures { result ≡ extends_in (posed question.now) table.now }
 {
     let sizes = question.sizes;

@@ -4,6 +4,7 @@
 ghost use Rattle.std.specs.Prelude.{◌≡◌, true, ℕ, ◌+◌, ◌*◌, ◌<◌, ◌≤◌, get_or, set, IfSome};
 ghost use Rattle.words.specs.Choices.{word_count};
 ghost use Rattle.words.specs.Table.{Terms, Within};
+ghost use Rattle.beside.specs.Beside.{Bounded};
 ghost use Rattle.steps.specs.Tests.{leaf_values, Named};
 ghost use Rattle.steps.specs.Steps.{posed, Placed, PlacedWithin, Amid};
 ghost use Rattle.pass.specs.Pass.{Done, After, Copied, Visited, Passed};
@@ -133,7 +134,7 @@ fn visit(
     plains: &mut [Passing; LEAF_WORDS],
     rows: &mut [u64; 96],
 ) -> Seen
-    requires { Named question.now.sizes.counts leaf.search × (leaf.number < 64) × IfSome leaf.like (λ a. a < leaf.number) × Within question.now.sizes.named leaf.values × PlacedWithin question.now.sizes.free question.now.sizes.own question.now.sizes.named terms.old }
+    requires { Named question.now.sizes.counts leaf.search × (leaf.number < 64) × IfSome leaf.like (λ a. a < leaf.number) × Bounded question.now.sizes × Within question.now.sizes.named leaf.values × PlacedWithin question.now.sizes.free question.now.sizes.own question.now.sizes.named terms.old }
     ensures placed_within { PlacedWithin question.now.sizes.free question.now.sizes.own question.now.sizes.named terms.new }
     ensures by_index { (h : ℕ) → leaf.values ≡ leaf_values (posed question.now) h leaf.number → IfSome leaf.like (λ a. leaf_values (posed question.now) h a ≡ leaf.values) → After (posed question.now) h leaf.search leaf.number seen firsts.old plains.old rows.old → Visited (posed question.now) h leaf.search leaf.number result firsts.new plains.new rows.new }
 {
@@ -160,7 +161,8 @@ pub fn pass_leaves(
     plains: &mut [Passing; LEAF_WORDS],
     rows: &mut [u64; 96],
 ) -> Seen
-    requires { Named question.now.sizes.counts search × ((k : ℕ) → get_or rows.old k 0 ≡ 0) }
+    requires named { Named question.now.sizes.counts search × ((k : ℕ) → get_or rows.old k 0 ≡ 0) }
+    requires bounded { Bounded question.now.sizes }
     ensures { Passed (posed question.now) question.now.sizes.height search result firsts.new plains.new rows.new }
 {
     let sizes = question.sizes;

@@ -3,9 +3,9 @@
 
 mod keep;
 
-ghost use Rattle.std.specs.Prelude.{◌≡◌, ◌≤◌, length, IfOk};
+ghost use Rattle.std.specs.Prelude.{◌≡◌, true, ◌≤◌, length, IfOk};
 ghost use Rattle.systems.specs.Questions.{Question as Asked};
-ghost use Rattle.format.specs.Format.{most_constants, accepted, opened, run, read};
+ghost use Rattle.format.specs.Format.{most_constants, accepted, head_fits, opened, run, read};
 ghost use Rattle.format.specs.Numbers.{kind_value};
 ghost use Rattle.format.specs.Stored.{clause_bytes, stored_of, Stands, reading_of, written_by, clauses_after, place_of, leading};
 ghost use Rattle.format.specs.Keeping.{lead_into};
@@ -40,6 +40,7 @@ fn read_constants(bytes: &[u8], constants: &mut [u64]) -> usize
 // The commands after a head.
 fn read_commands(bytes: &[u8], head: Head, clauses: &mut [u8]) -> Result<Question, Refused>
     requires in_bounds { 4 ≤ length bytes.now }
+    requires own_value { head_fits (kind_value head.kind) head.free head.own ≡ true }
     requires clauses_len { length clauses.old ≡ clause_bytes }
     ensures answer { reading_told result ≡ reading_of (run (length bytes.now) bytes.now 4 (opened (kind_value head.kind) head.free head.own)) }
     ensures clauses { clauses.new ≡ written_by (length bytes.now) bytes.now 4 (opened (kind_value head.kind) head.free head.own) clauses.old }

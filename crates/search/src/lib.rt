@@ -4,6 +4,7 @@
 ghost use Rattle.std.specs.Prelude.{◌≡◌, ◌<◌, ◌≤◌};
 ghost use Rattle.shares.specs.Below.{every_below};
 ghost use Rattle.shares.specs.Constant.{bit};
+ghost use Rattle.beside.specs.Beside.{Bounded};
 ghost use Rattle.steps.specs.Tests.{Named, extra_of};
 ghost use Rattle.steps.specs.Steps.{posed};
 ghost use Rattle.search.specs.Found.{all_found, is_missed, LowestOf, SolvedAs, SurveyedAs};
@@ -69,7 +70,8 @@ pub fn solve(
     firsts: &mut [Passing; FIRST_WORDS],
     leaves: &mut [Passing; LEAF_WORDS],
 ) -> bool
-    requires { Named question.now.sizes.counts search × (extra_of search ≡ 0) }
+    requires named { Named question.now.sizes.counts search × (extra_of search ≡ 0) }
+    requires bounded { Bounded question.now.sizes }
     ensures { SolvedAs (posed question.now) question.now.sizes.height search result firsts.new leaves.new }
 {
     let mut rows = [0u64; 96];
@@ -83,6 +85,7 @@ pub fn survey_leaves(
     firsts: &mut [Passing; FIRST_WORDS],
     leaves: &mut [Passing; LEAF_WORDS],
 ) -> Survey
+    requires { Bounded question.now.sizes }
     ensures { SurveyedAs (posed question.now) question.now.sizes.height result firsts.new leaves.new }
 {
     let counts = question.sizes.counts;

@@ -27,7 +27,7 @@ loop-b-init c =
 pub look_leaf-requires : goal.look_leaf-requires
 look_leaf-requires c =
     let l = c.loop-b in
-    (omega arith, rw (c.put_keys.ensures l.b (omega arith)) (values_within _ _ _ _ _), l.invariant.placed)
+    (omega arith, c.requires, rw (c.put_keys.ensures l.b (omega arith)) (values_within _ _ _ _ _), l.invariant.placed)
 
 pub returns-in_default : goal.returns-in_default
 returns-in_default c =

@@ -36,20 +36,21 @@ loop-b-init c =
       placed = (0, 0, λ i l. bit_zero i, c.start_terms.ensures);
       keys = λ i l. absurd (omega arith);
       after = rw (power_shift (get_or q.sizes.counts 3 0) (omega (arith, q.readable.few)))
-          (after_none (posed q) q.sizes.height a.search a.firsts.now a.plains.now a.rows.now c.requires.1);
+          (after_none (posed q) q.sizes.height a.search a.firsts.now a.plains.now a.rows.now c.requires.named.1);
     }
 
 pub first_like-like-requires : goal.first_like-like-requires
-first_like-like-requires c = omega (arith, few c.args.question.now.sizes.height c.loop-b.b c.power-b-end.result c.args.question.now.height c.power-b-end.ensures c.loop-b-test.true)
+first_like-like-requires c = omega (arith, few c.args.question.now.sizes.height c.loop-b.b c.power-b-end.result c.requires.bounded.height c.power-b-end.ensures c.loop-b-test.true)
 
 pub bounds-keys-b : goal.bounds-keys-b
-bounds-keys-b c = few c.args.question.now.sizes.height c.loop-b.b c.power-b-end.result c.args.question.now.height c.power-b-end.ensures c.loop-b-test.true
+bounds-keys-b c = few c.args.question.now.sizes.height c.loop-b.b c.power-b-end.result c.requires.bounded.height c.power-b-end.ensures c.loop-b-test.true
 
 pub visit-seen-requires : goal.visit-seen-requires
 visit-seen-requires c = (
-  c.requires.0,
-  few c.args.question.now.sizes.height c.loop-b.b c.power-b-end.result c.args.question.now.height c.power-b-end.ensures c.loop-b-test.true,
+  c.requires.named.0,
+  few c.args.question.now.sizes.height c.loop-b.b c.power-b-end.result c.requires.bounded.height c.power-b-end.ensures c.loop-b-test.true,
   before c.loop-b.keys c.values_at-values.result c.loop-b.b _ c.first_like-like.ensures,
+  c.requires.bounded,
   (let e : c.from.result ≡ c.values_at-values.result = cc in rw (e, c.values_at-values.ensures) (values_within _ _ _ _ _)),
   c.loop-b.invariant.placed,
 )
@@ -76,7 +77,7 @@ loop-b-preserved c =
       long = simp length-set l.invariant.long;
       placed = c.visit-seen.ensures.placed_within;
       keys = keys_more (leaf_values (posed q) q.sizes.height) l.keys l.b c.values_at-values.result
-          (omega (arith, few q.sizes.height l.b c.power-b-end.result q.height c.power-b-end.ensures c.loop-b-test.true)) c.values_at-values.ensures l.invariant.keys;
+          (omega (arith, few q.sizes.height l.b c.power-b-end.result c.requires.bounded.height c.power-b-end.ensures c.loop-b-test.true)) c.values_at-values.ensures l.invariant.keys;
       after = W.done (of_true (sym c.digit.ensures ∙ c.if-not-digit.false));
     }
 

@@ -5,7 +5,7 @@ use Rattle.search.specs.FoundLaws.{surveyed_none, surveyed_unmet, surveyed_misse
 use Rattle.search.proofs.survey_leaves.Goals as goal
 
 pub pass_leaves-seen-requires : goal.pass_leaves-seen-requires
-pass_leaves-seen-requires c = (tt, λ k. replicate_at 96 k 0)
+pass_leaves-seen-requires c = record { named = (tt, λ k. replicate_at 96 k 0); bounded = c.requires }
 
 pub returns-then-not-all_found : goal.returns-then-not-all_found
 returns-then-not-all_found c = surveyed_none _ _ _ _ _ _ c.pass_leaves-seen.ensures (sym c.all_found.ensures ∙ c.if-not-all_found.true)
