@@ -13,7 +13,8 @@ use Rattle.rows.proofs.RowLaws.{filled_ext}
 use Rattle.show.specs.Plans as shown
 use Rattle.beside.specs.declared.Sizes.{Sizes}
 use Rattle.decide.specs.declared.Finding.{Finding}
-use Rattle.decide.specs.Decision.{sizes_of, answer_of, Decided, SizedFor, DecidedFor, Planned}
+use Rattle.decide.specs.Findings.{answer_of}
+use Rattle.decide.specs.Decision.{sizes_of, Decided, SizedFor, DecidedFor, Planned}
 use Rattle.asking.specs.Asking.{Outcome, work_bytes, answered, answer_outcome, outcome_of, answer_after, work_after}
 use Rattle.asking.specs.AskingLaws.{asked_answered}
 use Rattle.asking.specs.Given.{Given}

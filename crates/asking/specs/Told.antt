@@ -1,7 +1,7 @@
 -- What an answer or a refusal tells, number by number. Assumes nothing.
 use Rattle.std.specs.Prelude.{ℕ, Result, Ok, Err}
 use Rattle.format.specs.Numbers.{fault_number}
-use Rattle.decide.specs.Decision.{answer_of}
+use Rattle.decide.specs.Findings.{answer_of}
 use Rattle.asking.specs.declared.Answer.{Answer}
 use Rattle.asking.specs.declared.Refusal.{Refusal}
 use Rattle.asking.specs.declared.Refusal.TheVariants.{Question, ShortAnswer, ShortWork}

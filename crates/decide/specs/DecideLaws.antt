@@ -26,7 +26,8 @@ use Rattle.steps.specs.declared.Search.TheVariants.{First, Unmet, Missed}
 use Rattle.search.specs.Found.{solvable_in, lowest_missed_in, SolvedAs, SurveyedAs}
 use Rattle.search.specs.declared.Survey.{Survey}
 use Rattle.decide.specs.StandsLaws.{with_variables, Same, same_first, same_unmet, same_missed}
-use Rattle.decide.specs.Decision.{answer_of, search_of, Decided}
+use Rattle.decide.specs.Findings.{answer_of}
+use Rattle.decide.specs.Decision.{search_of, Decided}
 use Rattle.decide.specs.declared.Finding.{Finding}
 use Rattle.decide.specs.declared.Finding.TheVariants.{Satisfied, Unsatisfied, Vacuous, Entailed, Unmet, Missed}
 use Rattle.words.specs.declared.Passing.{Passing}

@@ -4,7 +4,7 @@ use Rattle.shares.specs.Tree.{height}
 use Rattle.shares.specs.Constant.{constant_levels, number_tree, bit}
 use Rattle.leaves.specs.Heights.{c}
 use Rattle.systems.specs.Questions.{Kind, Question as Asked, WellFormed, question_height, first_count}
-use Rattle.systems.specs.Answers.{Answer, satisfied, unsatisfied, vacuous, entailed, unmet, missed, shows, height_given}
+use Rattle.systems.specs.Answers.{shows, height_given}
 use Rattle.systems.specs.Decide.{decide, shown_at}
 use Rattle.format.specs.Format.{most_constants}
 use Rattle.format.specs.Numbers.{kind_value}
@@ -24,6 +24,7 @@ use Rattle.search.specs.Found.{SolvedAs}
 use Rattle.decide.specs.declared.Finding.{Finding}
 use Rattle.decide.specs.declared.Finding.TheVariants.{Satisfied, Unsatisfied, Vacuous, Entailed, Unmet, Missed}
 use Rattle.words.specs.declared.Passing.{Passing}
+use Rattle.decide.specs.Findings.{answer_of}
 
 -- a question that was read and its clauses' bytes stand for some well-formed question of the model
 abbrev pub Standing : Question → List ℕ → Type 0
@@ -49,15 +50,6 @@ sizes_of x = record {
 }
 
 -- ---- findings
-
--- the answer that each finding is
-abbrev pub answer_of : Finding → Answer
-answer_of Satisfied = satisfied
-answer_of Unsatisfied = unsatisfied
-answer_of Vacuous = vacuous
-answer_of Entailed = entailed
-answer_of Unmet = unmet
-answer_of (Missed j) = missed j
 
 -- the search whose solution is shown with it (with those that show none: nothing that a claim rests on)
 abbrev pub search_of : Finding → Search

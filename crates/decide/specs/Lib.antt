@@ -1,3 +1,4 @@
+pub mod Findings
 pub mod Decision
 pub mod DecideLaws
 pub mod OutlineLaws

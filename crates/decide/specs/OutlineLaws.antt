@@ -13,7 +13,8 @@ use Rattle.steps.specs.declared.Search.{Search}
 use Rattle.steps.specs.declared.Search.TheVariants.{First, Unmet, Missed}
 use Rattle.beside.specs.declared.Sizes.{Sizes}
 use Rattle.decide.specs.NamedLaws.{height_is, question_low}
-use Rattle.decide.specs.Decision.{tallest_of, answer_of, search_of, SizedFor, outline_of}
+use Rattle.decide.specs.Findings.{answer_of}
+use Rattle.decide.specs.Decision.{tallest_of, search_of, SizedFor, outline_of}
 use Rattle.decide.specs.declared.Finding.{Finding}
 use Rattle.decide.specs.declared.Finding.TheVariants.{Satisfied, Unsatisfied, Vacuous, Entailed, Unmet, Missed}
 

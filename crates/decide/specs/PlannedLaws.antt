@@ -42,7 +42,8 @@ use Rattle.decide.specs.StoredLaws.{row_digit}
 use Rattle.decide.specs.StandsLaws.{with_variables, Same, same_first, same_unmet, same_missed}
 use Rattle.decide.specs.NamedLaws.{question_low}
 use Rattle.decide.specs.OutlineLaws.{extra_most, room_enough, count_is, count_few, splits_few}
-use Rattle.decide.specs.Decision.{answer_of, search_of, outline_of, Planned, Decided}
+use Rattle.decide.specs.Findings.{answer_of}
+use Rattle.decide.specs.Decision.{search_of, outline_of, Planned, Decided}
 use Rattle.decide.specs.declared.Finding.{Finding}
 use Rattle.decide.specs.declared.Finding.TheVariants.{Satisfied, Unsatisfied, Vacuous, Entailed, Unmet, Missed}
 use Rattle.words.specs.declared.Passing.{Passing}

@@ -10,7 +10,8 @@ ghost use Rattle.format.specs.Stored.{stored_of, Stands};
 ghost use Rattle.steps.specs.Steps.{posed};
 ghost use Rattle.beside.specs.Beside.{Bounded};
 ghost use Rattle.steps.specs.Tests.{extra_of, room_of};
-ghost use Rattle.decide.specs.Decision.{Standing, tallest_of, sizes_of, answer_of, search_of, Decided, DecidedAs, StandsFor, SizedFor, DecidedFor, outline_of, Planned};
+ghost use Rattle.decide.specs.Findings.{answer_of};
+ghost use Rattle.decide.specs.Decision.{Standing, tallest_of, sizes_of, search_of, Decided, DecidedAs, StandsFor, SizedFor, DecidedFor, outline_of, Planned};
 
 use basics::CLAUSE_BYTES;
 use beside::{Searchable, Sizes};

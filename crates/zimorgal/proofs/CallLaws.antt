@@ -1,5 +1,5 @@
 -- Laws of the other calls' numbers: what they hold is read back from them, and what a join's stands for. Assumes nothing.
-use Rattle.std.specs.Prelude.{◌≡◌, refl, Result, Ok, None, Some, Bool, true, false, not, cond, List, ◌⊎◌, ℕ, ◌+◌, ◌/◌, ◌%◌, ◌^◌, ◌≤◌, ◌<◌, T, length, take, drop}
+use Rattle.std.specs.Prelude.{◌≡◌, refl, None, Some, Bool, true, false, not, cond, List, ◌⊎◌, ℕ, Result, Ok, ◌+◌, ◌/◌, ◌%◌, ◌^◌, ◌≤◌, ◌<◌, T, length, take, drop}
 use Rattle.std.proofs.Math.Path.{ap}
 use Rattle.std.proofs.Common.{◌∙◌, inl, inr, arith, eq-eqb, ne_eqb}
 use Rattle.std.proofs.Math.Option.{none, some}
@@ -31,11 +31,15 @@ module _ (answer : List ℕ) (v : ℕ) (r : Range) (e : r ≡ row_range (row_lev
   high : range_number r / 2 ^ 32 ≡ r.bytes
   high = omega (arith, range_small)
 
-  pub range_given : (range_number r ≡ range_number (row_range (row_levels constant_levels) (length answer) v))
-      × ((range_number r % 2 ^ 32 ≡ (row_range (row_levels constant_levels) (length answer) v).offset) × ((range_number r / 2 ^ 32 ≡ (row_range (row_levels constant_levels) (length answer) v).bytes)
-      × (take (range_number r / 2 ^ 32) (drop (range_number r % 2 ^ 32) answer) ≡ row_part (row_levels constant_levels) answer v)))
+  pub range_given : (n : ℕ) → n ≡ range_number r
+      → record {
+        range : n ≡ range_number (row_range (row_levels constant_levels) (length answer) v);
+        offset : n % 2 ^ 32 ≡ (row_range (row_levels constant_levels) (length answer) v).offset;
+        length : n / 2 ^ 32 ≡ (row_range (row_levels constant_levels) (length answer) v).bytes;
+        part : take (n / 2 ^ 32) (drop (n % 2 ^ 32) answer) ≡ row_part (row_levels constant_levels) answer v;
+      }
   unfolding row_part
-  range_given = rw (low, high, e) (refl, (refl, (refl, refl)))
+  range_given n h = rw (h, low, high, e) (record { range = refl; offset = refl; length = refl; part = refl })
 
 -- the length and the refusal number of the text call
 pub text_reads_back : (row buffer : List ℕ)

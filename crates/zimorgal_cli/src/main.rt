@@ -6,7 +6,7 @@ ghost use Rattle.shares.specs.Constant.{constant_levels};
 ghost use Rattle.systems.specs.Answers.{shows};
 ghost use Rattle.rows.specs.Rows.{row_levels};
 ghost use Rattle.text.specs.Texts.{text_after};
-ghost use Rattle.decide.specs.Decision.{answer_of};
+ghost use Rattle.decide.specs.Findings.{answer_of};
 
 use asking::{Answer, Refusal};
 use decide::Finding;
