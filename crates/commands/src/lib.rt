@@ -5,11 +5,11 @@ pub mod opening;
 pub mod table;
 
 ghost use Rattle.std.specs.Prelude.{◌≡◌, ◌+◌, ◌≤◌, length};
-ghost use Rattle.format.specs.Format.{term_count, operands, term_byte, terms_at, clause_at, command_of, read_at};
+ghost use Rattle.format.specs.Format.{term_count, operands, term_byte, clause_at, command_of, read_at};
 ghost use Rattle.format.specs.Stored.{leading_of};
 ghost use Rattle.format.specs.Told.{step_told};
 
-use format::{Command, Fault, Leading, Section, Shape, Taken, Terms, Test};
+use format::{Command, Fault, Leading, Section, Shape, Taken, Test};
 
 // A constant's command has this many bytes.
 pub const CONSTANT_SIZE: usize = 5;
@@ -22,29 +22,17 @@ fn term_byte(bytes: &[u8], i: usize, count: usize, k: usize) -> u8
     if k < count { bytes[i + k] } else { 0 }
 }
 
-// The bytes of a clause's terms, which start at an offset.
-pub fn terms_at(bytes: &[u8], i: usize, test: Test) -> Terms
-    requires { i + term_count test ≤ length bytes.now }
-    ensures { result ≡ terms_at bytes.now i test }
-{
-    let count = table::term_count(test);
-    let a = term_byte(bytes, i, count, 0);
-    let b = term_byte(bytes, i, count, 1);
-    let c = term_byte(bytes, i, count, 2);
-    Terms { a, b, c }
-}
-
 fn clause_at(bytes: &[u8], i: usize, section: Section, test: Test) -> Command
     requires { i + term_count test ≤ length bytes.now }
     ensures { result ≡ clause_at bytes.now i section test }
 {
-    let Terms { a, b, c } = terms_at(bytes, i, test);
+    let count = table::term_count(test);
     Command::Clause {
         section,
         test,
-        a,
-        b,
-        c,
+        a: term_byte(bytes, i, count, 0),
+        b: term_byte(bytes, i, count, 1),
+        c: term_byte(bytes, i, count, 2),
     }
 }
 

@@ -9,7 +9,6 @@ use Rattle.format.specs.declared.Test.{Test}
 use Rattle.format.specs.declared.Test.TheVariants.{Join, Equality, Full, Empty, Together}
 use Rattle.format.specs.declared.Shape.{Shape}
 use Rattle.std.specs.Prelude.{Option, Some, None}
-use Rattle.format.specs.declared.Terms.{Terms}
 use Rattle.format.specs.declared.Command.{Command}
 
 -- what reading gives: the number and the place of a refusal, or a question of the model
@@ -89,10 +88,6 @@ term_byte s i n k = cond (ltb k n) (get_or s (i + k) 0) 0
 -- a clause by its number of terms
 abbrev pub clause_at : List ℕ → ℕ → Section → Test → Command
 clause_at s i σ t = Command.Clause σ t (term_byte s i (term_count t) 0) (term_byte s i (term_count t) 1) (term_byte s i (term_count t) 2)
-
--- the bytes of its terms
-abbrev pub terms_at : List ℕ → ℕ → Test → Terms
-terms_at s i t = record { a = term_byte s i (term_count t) 0; b = term_byte s i (term_count t) 1; c = term_byte s i (term_count t) 2 }
 
 -- the command whose operands start at an offset; a constant's leaf i is bit i of its number
 unfoldable pub command_of : List ℕ → ℕ → Shape → Command

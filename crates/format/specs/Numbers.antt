@@ -1,4 +1,4 @@
--- The paper's numbers of the code's cases. Assumes nothing.
+-- The numbers of the code's cases. Assumes nothing.
 use Rattle.std.specs.Prelude.{ℕ}
 use Rattle.format.specs.declared.Fault.{Fault}
 use Rattle.format.specs.declared.Fault.TheVariants.{NoHead, CutShort, UnknownCommand, OutOfPlace, UnfitHead, ConstantTooMany, ClauseTooMany, NamesNothing, ForeignClause, BytesAfter}

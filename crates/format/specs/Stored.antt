@@ -7,6 +7,7 @@ use Rattle.systems.specs.Clauses.{variable, constant}
 use Rattle.systems.specs.Questions.{Kind, satisfiability, entailment, Question as Asked, named_by, is_among}
 use Rattle.systems.specs.AtLeaves.{Part, of, always, LeafReading, joins_to, apart, read_as}
 use Rattle.std.specs.Prelude.{Option, Some, None}
+use Rattle.std.specs.Prelude as code
 use Rattle.format.specs.declared.Kind.{Kind as HeldKind}
 use Rattle.format.specs.declared.Kind.TheVariants.{Satisfiability, Entailment}
 use Rattle.format.specs.declared.Section.{Section}
@@ -14,10 +15,11 @@ use Rattle.format.specs.declared.Section.TheVariants.{FirstPositive, FirstDisequ
 use Rattle.format.specs.declared.Test.{Test}
 use Rattle.format.specs.declared.LeafJoin.{LeafJoin}
 use Rattle.format.specs.declared.Command.{Command}
-use Rattle.format.specs.Numbers.{section_number}
+use Rattle.format.specs.Numbers.{fault_number, section_number}
 use Rattle.format.specs.Format.{Step, Take, Refused, Head, Opens, Wrong}
 use Rattle.format.specs.declared.Leading.{Leading}
 use Rattle.format.specs.declared.Question.{Question}
+use Rattle.format.specs.declared.Refused.{Refused as RefusedAt}
 use Rattle.format.specs.Format.{Result, refused, accepted, most_variables, most_constants, most_of, in_section, term_of, names, variables_for, atom_of, read_at, judged, taken, opened, head_of}
 
 -- ---- the numbers of the cases
@@ -178,6 +180,11 @@ pub data Reading : Type 0 where
 abbrev pub reading_of : Result → Reading
 reading_of (refused n place) = refused_with n place
 reading_of (accepted q) = held (held_as q)
+
+-- what the code hands over: a refusal by its number
+abbrev pub reading_told : code.Result Question RefusedAt → Reading
+reading_told (code.Ok x) = held x
+reading_told (code.Err r) = refused_with (fault_number r.fault) r.place
 
 -- four bytes written at an offset
 abbrev pub clause_written : List ℕ → ℕ → LeafJoin → List ℕ

@@ -1,13 +1,10 @@
--- What the code's results tell, by the paper's numbers. Assumes nothing.
+-- What the code's results tell, by the numbers of their refusals. Assumes nothing.
 use Rattle.std.specs.Prelude.{ℕ, Result, Ok, Err}
 use Rattle.format.specs.declared.Fault.{Fault}
 use Rattle.format.specs.declared.Head.{Head as HeadRead}
 use Rattle.format.specs.declared.Taken.{Taken}
-use Rattle.format.specs.declared.Question.{Question}
-use Rattle.format.specs.declared.Refused.{Refused as RefusedAt}
 use Rattle.format.specs.Format.{Head, Opens, Wrong, Step, Take, Refused}
 use Rattle.format.specs.Numbers.{fault_number, kind_value}
-use Rattle.format.specs.Stored.{Reading, refused_with, held}
 
 -- a fault's number, 0 for none
 abbrev pub fault_told : Result Unit Fault → ℕ
@@ -23,8 +20,3 @@ head_told (Err f) = Wrong (fault_number f)
 abbrev pub step_told : Result Taken Fault → Step
 step_told (Ok t) = Take t.command t.next
 step_told (Err f) = Refused (fault_number f)
-
--- a question, or its refusal
-abbrev pub reading_told : Result Question RefusedAt → Reading
-reading_told (Ok x) = held x
-reading_told (Err r) = refused_with (fault_number r.fault) r.place

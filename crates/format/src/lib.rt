@@ -5,7 +5,7 @@ ghost use Rattle.std.specs.Prelude.{◌≡◌, true, ◌+◌, ◌≤◌};
 ghost use Rattle.format.specs.Format.{head_fits};
 ghost use Rattle.format.specs.Numbers.{fault_number, kind_value, section_number};
 
-// Why a byte string is no question. Each has the number that the paper gives it.
+// Why a byte string is no question. Each has the number that docs/SPEC.md gives it.
 #[derive(Clone, Copy, PartialEq, Eq, Debug)]
 pub enum Fault {
     NoHead = 1,
@@ -82,14 +82,6 @@ pub enum Shape {
     Head,
     Constant,
     Clause(Section, Test),
-}
-
-// The bytes of a clause's terms, 0 for each that it has not.
-#[derive(Clone, Copy)]
-pub struct Terms {
-    pub a: u8,
-    pub b: u8,
-    pub c: u8,
 }
 
 // A command with its operands.

@@ -16,11 +16,6 @@ said_told k (Some f) = Broken k f.way f.leaf
 abbrev pub broken_told : BrokenClause → Judgement
 broken_told b = said_told b.number b.failing
 
--- the lowest that is broken, of the first system alone
-abbrev pub first_told : Option BrokenClause → Judgement
-first_told None = Accepted
-first_told (Some b) = broken_told b
-
 abbrev pub verdict_told : Verdict → Judgement
 verdict_told Verdict.Accepted = Accepted
 verdict_told (Verdict.Broken b) = broken_told b

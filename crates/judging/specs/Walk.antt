@@ -1,5 +1,5 @@
 -- Going over a question's commands with the rows in a table: definitions for the code. Assumes nothing.
-use Rattle.std.specs.Prelude.{◌≡◌, Bool, true, false, not, cond, Option, MatchOption, List, ◌++◌, ℕ, ◌+◌, ◌^◌, ◌<◌, eqb, ltb, length, take}
+use Rattle.std.specs.Prelude.{◌≡◌, Bool, true, false, not, cond, Option, Some, None, MatchOption, List, ◌++◌, ℕ, ◌+◌, ◌^◌, ◌<◌, eqb, ltb, length, take}
 use Rattle.shares.specs.declared.Way.{Way}
 use Rattle.shares.specs.declared.Way.TheVariants.{Holds}
 use Rattle.systems.specs.Clauses.{System}
@@ -17,6 +17,11 @@ use Rattle.unfolded.specs.Unfolded.{row_words, Unfolded, join_way, join_failing,
 use Rattle.judging.specs.Judging.{Judgement, Accepted, Broken, clause_met, clause_of, lowest_broken, broken_as}
 use Rattle.judging.specs.Told.{broken_told}
 use Rattle.judging.specs.declared.BrokenClause.{BrokenClause}
+
+-- the lowest clause that is broken, of the first system alone
+abbrev pub first_told : Option BrokenClause → Judgement
+first_told None = Accepted
+first_told (Some b) = broken_told b
 
 -- a clause of a section is broken, where its atom holds at every leaf or not: only those of the first system count
 abbrev pub breaks_in : Section → Bool → Bool

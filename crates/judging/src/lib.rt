@@ -14,9 +14,9 @@ ghost use Rattle.unfolded.specs.Unfolded.{PartsIn};
 ghost use Rattle.judging.specs.Judging.{judged, judged_with, judgement_of};
 ghost use Rattle.judging.specs.Judging as given;
 ghost use Rattle.judging.specs.Exactly.{Exactly, AskingShows};
-ghost use Rattle.judging.specs.Told.{refusal_number, refusal_place, first_told, verdict_told, told};
+ghost use Rattle.judging.specs.Told.{refusal_number, refusal_place, verdict_told, told};
 ghost use Rattle.judging.specs.declared.Refusal.TheVariants as refusals;
-ghost use Rattle.judging.specs.Walk.{JoinBroken, CommandBroken, CommandFits, says_first, First};
+ghost use Rattle.judging.specs.Walk.{first_told, JoinBroken, CommandBroken, CommandFits, says_first, First};
 
 use basics::CLAUSE_BYTES;
 use commands::{CONSTANT_SIZE, table};

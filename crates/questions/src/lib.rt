@@ -7,9 +7,8 @@ ghost use Rattle.std.specs.Prelude.{◌≡◌, true, ◌≤◌, length, IfOk};
 ghost use Rattle.systems.specs.Questions.{Question as Asked};
 ghost use Rattle.format.specs.Format.{most_constants, accepted, head_fits, opened, run, read};
 ghost use Rattle.format.specs.Numbers.{kind_value};
-ghost use Rattle.format.specs.Stored.{clause_bytes, stored_of, Stands, reading_of, written_by, clauses_after, place_of, leading};
+ghost use Rattle.format.specs.Stored.{clause_bytes, stored_of, Stands, reading_of, reading_told, written_by, clauses_after, place_of, leading};
 ghost use Rattle.format.specs.Keeping.{lead_into};
-ghost use Rattle.format.specs.Told.{reading_told};
 
 use basics::CLAUSE_BYTES;
 use commands::{CONSTANT_SIZE, opening};
