@@ -48,7 +48,7 @@ pub fn merge_word(x: u64, n: usize) -> u64
 {
     let mut r = x;
     for p in n..6 {
-        r = r | turned(r, 1 << p);
+        r |= turned(r, 1 << p);
     }
     r
 }
@@ -156,7 +156,7 @@ fn sweep(
             sizes.counts[2],
             x,
         );
-        none = none & !y;
+        none &= !y;
         going = take_all(question, terms, y, going, left);
     }
     none
