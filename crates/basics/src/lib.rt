@@ -1,7 +1,7 @@
 // Numbers and bytes: small functions and numbers that several crates use.
 #![tactic(auto)]
 
-ghost use Rattle.std.specs.Prelude.{◌≡◌, ◌+◌, ◌^◌, ◌≤◌, ◌<◌, length, take, drop, replicate};
+ghost use Rattle.std.specs.Prelude.{◌≡◌, ◌+◌, ◌^◌, ◌≤◌, ◌<◌, length, take, drop};
 ghost use Rattle.shares.specs.Constant.{bit, number};
 
 // The clauses of a question are stored in so many bytes, four a clause, section after section: the first system's positive clauses from byte 0, then its
@@ -35,31 +35,10 @@ pub fn digit(x: u64, p: usize) -> bool
     (x >> p) & 1 == 1
 }
 
-// A byte as a wide number.
-pub fn wide(byte: u8) -> u64
-    ensures { (result ≡ byte) × (result < 256) }
-{
-    u64::from(byte)
-}
-
-// A byte as an index.
-pub fn index(byte: u8) -> usize
-    ensures { (result ≡ byte) × (result < 256) }
-{
-    usize::from(byte)
-}
-
 // The number that four bytes make, the lowest first.
 pub fn four_bytes(bytes: &[u8], i: usize) -> u64
     requires { i + 4 ≤ length bytes.now }
     ensures { (result ≡ number (take 4 (drop i bytes.now))) × (result < 2 ^ 32) }
 {
     u64::from(u32::from_le_bytes([bytes[i], bytes[i + 1], bytes[i + 2], bytes[i + 3]]))
-}
-
-// Sets every byte of a part.
-pub fn fill(part: &mut [u8], byte: u8)
-    ensures { part.new ≡ replicate (length part.old) byte }
-{
-    part.fill(byte);
 }
