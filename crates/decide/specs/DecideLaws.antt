@@ -1,5 +1,5 @@
 -- What the searches find decides the question. Assumes nothing.
-use Rattle.std.specs.Prelude.{◌≡◌, Bool, false, List, ℕ, ◌^◌, get_or}
+use Rattle.std.specs.Prelude.{◌≡◌, Bool, false, not, List, ℕ, ◌^◌, get_or}
 use Rattle.std.proofs.Math.Path.{refl, sym, ap}
 use Rattle.std.proofs.Common.{ap₂, ◌∙◌, suc-le-suc, zero-le, le_refl, T_not}
 use Rattle.std.proofs.Math.Bool.{true}
@@ -31,6 +31,11 @@ use Rattle.decide.specs.Decision.{search_of, Decided}
 use Rattle.decide.specs.declared.Finding.{Finding}
 use Rattle.decide.specs.declared.Finding.TheVariants.{Satisfied, Unsatisfied, Vacuous, Entailed, Unmet, Missed}
 use Rattle.words.specs.declared.Passing.{Passing}
+
+-- a test and its negation
+pub flip : (a : Bool) {b : Bool} → not a ≡ b → a ≡ not b
+flip true e = ap not e
+flip false e = ap not e
 
 -- a problem with one disequation more, before the others, is solvable only if some leaf meets that one
 unmet_somewhere : (h : ℕ) (q : Question) → T (solvable (least q.free) h (with_unmet (least q.own) (second_at h q) (first_at h q))) → T (some_unmet h q)

@@ -1,5 +1,5 @@
 -- What the code finds of the rows is the judgement. Assumes nothing.
-use Rattle.std.specs.Prelude.{◌≡◌, refl, Bool, true, false, cond, Option, Some, None, List, ◌↔◌, ℕ, ◌+◌, ◌-◌, ◌*◌, T, ltb, length, get_or, drop}
+use Rattle.std.specs.Prelude.{◌≡◌, refl, Bool, true, false, cond, Option, Some, None, List, ◌↔◌, ℕ, ◌+◌, ◌-◌, ◌*◌, ◌^◌, ◌<◌, T, ltb, length, get_or, drop}
 use Rattle.std.proofs.Common.{sym, ap, ap₂, ◌∙◌, subst, arith, length-drop, get_or-drop}
 use Rattle.shares.specs.declared.Way.TheVariants.{Holds}
 use Rattle.shares.specs.Constant.{constant_levels}
@@ -18,7 +18,10 @@ use Rattle.format.proofs.Callers.{Taken, answer_refused, levels_are, kind_satisf
 use Rattle.beside.specs.declared.Searchable.{Searchable}
 use Rattle.steps.specs.Steps.{stored_by, posed}
 use Rattle.decide.specs.Decision.{sizes_of}
-use Rattle.decide.specs.NamedLaws.{first_kept}
+use Rattle.decide.specs.NamedLaws.{first_kept, named_lt}
+use Rattle.decide.specs.ReadableLaws.{readable}
+use Rattle.beside.specs.Beside.{Readable}
+use Rattle.beside.specs.declared.Sizes.{Sizes}
 use Rattle.unfolded.specs.Unfolded.{Unfolded, ZeroBytes}
 use Rattle.extending.specs.Extending.{extends_in}
 use Rattle.asking.specs.Demand3.{row_shares}
@@ -47,13 +50,22 @@ module _ (x : stored.Question) (clauses rows : List ℕ) (q : Question) (St : St
       → Laid constant_levels q rows x.constants x.named table
   laid table U = record { constants_are = St.constants; kept = first_kept (stored_of x clauses) q St; unfolded = U }
 
+  -- what the second system's clauses are asked with
+  module _ (sizes : Sizes) (sized : sizes ≡ sizes_of x) where
+    pub sizes_readable : Readable clauses sizes.counts sizes.free sizes.own × (sizes.named < 2 ^ 32)
+    sizes_readable = rw sized (readable (stored_of x clauses) q St, named_lt (stored_of x clauses) q St)
+
+    pub extends_found : (table : List ℕ) → Unfolded constant_levels rows x.constants x.named table → (b : Bool)
+        → b ≡ extends_in (stored_by sizes clauses x.constants) table → b ≡ extends_at q rows
+    extends_found table U b e =
+        e ∙ ap (λ z. extends_in (stored_by z clauses x.constants) table) sized ∙ extends_same (stored_of x clauses) q St rows x.constants table x.named U
+
   -- whether they extend, by the question as it is searched
-  pub extends_found : (searched : Searchable) → searched.sizes ≡ sizes_of x → searched.clauses.now ≡ clauses → searched.constants.now ≡ x.constants
+  pub extends_searched : (searched : Searchable) → searched.sizes ≡ sizes_of x → searched.clauses.now ≡ clauses → searched.constants.now ≡ x.constants
       → (table : List ℕ) → Unfolded constant_levels rows x.constants x.named table
       → (b : Bool) → b ≡ extends_in (posed searched) table → b ≡ extends_at q rows
-  extends_found searched sized same same' table U b e =
-      e ∙ ap (λ z. extends_in (stored_by z searched.clauses.now searched.constants.now) table) sized
-      ∙ ap₂ (λ c n. extends_in (stored_by (sizes_of x) c n) table) same same' ∙ extends_same (stored_of x clauses) q St rows x.constants table x.named U
+  extends_searched searched sized same same' table U b e =
+      extends_found searched.sizes sized table U b (e ∙ ap₂ (λ c n. extends_in (stored_by searched.sizes c n) table) same same')
 
   -- the judgement of the first system alone
   module _ (r : Judgement) (found : r ≡ first_judged q rows) where

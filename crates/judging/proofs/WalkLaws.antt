@@ -1,7 +1,7 @@
 -- Going over the commands of an accepted question meets the clauses of its first system one by one. Assumes nothing.
 use Rattle.std.proofs.Math.Path.{◌≡◌, refl, ap}
 use Rattle.std.proofs.Common.{sym, ◌∙◌, subst, true≢false, inl, inr, eq-or-lt_of_le, le_of_suc-le-suc, not-suc-le-zero, arith, length-append}
-use Rattle.std.specs.Prelude.{Bool, not, cond, ◌⊎◌, eqb, ltb, take}
+use Rattle.std.specs.Prelude.{Bool, not, cond, ◌⊎◌, Some, None, ◌-◌, eqb, ltb, get_or, take}
 use Rattle.std.proofs.Math.Bool.{true, false, not-not}
 use mathlib.Core.List.{List, [], ◌∷◌, ◌++◌, append-nil, append_assoc}
 use Prim.Native.Nat.{ℕ, zero, suc, ◌+◌, ◌^◌, ◌≤◌, ◌<◌}
@@ -22,7 +22,8 @@ use Rattle.format.specs.declared.Section.{Section}
 use Rattle.format.specs.declared.Section.TheVariants.{FirstPositive, FirstDisequation, SecondPositive, SecondDisequation}
 use Rattle.format.specs.declared.Command.{Command}
 use Rattle.format.specs.Format.{Take, Refused}
-use Rattle.format.specs.Format.{most_positive, most_disequations, accepted, read, read_at, atom_of}
+use Rattle.format.specs.declared.Shape.{Shape}
+use Rattle.format.specs.Format.{most_positive, most_disequations, accepted, read, read_at, whole_at, entry_of, operands, command_of, atom_of}
 use Rattle.format.specs.SectionLaws.{both_counts}
 use Rattle.format.specs.Limits.{Limited}
 use Rattle.format.proofs.FormatLaws.{size_some, Whole, read_whole, accepted_formed, accepted_limited}
@@ -39,6 +40,27 @@ use Rattle.judging.specs.Walk.{breaks_in, said_in, command_breaks, command_said,
 use Rattle.judging.proofs.ModelLaws.{InClause, in_clause}
 use Rattle.judging.specs.TableLaws.{DefinedKept, join_way_lem, join_failing_lem, parts_in}
 use Rattle.judging.specs.Judging.{Accepted, Broken}
+
+-- ---- what stands at an offset, by its byte and the bytes left
+
+module _ (s : List ℕ) (at : ℕ) where
+  pub read_past : length s ≤ at → read_at s at ≡ Refused 2
+  unfolding read_at
+  read_past l = rw (le-ltb at (length s) l) refl
+
+  module _ (l : at < length s) where
+    pub read_unknown : entry_of (get_or s at 0) ≡ None → read_at s at ≡ Refused 3
+    unfolding read_at whole_at
+    read_unknown e = rw (lt-ltb at (length s) l, e) refl
+
+    module _ (h : Shape) (e : entry_of (get_or s at 0) ≡ Some h) where
+      pub read_short : length s - (at + 1) < operands h → read_at s at ≡ Refused 2
+      unfolding read_at whole_at
+      read_short m = rw (lt-ltb at (length s) l, e, lt-ltb (length s - (at + 1)) (operands h) m) refl
+
+      pub read_take : operands h ≤ length s - (at + 1) → read_at s at ≡ Take (command_of s (at + 1) h) (at + 1 + operands h)
+      unfolding read_at whole_at
+      read_take m = rw (lt-ltb at (length s) l, e, le-ltb (length s - (at + 1)) (operands h) m) refl
 
 -- ---- the commands from an offset on
 
@@ -318,6 +340,12 @@ first_none_broken q rows n held e =
 first_is_broken : (q : Question) (rows : List ℕ) (n : ℕ) → HeldBelow q rows n → n < length q.first
     → not (clause_met q.constants rows (clause_of q.first n)) ≡ true → broken_as q.constants rows n (clause_of q.first n) ≡ first_judged q rows
 first_is_broken q rows n held l broken = rw (lowest_there q rows n held l broken, lt-ltb n (length q.first) l) refl
+
+-- the number of "accepted" among the judgements is that of no other
+pub no_other : (◌≡◌ {A = ℕ} 1 0) ⊎ ((◌≡◌ {A = ℕ} 1 2) ⊎ (◌≡◌ {A = ℕ} 1 3)) → ⊥
+no_other (inl e) = omega arith
+no_other (inr (inl e)) = omega arith
+no_other (inr (inr e)) = omega arith
 
 -- ---- a turn of going over the commands
 

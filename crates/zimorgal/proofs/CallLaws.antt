@@ -1,5 +1,5 @@
 -- Laws of the other calls' numbers: what they hold is read back from them, and what a join's stands for. Assumes nothing.
-use Rattle.std.specs.Prelude.{◌≡◌, refl, None, Some, Bool, true, false, not, cond, List, ◌⊎◌, ℕ, Result, Ok, ◌+◌, ◌/◌, ◌%◌, ◌^◌, ◌≤◌, ◌<◌, T, length, take, drop}
+use Rattle.std.specs.Prelude.{◌≡◌, refl, None, Some, Bool, true, false, not, cond, List, ◌⊎◌, ℕ, Result, Ok, Err, ◌+◌, ◌*◌, ◌/◌, ◌%◌, ◌^◌, ◌≤◌, ◌<◌, T, length, take, drop}
 use Rattle.std.proofs.Math.Path.{ap}
 use Rattle.std.proofs.Common.{◌∙◌, inl, inr, arith, eq-eqb, ne_eqb}
 use Rattle.std.proofs.Math.Option.{none, some}
@@ -12,7 +12,8 @@ use Rattle.shares.proofs.ConstantLaws.{sum_lt, join_numbers}
 use Rattle.rows.specs.Rows.{row_levels, answer_bytes, row_of, row_range, row_part}
 use Rattle.rows.specs.declared.Range.{Range}
 use Rattle.rows.proofs.RowLaws.{row_tree_row_of, range_inside}
-use Rattle.text.specs.Texts.{text_length, text_refusal, row_text, text_answer}
+use Rattle.text.specs.declared.TextRefusal.{TextRefusal}
+use Rattle.text.specs.Texts.{refusal_number, text_length, text_refusal, row_text, text_answer}
 use Rattle.text.specs.TextLaws.{answer_length}
 use Rattle.constants.specs.FromText.{constant_refusal, constant_given, from_text}
 use Rattle.constants.specs.FromTextLaws.{written_read, read_written}
@@ -86,6 +87,12 @@ module _ (levels a b : ℕ) (ha : a < undefined_join levels) (hb : b < undefined
           (omega arith, rw (ne_eqb r (undefined_join levels) (omega arith), j, n) refl)
 
 -- ---- the cases
+
+pub text_written : (w : Result ℕ TextRefusal) (n : ℕ) → w ≡ Ok n → n ≡ text_number w
+text_written w n e = rw e (omega arith)
+
+pub text_refused : (w : Result ℕ TextRefusal) (r : TextRefusal) (x : ℕ) → w ≡ Err r → x ≡ refusal_number r → 4294967296 * x ≡ text_number w
+text_refused w r x e h = rw e (omega arith)
 
 pub number_cases : (levels : ℕ) (s : Bool) (n : ℕ) → join_number levels (cond s None (Some n)) ≡ cond s (undefined_join levels) n
 number_cases levels true n = refl

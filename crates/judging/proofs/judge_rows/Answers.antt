@@ -4,7 +4,7 @@ use Rattle.shares.specs.NumberLaws.{zero_at}
 use Rattle.format.proofs.LeadLaws.{leading_few}
 use Rattle.format.proofs.FormatLaws.{accepted_formed}
 use Rattle.decide.specs.NamedLaws.{named_lt}
-use Rattle.judging.proofs.JudgeLaws.{laid, extends_found, told_broken, rows_broken, rows_satisfied, rows_extending, rows_accepted}
+use Rattle.judging.proofs.JudgeLaws.{laid, extends_searched, told_broken, rows_broken, rows_satisfied, rows_extending, rows_accepted}
 use Rattle.judging.proofs.judge_rows.Goals as goal
 
 pub unfold-requires : goal.unfold-requires
@@ -34,11 +34,11 @@ returns-then-extends c q e St =
     let U = c.«unfold».ensures in
     let s = c.searchable-searchable.ensures in
     rows_extending c.args.question _ _ q St _ (c.in_default.ensures q _ _ _ e (laid c.args.question _ _ q St _ U)) refl c.in_default-kind.not-Satisfiability _
-    (extends_found c.args.question _ _ q St c.searchable-searchable.result s.sizes s.clauses s.constants _ U _ c.extends.ensures) c.if-extends.true
+    (extends_searched c.args.question _ _ q St c.searchable-searchable.result s.sizes s.clauses s.constants _ U _ c.extends.ensures) c.if-extends.true
 
 pub returns : goal.returns
 returns c q e St =
     let U = c.«unfold».ensures in
     let s = c.searchable-searchable.ensures in
     rows_accepted c.args.question _ _ q St _ (c.in_default.ensures q _ _ _ e (laid c.args.question _ _ q St _ U)) refl c.in_default-kind.not-Satisfiability _
-    (extends_found c.args.question _ _ q St c.searchable-searchable.result s.sizes s.clauses s.constants _ U _ c.extends.ensures) c.if-extends.false
+    (extends_searched c.args.question _ _ q St c.searchable-searchable.result s.sizes s.clauses s.constants _ U _ c.extends.ensures) c.if-extends.false
