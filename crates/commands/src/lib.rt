@@ -63,8 +63,10 @@ pub fn constant_at(bytes: &[u8], at: usize) -> Option<Leading>
     Some(Leading { number, next })
 }
 
-// What stands at an offset where a command is due.
+// What stands at an offset where a command is due. Its three callers each look at some of its cases, so it is
+// compiled into each.
 #[tactic(auto, unfolding(format::specs::Format::read_at, format::specs::Format::whole_at))]
+#[inline(always)]
 pub fn read_at(bytes: &[u8], at: usize) -> Result<Taken, Fault>
     ensures { step_told result ≡ read_at bytes.now at }
 {

@@ -209,7 +209,7 @@ fn from_told(told: Told) -> Result<u32, NoConstant>
     Ok(told.leaves)
 }
 
-// What a whole text gives that left this stack.
+// What a whole text gives that left this stack. The leaves fit, and `try_from` would have an error that cannot be.
 fn from_stack(scan: Scan, item: u64) -> Result<u32, NoConstant>
     ensures { (items : List ℕ) (σ : List Item) (s : List ℕ) → Stacked constant_levels items scan σ → item ≡ get_or items 0 0 → runs s (some []) ≡ some σ → length s ≤ longest_text constant_levels → result ≡ from_text constant_levels s }
 {
@@ -239,7 +239,10 @@ pub fn from_text(text: &[u8]) -> Result<u32, NoConstant>
         folded: true,
     };
     for sign in text {
-        scan = take_sign(&mut items, scan, *sign).ok_or(NoConstant::NotTreeText)?;
+        let Some(next) = take_sign(&mut items, scan, *sign) else {
+            return Err(NoConstant::NotTreeText);
+        };
+        scan = next;
     }
     from_stack(scan, items[0])
 }

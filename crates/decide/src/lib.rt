@@ -34,7 +34,8 @@ pub enum Finding {
     Missed(usize),
 }
 
-// The height of a question: that of the tallest constant that is named, by the leaves that are unlike their neighbours in any of them.
+// The height of a question: that of the tallest constant that is named, by the leaves that are unlike their neighbours
+// in any of them. What `as` converts fits, and `try_from` would have an error that cannot be.
 fn question_height(constants: &[u64; 32], named: u64) -> usize
     requires { (named < 2 ^ 32) × ((i : ℕ) → T (bit named i) → get_or constants.now i 0 < 2 ^ 32) }
     ensures { result ≡ tallest_of constant_levels constants.now named }

@@ -15,7 +15,13 @@ use words::{FIRST_WORDS, Passing};
 pub const ROWS: usize = 96;
 
 // Keeps word number `turn` as that of search e, with the choices y in it that pass, if there are any and the search has found none yet.
-pub fn keep_word(e: usize, turn: usize, y: u64, met: u64, firsts: &mut [Passing; FIRST_WORDS]) -> u64
+pub fn keep_word(
+    e: usize,
+    turn: usize,
+    y: u64,
+    met: u64,
+    firsts: &mut [Passing; FIRST_WORDS],
+) -> u64
     requires { e < 33 }
     ensures { Kept e turn (bit y) met firsts.old result firsts.new }
 {

@@ -7,7 +7,8 @@ ghost use Rattle.std.specs.Io.KnownBytes.{Consumes, IsAtEnd};
 use std::io::Read;
 
 // Reads until the buffer is full, the input ends or a read fails, and gives how many bytes it put at the buffer's start.
-// Where it is known what the input has left, these are its next bytes.
+// Where it is known what the input has left, these are its next bytes. How much a read brings is not known before, so
+// the loop counts no index by ones.
 pub fn read_full<R: Read>(input: &mut R, buffer: &mut [u8]) -> usize
     ensures within { result ≤ length buffer.new }
     ensures prefix { result ≡ length (take result buffer.new) }

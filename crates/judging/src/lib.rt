@@ -171,7 +171,8 @@ fn broken_by(leaves: &[u64; TABLE_WORDS], command: Command, number: usize) -> Op
 }
 
 // The lowest clause of the first system that the rows of a table break, in the order of the question. The question is
-// gone over once more from behind its constants, for what was stored of it is apart by sections.
+// gone over once more from behind its constants, for what was stored of it is apart by sections. Commands differ in
+// width, so the loop goes from offset to offset.
 fn judge_first(bytes: &[u8], from: usize, leaves: &[u64; TABLE_WORDS]) -> Option<BrokenClause>
     requires { ((q : model.Question) × (read bytes.now ≡ accepted q)) × (from ≡ place_of (leading most_constants bytes.now 0)) }
     ensures { First constant_levels bytes.now leaves.now (first_told result) }

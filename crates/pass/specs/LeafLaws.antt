@@ -17,7 +17,7 @@ use Rattle.shares.specs.BitParts.{bit_ones, bit_beyond}
 use Rattle.format.specs.Stored.{Stored}
 use Rattle.words.specs.Choices.{word_count}
 use Rattle.words.specs.Kept.{nothing_kept, number_at}
-use Rattle.words.specs.KeptLaws.{kept_in, kept_there, kept_others}
+use Rattle.words.specs.KeptLaws.{kept_there, kept_others}
 use Rattle.entries.specs.BitLaws.{bit_added}
 use Rattle.entries.specs.Entry.{Entry}
 use Rattle.entries.specs.EntryLaws.{entry_same, entry_stays, some_stays}

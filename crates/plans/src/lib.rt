@@ -151,7 +151,11 @@ fn fill_entries(firsts: &[Passing; FIRST_WORDS], outline: Outline, entries: &mut
 }
 
 // The plan of the solution that a table of first words and one of the leaves' least words hold.
-pub fn plan_of(firsts: &[Passing; FIRST_WORDS], leaves: &[Passing; LEAF_WORDS], outline: Outline) -> Plan
+pub fn plan_of(
+    firsts: &[Passing; FIRST_WORDS],
+    leaves: &[Passing; LEAF_WORDS],
+    outline: Outline,
+) -> Plan
     requires { Fitting outline firsts.now × LeavesFit outline leaves.now }
     ensures { (R : Problem ℕ) → R.count ≡ outline.extra + outline.count → PairsOf outline.free outline.height R outline.extra firsts.now leaves.now → Made outline.free outline.height R outline.splits result }
 {

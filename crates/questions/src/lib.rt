@@ -36,7 +36,7 @@ fn read_constants(bytes: &[u8], constants: &mut [u64]) -> usize
     MOST_CONSTANTS
 }
 
-// The commands after a head.
+// The commands after a head. They differ in width, so the loop goes from offset to offset.
 fn read_commands(bytes: &[u8], head: Head, clauses: &mut [u8]) -> Result<Question, Refused>
     requires in_bounds { 4 ≤ length bytes.now }
     requires own_value { head_fits (kind_value head.kind) head.free head.own ≡ true }

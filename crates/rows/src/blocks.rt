@@ -4,7 +4,8 @@ ghost use Rattle.shares.specs.Constant.{bit};
 ghost use Rattle.rows.specs.Rows.{row_leaf};
 ghost use Rattle.rows.specs.Blocks.{Inside, AllLeaves, BlockSet, whole_byte};
 
-// The bits of block `a` of a byte: as many ones as a block has leaves, moved to where it lies.
+// The bits of block `a` of a byte: as many ones as a block has leaves, moved to where it lies. They fit, and `try_from`
+// would have an error that cannot be.
 #[tactic(auto, using(crate::proofs::Masks::mask_shift, crate::proofs::Masks::mask_fits, crate::proofs::Masks::mask_right))]
 fn mask(height: usize, a: usize) -> u8
     requires { (height ≤ 3) × (a < 2 ^ (3 - height)) }
@@ -47,7 +48,8 @@ fn is_filled(part: &[u8], full: bool) -> bool
     part.iter().all(|b| *b == byte)
 }
 
-// Sets the leaves of block q: whole bytes, or some bits of one byte.
+// Sets the leaves of block q: whole bytes, or some bits of one byte. It takes the row, since a struct over a `&mut` would
+// be made for each block anew.
 #[tactic(auto, using(crate::proofs::Parts::set_at, crate::proofs::Parts::fill_at))]
 pub fn write_block(row: &mut [u8], height: usize, q: usize, full: bool)
     requires { Inside height q (length row.old) }

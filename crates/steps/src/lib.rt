@@ -14,7 +14,7 @@ use beside::Searchable;
 use entries::Marks;
 use words::{FIRST_WORDS, Passing};
 
-// What is searched for.
+// What is searched for. Closures in its place would need these three cases in their contracts.
 #[derive(Clone, Copy)]
 pub enum Search {
     // a solution of the first system

@@ -153,7 +153,8 @@ pub fn everywhere(table: &[u64; TABLE_WORDS], join: LeafJoin) -> bool
     (0..ROW_WORDS).all(|w| join_word(table, join, w) == u64::MAX)
 }
 
-// The lowest leaf at which the test of a join does not hold, or the number of leaves. Where it holds at all, `everywhere` is quicker.
+// The lowest leaf at which the test of a join does not hold, or the number of leaves. Where it holds at all,
+// `everywhere` is quicker, so both stay.
 pub fn first_failing(table: &[u64; TABLE_WORDS], join: LeafJoin) -> usize
     requires { PartsIn join }
     ensures { result ≡ join_failing constant_levels table.now join }

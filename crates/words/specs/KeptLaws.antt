@@ -1,9 +1,8 @@
 -- Laws of the table of first words. Assumes nothing.
 use Rattle.std.specs.Prelude.{◌≡◌, false, List, ℕ, ◌+◌, ◌*◌, ◌^◌, ◌<◌, length, set}
 use Rattle.std.proofs.Math.Path.{ap}
-use Rattle.std.proofs.Common.{◌∙◌, suc-le-suc, arith, length-set}
+use Rattle.std.proofs.Common.{◌∙◌, suc-le-suc, arith}
 use Rattle.std.proofs.Math.Decide.{dec_lt}
-use Rattle.std.proofs.Math.ListN.{get_or}
 use Rattle.std.proofs.Math.Seq.{get_or-set_same, get_or-set_other}
 use Rattle.shares.specs.Test.{is_true, is_false}
 use Rattle.shares.specs.Below.{first_below}

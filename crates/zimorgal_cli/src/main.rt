@@ -85,7 +85,10 @@ fn say(
 ) -> io::Result<()> {
     match outcome {
         Ok(answer) => say_answer(rt, free, rows, answer),
-        Err(refusal) => println!(rt; "refused {} at {}", u8::from(refusal), refusal.place()),
+        Err(refusal) => {
+            rt.write_all(b"refused ")?;
+            println!(rt; "{} at {}", u8::from(refusal), refusal.place())
+        }
     }
 }
 

@@ -9,7 +9,6 @@ use std::io;
 use std::io::Read;
 
 // Each of these writes to standard output, and stops at the first write that fails.
-
 // The way in which a clause fails, and the leaf.
 fn say_failing(rt: &impl Print, failing: Failing) -> io::Result<()> {
     let leaf = failing.leaf;
@@ -33,7 +32,10 @@ fn say_broken(rt: &impl Print, broken: BrokenClause) -> io::Result<()> {
 // What is printed for rows.
 fn say(rt: &impl Print, judged: Result<Verdict, Refusal>) -> io::Result<()> {
     match judged {
-        Err(refusal) => println!(rt; "refused {} at {}", u8::from(refusal), refusal.place()),
+        Err(refusal) => {
+            rt.write_all(b"refused ")?;
+            println!(rt; "{} at {}", u8::from(refusal), refusal.place())
+        }
         Ok(Verdict::Accepted) => rt.write_all(b"accepted\n"),
         Ok(Verdict::Broken(broken)) => say_broken(rt, broken),
         Ok(Verdict::Extending) => rt.write_all(b"extends\n"),

@@ -1,30 +1,21 @@
 -- A text that is too long is no tree's. The invariant holds at the start. A sign more keeps it, or leaves no stack,
 -- and at the end the stack says what the text gives.
-use Rattle.std.proofs.Common.{◌≡◌, refl, sym, ap, ◌∙◌, List, [], ℕ, arith}
-use Rattle.std.specs.Prelude.{Option, Some, None, Ok, Err}
-use Rattle.std.specs.Option.{ok_or}
-use Rattle.std.proofs.lemmas.Result.{err_from_is_err_and}
+use Rattle.std.proofs.Common.{◌≡◌, refl, sym, ◌∙◌, List, [], ℕ, arith}
+use Rattle.std.specs.Prelude.{Option, Some, None}
 use Rattle.std.proofs.Math.Option.{none}
 use Rattle.shares.specs.Constant.{constant_levels}
 use Rattle.constants.specs.Stacks.{Item, onto, Stepped}
 use Rattle.constants.specs.StackLaws.{whole_none, turn_goes, turn_stops, all_read}
 use Rattle.constants.specs.StackedLaws.{none_yet}
 use Rattle.constants.specs.FromTextLaws.{text_long, text_none}
-use Rattle.constants.specs.declared.NoConstant.{NoConstant}
-use Rattle.constants.specs.declared.NoConstant.TheVariants.{NotTreeText}
 use Rattle.constants.specs.declared.Scan.{Scan}
 use Rattle.constants.proofs.from_text.Goals as goal
 
--- A sign that is taken leaves its stack, and one that is not leaves none.
-goes : (levels : ℕ) (items : List ℕ) (x : ℕ) (σ : List Item) (r : Option Scan) (n : Scan) → ok_or r NotTreeText ≡ Ok n
-    → Stepped levels items x σ r → Stepped levels items x σ (Some n)
-goes levels items x σ (Some m) n e w = let same : m ≡ n = cc in rw (← same) w
-goes levels items x σ None n e w = absurd (cc)
-
-stops : (levels : ℕ) (items : List ℕ) (x : ℕ) (σ : List Item) (r : Option Scan) (e : NoConstant)
-    → ok_or r NotTreeText ≡ Err e → Stepped levels items x σ r → (onto x σ ≡ none) × (e ≡ NotTreeText)
-stops levels items x σ (Some m) e t w = absurd (cc)
-stops levels items x σ None e t w = (w, cc)
+-- A sign that is not taken leaves no stack.
+stopped : (levels : ℕ) (items : List ℕ) (x : ℕ) (σ : List Item) (r : Option Scan) → ((n : Scan) → r ≡ Some n → ⊥)
+    → Stepped levels items x σ r → onto x σ ≡ none
+stopped levels items x σ (Some n) other w = absurd (other n refl)
+stopped levels items x σ None other w = w
 
 pub returns-then-text-gt-LONGEST_TEXT : goal.returns-then-text-gt-LONGEST_TEXT
 returns-then-text-gt-LONGEST_TEXT c =
@@ -33,26 +24,18 @@ returns-then-text-gt-LONGEST_TEXT c =
 pub loop-sign-init : goal.loop-sign-init
 loop-sign-init c = ([], none_yet, omega arith, refl)
 
-pub returns-in_err-scan : goal.returns-in_err-scan
-returns-in_err-scan c =
+pub returns-in_default : goal.returns-in_default
+returns-in_default c =
     let s = c.args.text.now in
     let (σ, S, few, so_far) = c.loop-sign.invariant in
-    let p = err_from_is_err_and c.from_residual.result c.from_residual.ensures.1 in
-    let (none_left, why) =
-    stops _ _ _ _ _ _ (sym c.ok_or.ensures.value ∙ c.in_err-scan.was)
-    (c.take_sign.ensures σ S (omega (arith, few, c.if-text-gt-LONGEST_TEXT.false))) in
-    p.1 ∙ ap Err (p.2 ∙ why)
-    ∙ sym
-    (text_none constant_levels s
-    (whole_none s (turn_stops s c.loop-sign.sign-index c.loop-sign-test.true σ so_far none_left)))
+    let stops = stopped _ _ _ _ _ c.in_default.not-Some (c.take_sign.ensures σ S (omega (arith, few, c.if-text-gt-LONGEST_TEXT.false))) in
+    sym (text_none constant_levels s (whole_none s (turn_stops s c.loop-sign.sign-index c.loop-sign-test.true σ so_far stops)))
 
 pub loop-sign-preserved : goal.loop-sign-preserved
 loop-sign-preserved c =
     let s = c.args.text.now in
     let (σ, S, few, so_far) = c.loop-sign.invariant in
-    let (τ, e, T) =
-    goes _ _ _ _ _ _ (sym c.ok_or.ensures.value ∙ c.in_ok-scan.was)
-    (c.take_sign.ensures σ S (omega (arith, few, c.if-text-gt-LONGEST_TEXT.false))) in
+    let (τ, e, T) = rw c.in-Some.is at (c.take_sign.ensures σ S (omega (arith, few, c.if-text-gt-LONGEST_TEXT.false))) in
     let turn = turn_goes s c.loop-sign.sign-index c.loop-sign-test.true σ so_far τ e few in
     (τ, T, turn.0, turn.1)
 

@@ -1,5 +1,5 @@
 -- A guess more halves the choices that are left: the least choice is in the lower half, or in the upper.
-use Rattle.std.proofs.Common.{◌≡◌, ℕ, ◌+◌, ◌-◌, ◌/◌, ltb, sym, ◌∙◌, ltb-true, ltb-false, arith}
+use Rattle.std.proofs.Common.{◌≡◌, ◌+◌, ◌-◌, ◌/◌, ltb, sym, ◌∙◌, ltb-true, ltb-false, arith}
 use Rattle.words.specs.Kept.{least_number}
 use Rattle.guesses.specs.GuessLaws.{guess_none, guess_empty, guess_full, guess_all, few}
 use Rattle.guesses.proofs.least_values.Goals as goal
