@@ -139,8 +139,12 @@ module _ (s rows : List ℕ) where
   )
 
   -- a refusal
-  judges_refused : (n place : ℕ) → judged_with s rows ≡ turned_away n place → Judges (Refused n place)
+  pub judges_refused : (n place : ℕ) → judged_with s rows ≡ turned_away n place → Judges (Refused n place)
   judges_refused n place e = judges (Refused n place) (sym (ap (λ j. judgement_of j rows) e))
+
+  -- and what is found of the rows
+  pub judges_rows : (q : Question) → judged_with s rows ≡ judged q → (r : Judgement) → r ≡ judgement_of (judged q) rows → Judges r
+  judges_rows q e r f = judges r (f ∙ sym (ap (λ j. judgement_of j rows) e))
 
   -- by the reader
   pub refused_read : (n place : ℕ) → refused_with n place ≡ reading_of (read s) → Judges (Refused n place)
@@ -162,5 +166,5 @@ module _ (s rows : List ℕ) where
       refused_rows e = judges_refused 19 0 (judged_19 s rows got.question got.read long (sym others ∙ e))
 
       -- what is found of them
-      pub judges_rows : zero ≡ true → (r : Judgement) → r ≡ judgement_of (judged got.question) rows → Judges r
-      judges_rows e r f = judges r (f ∙ sym (ap (λ j. judgement_of j rows) (judged_on s rows got.question got.read long (sym others ∙ e))))
+      pub judges_held : zero ≡ true → (r : Judgement) → r ≡ judgement_of (judged got.question) rows → Judges r
+      judges_held e r f = judges_rows got.question (judged_on s rows got.question got.read long (sym others ∙ e)) r f

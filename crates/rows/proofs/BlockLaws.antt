@@ -157,25 +157,47 @@ module _ (h : ℕ) (high : 3 ≤ h) where
         go true = whole_bit v (i % 8) (omega arith)
         go false = refl
 
-    -- the leaves of its bytes are those of the block
-    part_at_lem : (i : ℕ) → i < 2 ^ h → row_leaf (take (2 ^ (h - 3)) (drop (q * 2 ^ (h - 3)) row)) i ≡ row_leaf row (q * 2 ^ h + i)
+    part_at_lem : (r : ℕ) → r < 2 ^ (h - 3) → get_or (take (2 ^ (h - 3)) (drop (q * 2 ^ (h - 3)) row)) r 0 ≡ get_or row (q * 2 ^ (h - 3) + r) 0
+    part_at_lem r l = get_or-take (2 ^ (h - 3)) (drop (q * 2 ^ (h - 3)) row) r 0 l ∙ get_or-drop (q * 2 ^ (h - 3)) row r 0
+
+    pub bytes_constant : (v : Bool) → ((j : ℕ) → get_or row j 0 < 256)
+        → ((r : ℕ) → r < 2 ^ (h - 3) → get_or (take (2 ^ (h - 3)) (drop (q * 2 ^ (h - 3)) row)) r 0 ≡ whole_byte v) ↔ AllLeaves row h q v
     unfolding row_leaf
-    part_at_lem i l =
+    bytes_constant v byte = (
+      λ f i e. let r = i / 8 % 2 ^ (h - 3) in
+          let small : r < 2 ^ (h - 3) = mod-lt (i / 8) (pow_pos (h - 3)) in
+          let there : i / 8 ≡ q * 2 ^ (h - 3) + r =
+          sym (split (i / 8) (h - 3)) ∙ ap (λ (x : ℕ). x * 2 ^ (h - 3) + r) (of_bytes i ∙ e) in
+          ap (λ (x : ℕ). bit (get_or row x 0) (i % 8)) there ∙ ap (λ (x : ℕ). bit x (i % 8)) (sym (part_at_lem r small) ∙ f r small)
+          ∙ whole_bit v (i % 8) (omega arith),
+      λ g r l. let j = q * 2 ^ (h - 3) + r in
+          part_at_lem r l
+          ∙ bits_same 8 (get_or row j 0) (whole_byte v) (byte j) (whole_lt v)
+          (λ p u. let there : (8 * j + p) / 8 ≡ j = omega arith in
+          sym (leaf_byte row j p u)
+          ∙ g (8 * j + p) (sym (of_bytes (8 * j + p)) ∙ ap (λ (x : ℕ). x / 2 ^ (h - 3)) there ∙ digits_div q l)
+          ∙ sym (whole_bit v p u)),
+    )
+
+    -- the leaves of its bytes are those of the block
+    part_leaf : (i : ℕ) → i < 2 ^ h → row_leaf (take (2 ^ (h - 3)) (drop (q * 2 ^ (h - 3)) row)) i ≡ row_leaf row (q * 2 ^ h + i)
+    unfolding row_leaf
+    part_leaf i l =
         let s = 2 ^ (h - 3) in
         let start : q * 2 ^ h ≡ 8 * (q * s) =
         ap (λ (n : ℕ). q * n) (eight h high) ∙ sym (mul_assoc q s 8) ∙ mul_comm (q * s) 8 in
         ap (λ x. bit x (i % 8)) (get_or-take s (drop (q * s) row) (i / 8) 0 (omega (arith, eight h high)) ∙ get_or-drop (q * s) row (i / 8) 0)
         ∙ ap₂ (λ x r. bit (get_or row x 0) r) (omega arith) (omega arith)
 
-    pub bytes_constant : (v : Bool)
+    pub leaves_constant : (v : Bool)
         → ((i : ℕ) → i < 8 * length (take (2 ^ (h - 3)) (drop (q * 2 ^ (h - 3)) row)) → row_leaf (take (2 ^ (h - 3)) (drop (q * 2 ^ (h - 3)) row)) i ≡ v) ↔ AllLeaves row h q v
-    bytes_constant v = (
+    leaves_constant v = (
       λ f i e. let r = i % 2 ^ h in
           let small : r < 2 ^ h = mod-lt i (pow_pos h) in
           let there : q * 2 ^ h + r ≡ i = ap (λ (x : ℕ). x * 2 ^ h + r) (sym e) ∙ split i h in
-          ap (row_leaf row) (sym there) ∙ sym (part_at_lem r small) ∙ f r (omega (arith, small, size, eight h high)),
+          ap (row_leaf row) (sym there) ∙ sym (part_leaf r small) ∙ f r (omega (arith, small, size, eight h high)),
       λ g i l. let small : i < 2 ^ h = omega (arith, size, eight h high) in
-          part_at_lem i small ∙ g (q * 2 ^ h + i) (digits_div q small),
+          part_leaf i small ∙ g (q * 2 ^ h + i) (digits_div q small),
     )
       where
         size : length (take (2 ^ (h - 3)) (drop (q * 2 ^ (h - 3)) row)) ≡ 2 ^ (h - 3)

@@ -12,7 +12,7 @@ use lib.Pow.{pow_pos}
 use Rattle.shares.specs.Constant.{bit}
 use Rattle.rows.specs.Rows.{row_leaf}
 use Rattle.rows.specs.Blocks.{Inside, AllLeaves, BlockSet, whole_byte}
-use Rattle.rows.proofs.BlockLaws.{byte_inside, set_byte, byte_constant, bytes_inside, set_bytes, bytes_constant}
+use Rattle.rows.proofs.BlockLaws.{byte_inside, set_byte, byte_constant, bytes_inside, set_bytes, leaves_constant}
 
 module _ (row : List ℕ) (h q : ℕ) (inside : Inside h q (length row)) where
   pub first_at_lem : (s : ℕ) → s ≡ 2 ^ h → q * s < 8 * length row
@@ -57,5 +57,5 @@ module _ (row : List ℕ) (h q : ℕ) (inside : Inside h q (length row)) where
         → T r ↔ AllLeaves row h q v
     test_part v r given =
         let k = rw (part_size, e) at given in
-        let iff = bytes_constant h high row q inside.fits v in
+        let iff = leaves_constant h high row q inside.fits v in
         (λ t. iff.0 (k.0 t), λ a. k.1 (iff.1 a))

@@ -2,7 +2,7 @@
 use Rattle.std.proofs.Common.{arith}
 use Rattle.std.proofs.lemmas.Result.{err_from_is_err_and}
 use Rattle.format.proofs.Callers.{Taken, answer_taken}
-use Rattle.judging.proofs.JudgeLaws.{refused_read, refused_length, refused_rows, judges_rows}
+use Rattle.judging.proofs.JudgeLaws.{refused_read, refused_length, refused_rows, judges_held}
 use Rattle.judging.proofs.judge.Goals as goal
 use Rattle.judging.proofs.judge.Goals.{In_ok-read}
 
@@ -40,6 +40,6 @@ pub returns : goal.returns
 returns c =
     let T = taken (goal.at.returns c).In_ok-read in
     let J =
-    judges_rows _ _ _ _ T c.if-rows-ne-ANSWER_BYTES.false _ c.zero_from.ensures c.if-not-zero_from.false
+    judges_held _ _ _ _ T c.if-rows-ne-ANSWER_BYTES.false _ c.zero_from.ensures c.if-not-zero_from.false
     _ (c.judge_rows.ensures T.question T.read T.stands) in
     record { result = J.0; model = J.1.0; shown = J.1.1 }
