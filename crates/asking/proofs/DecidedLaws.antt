@@ -4,6 +4,7 @@ use Rattle.std.proofs.Common.{sym, ◌∙◌}
 use Rattle.std.proofs.Math.Path.{ap}
 use Rattle.systems.specs.Questions.{Question, question_height}
 use Rattle.systems.specs.Answers.{shows, height_given}
+use Rattle.systems.specs.Decide.{decide}
 use Rattle.plans.specs.declared.Plan.{Plan}
 use Rattle.format.specs.Stored.{Stored, stored_of}
 use Rattle.format.specs.declared.Question.{Question as Held}
@@ -38,6 +39,10 @@ module _ (q : Question) (x : Stored) (f : Finding) (firsts leaves : List Passing
   pub answer_kept : shows (answer_of f) ≡ false → (answer : List ℕ) → answer ≡ answer_after (answered q) answer
   unfolding answer_after
   answer_kept s answer = rw (← D.answer, s)
+
+-- what was found is what the question that is answered is decided
+pub finding_same : (f : Finding) (q q' : Question) → answered q ≡ answered q' → answer_of f ≡ decide q → answer_of f ≡ decide q'
+finding_same f q q' e d = let same : q ≡ q' = cc in rw (← same) d
 
 -- asking, once a question was read that both buffers are long enough for, and decided
 pub given_answer : (s answer work : List ℕ) (x : Held) (clauses : List ℕ) (T : Taken s x clauses) → answer_bytes T.question.constants.levels ≤ length answer → work_bytes ≤ length work

@@ -1,10 +1,11 @@
 // Asking: reads a question, decides it, and leaves its answer in the lent bytes.
 #![tactic(auto)]
 
-ghost use Rattle.std.specs.Prelude.{◌≡◌, ◌++◌, ◌≤◌, length, drop, eqb, Ok};
+ghost use Rattle.std.specs.Prelude.{◌≡◌, IfOk, ◌++◌, ◌≤◌, length, drop, eqb, Ok};
 ghost use Rattle.shares.specs.Constant.{constant_levels};
 ghost use Rattle.systems.specs.Questions as model;
 ghost use Rattle.systems.specs.Answers.{verdict, reason, disequation_number, height_given};
+ghost use Rattle.systems.specs.Decide.{decide};
 ghost use Rattle.rows.specs.Rows.{answer_bytes, zeros};
 ghost use Rattle.decide.specs.Findings.{answer_of};
 ghost use Rattle.decide.specs.Decision.{SizedFor, DecidedFor};
@@ -117,7 +118,8 @@ impl Refusal {
 // What was found of a question with these numbers, with the height given.
 fn found(sizes: Sizes, finding: Finding) -> Answer
     requires { (q : model.Question) × SizedFor sizes q }
-    ensures { (q : model.Question) → SizedFor sizes q → told (Ok result) ≡ answer_outcome (answer_of finding) (height_given (model.question_height q) q (answer_of finding)) }
+    ensures finding { result.finding ≡ finding }
+    ensures outcome { (q : model.Question) → SizedFor sizes q → told (Ok result) ≡ answer_outcome (answer_of finding) (height_given (model.question_height q) q (answer_of finding)) }
 {
     let height = decide::height_given(sizes, finding);
     Answer { finding, height }
@@ -155,6 +157,7 @@ pub fn ask(question: &[u8], answer: &mut [u8], work: &mut [u8]) -> Result<Answer
     ensures answer { answer.new ≡ answer_after (asked_with question.now answer.old work.old) answer.old }
     ensures work { work.new ≡ work_after (asked_with question.now answer.old work.old) work.old }
     ensures model { (q : model.Question) → asked_with question.now answer.old work.old ≡ answered q → Exact q (told result) × Demand3 q (told result) answer.new }
+    ensures finding { IfOk result (λ a. (q : model.Question) → asked_with question.now answer.old work.old ≡ answered q → answer_of a.finding ≡ decide q) }
 {
     let mut clauses = [0u8; CLAUSE_BYTES];
     let read = questions::read(question, &mut clauses)?;

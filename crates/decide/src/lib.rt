@@ -49,7 +49,7 @@ fn question_height(constants: &[u64; 32], named: u64) -> usize
 
 // A question that was read, as it is searched: its numbers, with its height, and its clauses and constants where they are.
 pub fn searchable<'a>(question: &'a Question, clauses: &'a [u8; CLAUSE_BYTES]) -> Searchable<'a>
-    requires { Standing question.now clauses.now }
+    requires { (q : Asked) × Stands (kind_value question.now.kind) (stored_of question.now clauses.now) q }
     ensures sizes { result.sizes ≡ sizes_of question.now }
     ensures clauses { result.clauses.now ≡ clauses.now }
     ensures constants { result.constants.now ≡ question.now.constants }

@@ -1,4 +1,4 @@
-// The reader of questions: a byte string becomes a question, or is refused with a number and a place.
+// The reader of questions: a byte string becomes a question, or is refused with a fault and its place.
 #![tactic(auto)]
 
 mod keep;

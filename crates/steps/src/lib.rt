@@ -1,14 +1,14 @@
 // One word of choices at a leaf: which of them a search allows, and what is kept of them.
 #![tactic(auto)]
 
-ghost use Rattle.std.specs.Prelude.{◌≡◌, ℕ, ◌+◌, ◌*◌, ◌<◌, get_or};
+ghost use Rattle.std.specs.Prelude.{◌≡◌, List, ℕ, ◌+◌, ◌*◌, ◌<◌, get_or};
 ghost use Rattle.shares.specs.Constant.{bit};
 ghost use Rattle.words.specs.Choices.{word_count};
 ghost use Rattle.words.specs.Kept.{number_at};
 ghost use Rattle.words.specs.Table.{Terms};
 ghost use Rattle.beside.specs.Beside.{SameFree};
 ghost use Rattle.steps.specs.Tests.{leaf_values, first_meets, allowed_in, Named};
-ghost use Rattle.steps.specs.Steps.{posed, Tabled, Settled, Amid, Second};
+ghost use Rattle.steps.specs.Steps.{stored_by, posed, Tabled, Settled, Amid, Second};
 
 use beside::Searchable;
 use entries::Marks;
@@ -116,7 +116,7 @@ fn second_word(
     rows: &mut [u64; 96],
 ) -> Seen
     requires { (at.word < word_count question.now.sizes.free) × SameFree question.now.sizes.free at.choices }
-    ensures by_index { (values : ℕ) → Terms question.now.sizes.free question.now.sizes.own values at.word terms.old → Terms question.now.sizes.free question.now.sizes.own values at.word terms.new × (((i : ℕ) → i < 64 → bit at.choices i ≡ first_meets (posed question.now) values (64 * at.word + i)) → Settled (posed question.now) seen rows.old → Second (posed question.now) values at seen firsts.old rows.old result firsts.new rows.new) }
+    ensures by_index { (values : ℕ) → Terms question.now.sizes.free question.now.sizes.own values at.word terms.old → Terms question.now.sizes.free question.now.sizes.own values at.word terms.new × ((constants : List ℕ) → ((i : ℕ) → i < 64 → bit at.choices i ≡ first_meets (stored_by question.now.sizes question.now.clauses.now constants) values (64 * at.word + i)) → Settled (stored_by question.now.sizes question.now.clauses.now constants) seen rows.old → Second (stored_by question.now.sizes question.now.clauses.now constants) values at seen firsts.old rows.old result firsts.new rows.new) }
     ensures possible_value { (result.possible ≡ seen.possible) × ((k : ℕ) → (k ≡ 31 → ⊥) → bit result.met k ≡ bit seen.met k) × ((k : ℕ) → (k ≡ 31 → ⊥) → number_at firsts.new k ≡ number_at firsts.old k) }
 {
     if basics::digit(seen.met, 31) {
@@ -153,7 +153,7 @@ pub fn pass_word(
 ) -> Seen
     requires { Named question.now.sizes.counts spot.search × (spot.leaf < 64) × (spot.word < word_count question.now.sizes.free) × Tabled question.now.sizes.free question.now.sizes.own spot.word terms.old }
     ensures by_index { (values : ℕ) → Terms question.now.sizes.free question.now.sizes.own values spot.word terms.old → Terms question.now.sizes.free question.now.sizes.own values spot.word terms.new }
-    ensures by_index_2 { (h : ℕ) → Terms question.now.sizes.free question.now.sizes.own (leaf_values (posed question.now) h spot.leaf) spot.word terms.old → Amid (posed question.now) h spot.search spot.leaf spot.word seen firsts.old rows.old → Amid (posed question.now) h spot.search spot.leaf (spot.word + 1) result firsts.new rows.new }
+    ensures by_index_2 { (h : ℕ) (constants : List ℕ) → Terms question.now.sizes.free question.now.sizes.own (leaf_values (stored_by question.now.sizes question.now.clauses.now constants) h spot.leaf) spot.word terms.old → Amid (stored_by question.now.sizes question.now.clauses.now constants) h spot.search spot.leaf spot.word seen firsts.old rows.old → Amid (stored_by question.now.sizes question.now.clauses.now constants) h spot.search spot.leaf (spot.word + 1) result firsts.new rows.new }
     ensures possible_value { result.possible ≡ seen.possible }
 {
     let search = spot.search;

@@ -35,7 +35,8 @@ pub const FIRST_WORDS: usize = 33;
 // A table of the leaves' least words has one for each of up to 64 leaves.
 pub const LEAF_WORDS: usize = 64;
 
-// Numbers between usize, u32 and u64 are converted by `as`, since From has no conversion between them. Each is proved to fit.
+// `as` converts between usize and u64, which From does not, and cuts a u64 to a u32 that it fits, where `try_from` would
+// have an error that cannot be.
 
 // The word of the part whose number is byte `at`.
 fn term_word(terms: &[u64; 64], clauses: &[u8; CLAUSE_BYTES], at: usize) -> u64

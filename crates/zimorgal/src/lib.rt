@@ -25,8 +25,8 @@ use constants::NoConstant;
 use judging::{BrokenClause, Failing, Verdict};
 use text::TextRefusal;
 
-// A refusal as one number: its own in byte 1, and its place in bytes 2 and 3. What `as` converts here and below fits its
-// bytes (`InBytes`, `Small`), and `try_from` would have an error that cannot be.
+// A refusal as one number: its own in byte 1, and its place in bytes 2 and 3. What `as` converts here and below fits (from
+// usize to u64, or its bytes by `InBytes` and `Small`), and `try_from` would have an error that cannot be.
 fn refused_number(number: u8, place: usize) -> u64
     requires { place < 2 ^ 16 }
     ensures { result ≡ 2 ^ 8 * number + 2 ^ 16 * place }

@@ -8,8 +8,7 @@ use shares::Way;
 use std::io;
 use std::io::Read;
 
-// Each of these writes to standard output, and stops at the first write that fails.
-// The way in which a clause fails, and the leaf.
+// The way in which a clause fails, and the leaf. This and what follows stop at the first write that fails.
 fn say_failing(rt: &impl Print, failing: Failing) -> io::Result<()> {
     let leaf = failing.leaf;
     match failing.way {

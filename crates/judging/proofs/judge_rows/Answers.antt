@@ -27,7 +27,7 @@ returns-in-Satisfiability c q e St =
 pub searchable-searchable-requires : goal.searchable-searchable-requires
 searchable-searchable-requires c =
     let (q, e, St) = c.requires.bytes_value in
-    (q, St, accepted_formed _ q e)
+    (q, St)
 
 pub returns-then-extends : goal.returns-then-extends
 returns-then-extends c q e St =

@@ -29,7 +29,7 @@ loop-w-preserved c =
     record {
       placed = let (values, v, t) = l.invariant.placed in (values, l.w, passed.by_index values (moved values v t));
       terms = λ values v t. (let (u, s) = l.invariant.terms values v t in (l.w, passed.by_index values (moved values u s)));
-      amid = λ h v t A. (let (u, s) = l.invariant.terms _ v t in passed.by_index_2 h (moved _ u s) (l.invariant.amid h v t A));
+      amid = λ h v t A. (let (u, s) = l.invariant.terms _ v t in passed.by_index_2 h c.args.question.now.constants.now (moved _ u s) (l.invariant.amid h v t A));
       possible = passed.possible_value ∙ l.invariant.possible;
     }
 
