@@ -1,4 +1,5 @@
--- The theorems of asking: what it gives and shows for an answered question is exact, and the rule of heights holds of it. Assumes nothing.
+-- The theorems of asking: what it gives and shows for an answered question is exact, and the rule of heights holds of
+-- it. Assumes nothing.
 use Rattle.std.specs.Prelude.{◌≡◌, List, ℕ, ◌≤◌, T, length}
 use Rattle.std.proofs.Math.Path.{refl, fun_ext}
 use Rattle.std.proofs.Common.{sym, ap, ◌∙◌, subst, subst₂, le_trans, arith}
@@ -17,7 +18,8 @@ use Rattle.format.specs.Limits.{Limited}
 use Rattle.format.proofs.FormatLaws.{accepted_formed, accepted_limited}
 use Rattle.rows.specs.Rows.{row_levels, answer_bytes, filled_with}
 use Rattle.rows.proofs.RowLaws.{filled_tree, filled_zero}
-use Rattle.asking.specs.Asking.{Outcome, Asked, turned_away, answered, asked_with, refusal_outcome, outcome_of, shown_trees, answer_after, work_after}
+use Rattle.asking.specs.Asking.{Outcome, Asked, turned_away, answered, asked_with, refusal_outcome, outcome_of}
+use Rattle.asking.specs.Asking.{shown_trees, answer_after, work_after}
 use Rattle.asking.specs.AskingLaws.{granted, height_low}
 use Rattle.asking.specs.Exact.{WithoutSolution, Exact}
 use Rattle.asking.specs.Demand3.{row_shares, RowsShow, Demand3}
@@ -25,7 +27,8 @@ use Rattle.asking.specs.Given.{Given}
 
 -- ---- the rows of the solution that is shown
 
-module _ (q : Question) (F : WellFormed q) (L : Limited q) (answer : List ℕ) (room : answer_bytes q.constants.levels ≤ length answer)
+module _ (q : Question) (F : WellFormed q) (L : Limited q) (answer : List ℕ)
+    (room : answer_bytes q.constants.levels ≤ length answer)
     (t : T (shows (decide q))) where
   -- their height
   abbrev k : ℕ
@@ -41,7 +44,8 @@ module _ (q : Question) (F : WellFormed q) (L : Limited q) (answer : List ℕ) (
   -- they are those of its shares
   rows_are : row_shares q.constants.levels (answer_after (answered q) answer) ≡ shown_at (question_height q) q
   rows_are = rw after (fun_ext (λ v. share_path _ _
-      (filled_tree k q.free (shown_trees q) answer room (omega arith) (omega (arith, L.variables)) v (shown_at (question_height q) q v).folded
+      (filled_tree k q.free (shown_trees q) answer room (omega arith) (omega (arith, L.variables)) v
+      (shown_at (question_height q) q v).folded
       (le_trans (low v) (height_low q F L (decide q))) (shown_past (question_height q) q v (decide q)))))
 
   filled : RowsShow q (decide q) (answer_after (answered q) answer)
@@ -81,7 +85,8 @@ module _ (s answer work : List ℕ) (q : Question) (e : asked_with s answer work
   demand_3 = record {
     rule = height_rule q formed;
     height = λ a r. ap (height_given (question_height q) q) ((exact q formed a).0 r);
-    shown = λ a r. subst (λ a. T (shows a) → RowsShow q a (answer_after (answered q) answer)) ((exact q formed a).0 r) (filled q formed limited answer room);
+    shown = λ a r. subst (λ a. T (shows a) → RowsShow q a (answer_after (answered q) answer)) ((exact q formed a).0 r)
+        (filled q formed limited answer room);
   }
     where
       limited : Limited q
@@ -95,19 +100,23 @@ module _ (s answer work : List ℕ) (q : Question) (e : asked_with s answer work
 module _ (s answer work : List ℕ) where
   -- its meaning follows from the rest
   pub given : (g : Asked) → asked_with s answer work ≡ g → (r : Outcome) (answer' work' : List ℕ)
-      → r ≡ outcome_of g → answer' ≡ answer_after g answer → work' ≡ work_after g work → Given s answer work r answer' work'
+      → r ≡ outcome_of g → answer' ≡ answer_after g answer → work' ≡ work_after g work
+      → Given s answer work r answer' work'
   given g e r answer' work' er ea ew = record {
     outcome = er ∙ ap outcome_of (sym e);
     answer = ea ∙ ap (λ x. answer_after x answer) (sym e);
     work = ew ∙ ap (λ x. work_after x work) (sym e);
     model = λ q f.
         let right = er ∙ ap outcome_of (sym e ∙ f) in
-        let shown = ea ∙ ap (λ x. answer_after x answer) (sym e ∙ f) in
-        (subst (Exact q) (sym right) (exact_asked s answer work q f), subst₂ (Demand3 q) (sym right) (sym shown) (demand_3 s answer work q f));
+        let shown = ea ∙ ap (λ x. answer_after x answer) (sym e ∙ f) in (
+          subst (Exact q) (sym right) (exact_asked s answer work q f),
+          subst₂ (Demand3 q) (sym right) (sym shown) (demand_3 s answer work q f),
+        );
   }
 
   -- a refusal leaves every lent byte unchanged
-  pub given_refused : (n place : ℕ) → asked_with s answer work ≡ turned_away n place → (r : Outcome) → r ≡ refusal_outcome n place
+  pub given_refused : (n place : ℕ) → asked_with s answer work ≡ turned_away n place → (r : Outcome)
+      → r ≡ refusal_outcome n place
       → Given s answer work r answer work
   unfolding answer_after work_after
   given_refused n place e r er = given (turned_away n place) e r answer work er refl refl

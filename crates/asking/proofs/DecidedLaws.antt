@@ -22,14 +22,18 @@ use Rattle.asking.specs.Given.{Given}
 use Rattle.asking.proofs.AskedRight.{given}
 use Rattle.words.specs.declared.Passing.{Passing}
 
-module _ (q : Question) (x : Stored) (f : Finding) (firsts leaves : List Passing) (D : Decided x q f firsts leaves) where
+module _ (q : Question) (x : Stored) (f : Finding) (firsts leaves : List Passing)
+    (D : Decided x q f firsts leaves) where
   -- the answer that was found is the question's, and so is the height given with it
-  pub outcome_same : answer_outcome (answer_of f) (height_given (question_height q) q (answer_of f)) ≡ outcome_of (answered q)
+  pub outcome_same : answer_outcome (answer_of f) (height_given (question_height q) q (answer_of f))
+      ≡ outcome_of (answered q)
   outcome_same = ap (λ a. answer_outcome a (height_given (question_height q) q a)) D.answer
 
   -- where a solution is shown its plan's rows are those of the solution
-  pub answer_shown : (levels : ℕ) → q.constants.levels ≡ levels → shows (answer_of f) ≡ true → (plan : Plan) → Planned q plan
-      → (free : ℕ) → free ≡ q.free → (answer : List ℕ) → shown.shown_answer (row_levels levels) free plan answer ≡ answer_after (answered q) answer
+  pub answer_shown : (levels : ℕ) → q.constants.levels ≡ levels → shows (answer_of f) ≡ true → (plan : Plan)
+      → Planned q plan
+      → (free : ℕ) → free ≡ q.free → (answer : List ℕ) → shown.shown_answer (row_levels levels) free plan answer
+      ≡ answer_after (answered q) answer
   unfolding answer_after
   answer_shown levels same s plan P free e answer =
       ap (λ l. shown.shown_answer (row_levels l) free plan answer) (sym same)
@@ -41,15 +45,19 @@ module _ (q : Question) (x : Stored) (f : Finding) (firsts leaves : List Passing
   answer_kept s answer = rw (← D.answer, s)
 
 -- what was found is what the question that is answered is decided
-pub finding_same : (f : Finding) (q q' : Question) → answered q ≡ answered q' → answer_of f ≡ decide q → answer_of f ≡ decide q'
+pub finding_same : (f : Finding) (q q' : Question) → answered q ≡ answered q' → answer_of f ≡ decide q
+    → answer_of f ≡ decide q'
 finding_same f q q' e d = let same : q ≡ q' = cc in rw (← same) d
 
 -- asking, once a question was read that both buffers are long enough for, and decided
-pub given_answer : (s answer work : List ℕ) (x : Held) (clauses : List ℕ) (T : Taken s x clauses) → answer_bytes T.question.constants.levels ≤ length answer → work_bytes ≤ length work
+pub given_answer : (s answer work : List ℕ) (x : Held) (clauses : List ℕ) (T : Taken s x clauses)
+    → answer_bytes T.question.constants.levels ≤ length answer → work_bytes ≤ length work
     → (sizes : Sizes) (f : Finding) (firsts leaves : List Passing) → DecidedFor sizes f firsts leaves T.question
     → (r : Outcome)
-    → ((q : Question) → SizedFor sizes q → r ≡ answer_outcome (answer_of f) (height_given (question_height q) q (answer_of f)))
-    → (answer' : List ℕ) → ((q : Question) → DecidedFor sizes f firsts leaves q → answer' ≡ answer_after (answered q) answer)
+    → ((q : Question) → SizedFor sizes q
+    → r ≡ answer_outcome (answer_of f) (height_given (question_height q) q (answer_of f)))
+    → (answer' : List ℕ) → ((q : Question) → DecidedFor sizes f firsts leaves q
+    → answer' ≡ answer_after (answered q) answer)
     → (work' : List ℕ) → work' ≡ zeros work_bytes ++ drop work_bytes work → Given s answer work r answer' work'
 unfolding work_after
 given_answer s answer work x clauses T la lw sizes f firsts leaves D r er answer' ea work' ew =
@@ -60,10 +68,12 @@ given_answer s answer work x clauses T la lw sizes f firsts leaves D r er answer
     ew
 
 -- what was read has these numbers, and with them this was found
-module _ (s : List ℕ) (x : Held) (clauses : List ℕ) (T : Taken s x clauses) (sizes : Sizes) (e : sizes ≡ sizes_of x) where
+module _ (s : List ℕ) (x : Held) (clauses : List ℕ) (T : Taken s x clauses) (sizes : Sizes)
+    (e : sizes ≡ sizes_of x) where
   pub sized_for : SizedFor sizes T.question
   sized_for = record { question = x; standing = record { clauses = clauses; stands = T.stands }; sized = e }
 
-  pub decided_for : (f : Finding) (firsts leaves : List Passing) → Decided (stored_of x clauses) T.question f firsts leaves → DecidedFor sizes f firsts leaves T.question
+  pub decided_for : (f : Finding) (firsts leaves : List Passing)
+      → Decided (stored_of x clauses) T.question f firsts leaves → DecidedFor sizes f firsts leaves T.question
   unfolding sized_for
   decided_for f firsts leaves D = record { sizing = sized_for; decided = D }

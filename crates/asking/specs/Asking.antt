@@ -18,7 +18,8 @@ pub data Asked : Type 0 where
   turned_away : ℕ → ℕ → Asked
   answered : Question → Asked
 
--- what was read, with buffers of so many bytes: the reader's refusal, then 11 (answer buffer too short), then 12 (work area too short)
+-- what was read, with buffers of so many bytes: the reader's refusal, then 11 (answer buffer too short), then 12 (work
+-- area too short)
 abbrev pub lent_to : Result → ℕ → ℕ → Asked
 lent_to (refused n place) answer work = turned_away n place
 lent_to (accepted q) answer work =
@@ -36,7 +37,8 @@ asked_with s answer work = asked s (length answer) (length work)
 
 -- ---- the result
 
--- the verdict (0 refused, 1 yes, 2 no), the refusal's number and its place, the height given, the reason and the disequation number;
+-- the verdict (0 refused, 1 yes, 2 no), the refusal's number and its place, the height given, the reason and the
+-- disequation number;
 -- a field without a meaning is 0
 pub record Outcome : Type 0 where
   pub verdict : ℕ
@@ -52,7 +54,15 @@ refusal_outcome n place = record { verdict = 0; refusal = n; place = place; heig
 
 -- an answer has its numbers and the height given
 abbrev pub answer_outcome : Answer → ℕ → Outcome
-answer_outcome a given = record { verdict = verdict a; refusal = 0; place = 0; height = given; reason = reason a; number = disequation_number a }
+answer_outcome a given = record {
+  verdict = verdict a;
+  refusal = 0;
+  place = 0;
+  height = given;
+  reason =
+      reason a;
+  number = disequation_number a;
+}
 
 -- what asking gives
 abbrev pub outcome_of : Asked → Outcome
@@ -65,10 +75,12 @@ outcome_of (answered q) = answer_outcome (decide q) (height_given (question_heig
 abbrev pub shown_trees : Question → ℕ → Tree
 shown_trees q v = (shown_at (question_height q) q v).tree
 
--- the answer buffer: a shown solution fills its first bytes, 1,536 at 5 levels, a row for each variable, zero if it is no free one; otherwise it is unchanged
+-- the answer buffer: a shown solution fills its first bytes, 1,536 at 5 levels, a row for each variable, zero if it is
+-- no free one; otherwise it is unchanged
 unfoldable pub answer_after : Asked → List ℕ → List ℕ
 answer_after (turned_away n place) answer = answer
-answer_after (answered q) answer = cond (shows (decide q)) (filled_with (row_levels q.constants.levels) q.free (shown_trees q) answer) answer
+answer_after (answered q) answer =
+    cond (shows (decide q)) (filled_with (row_levels q.constants.levels) q.free (shown_trees q) answer) answer
 
 -- the work area: after a yes or no its first 4,096 bytes are zero, otherwise it is unchanged
 unfoldable pub work_after : Asked → List ℕ → List ℕ

@@ -50,7 +50,8 @@ pub granted : (s : List ℕ) (a w : ℕ) (q : Question) → asked s a w ≡ answ
 unfolding asked
 granted s a w q e = go (read s) refl e
   where
-    lent : (p : Question) → read s ≡ accepted p → (x : Bool) → ltb a (answer_bytes p.constants.levels) ≡ x → (y : Bool) → ltb w work_bytes ≡ y
+    lent : (p : Question) → read s ≡ accepted p → (x : Bool) → ltb a (answer_bytes p.constants.levels) ≡ x → (y : Bool)
+        → ltb w work_bytes ≡ y
         → lent_to (accepted p) a w ≡ answered q → Granted s a w q
     lent p h true hx y hy k = never 11 0 q (rw hx at k)
     lent p h false hx true hy k = never 12 0 q (rw (hx, hy) at k)
@@ -87,6 +88,7 @@ module _ (q : Question) (F : WellFormed q) (L : Limited q) where
 -- ---- the work area
 
 -- a work area whose first bytes are filled
-pub cleared : (work part : List ℕ) (k : ℕ) → part ≡ replicate k 0 → k ≡ work_bytes → part ++ drop work_bytes work ≡ zeros work_bytes ++ drop work_bytes work
+pub cleared : (work part : List ℕ) (k : ℕ) → part ≡ replicate k 0 → k ≡ work_bytes
+    → part ++ drop work_bytes work ≡ zeros work_bytes ++ drop work_bytes work
 unfolding zeros
 cleared work part k e h = ap (λ l. l ++ drop work_bytes work) (e ∙ ap (λ n. replicate n 0) h)

@@ -18,10 +18,12 @@ nothing = record {
 
 -- the reader's refusal, whatever is lent; then 11, then 12; then an answer
 cases : (lent_to (refused 3 4) 0 0 ≡ turned_away 3 4) × (lent_to (accepted nothing) 1535 4095 ≡ turned_away 11 0)
-    × (lent_to (accepted nothing) 1536 4095 ≡ turned_away 12 0) × (lent_to (accepted nothing) 1536 4096 ≡ answered nothing)
+    × (lent_to (accepted nothing) 1536 4095 ≡ turned_away 12 0)
+    × (lent_to (accepted nothing) 1536 4096 ≡ answered nothing)
 cases = (refl, refl, refl, refl)
 
 -- a refusal leaves both buffers as they were
-kept : (answer_after (turned_away 3 4) (7 ∷ 8 ∷ []) ≡ 7 ∷ 8 ∷ []) × (work_after (turned_away 3 4) (7 ∷ 8 ∷ []) ≡ 7 ∷ 8 ∷ [])
+kept : (answer_after (turned_away 3 4) (7 ∷ 8 ∷ []) ≡ 7 ∷ 8 ∷ [])
+    × (work_after (turned_away 3 4) (7 ∷ 8 ∷ []) ≡ 7 ∷ 8 ∷ [])
 unfolding answer_after work_after
 kept = (refl, refl)

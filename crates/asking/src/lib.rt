@@ -9,7 +9,8 @@ ghost use Rattle.systems.specs.Decide.{decide};
 ghost use Rattle.rows.specs.Rows.{answer_bytes, zeros};
 ghost use Rattle.decide.specs.Findings.{answer_of};
 ghost use Rattle.decide.specs.Decision.{SizedFor, DecidedFor};
-ghost use Rattle.asking.specs.Asking.{work_bytes, answered, asked_with, answer_outcome, outcome_of, answer_after, work_after};
+ghost use Rattle.asking.specs.Asking.{work_bytes, answered, asked_with, answer_outcome, outcome_of, answer_after};
+ghost use Rattle.asking.specs.Asking.{work_after};
 ghost use Rattle.asking.specs.declared.Refusal.TheVariants.{Question};
 ghost use Rattle.asking.specs.Told.{refusal_number, refusal_place, told};
 ghost use Rattle.asking.specs.Exact.{Exact};
@@ -119,7 +120,9 @@ impl Refusal {
 fn found(sizes: Sizes, finding: Finding) -> Answer
     requires { (q : model.Question) × SizedFor sizes q }
     ensures finding { result.finding ≡ finding }
-    ensures outcome { (q : model.Question) → SizedFor sizes q → told (Ok result) ≡ answer_outcome (answer_of finding) (height_given (model.question_height q) q (answer_of finding)) }
+    ensures outcome { (q : model.Question) → SizedFor sizes q
+        → told (Ok result) ≡ answer_outcome (answer_of finding)
+        (height_given (model.question_height q) q (answer_of finding)) }
 {
     let height = decide::height_given(sizes, finding);
     Answer { finding, height }
@@ -135,7 +138,8 @@ fn show_solution(
 )
     requires constant_levels_in_bounds { answer_bytes constant_levels ≤ length answer.old }
     requires decided_for { (q : model.Question) × DecidedFor sizes finding firsts.now leaves.now q }
-    ensures { (q : model.Question) → DecidedFor sizes finding firsts.now leaves.now q → answer.new ≡ answer_after (answered q) answer.old }
+    ensures { (q : model.Question) → DecidedFor sizes finding firsts.now leaves.now q
+        → answer.new ≡ answer_after (answered q) answer.old }
 {
     if decide::is_shown(finding) {
         let plan = decide::plan(sizes, finding, firsts, leaves);
@@ -156,8 +160,10 @@ pub fn ask(question: &[u8], answer: &mut [u8], work: &mut [u8]) -> Result<Answer
     ensures outcome { told result ≡ outcome_of (asked_with question.now answer.old work.old) }
     ensures answer { answer.new ≡ answer_after (asked_with question.now answer.old work.old) answer.old }
     ensures work { work.new ≡ work_after (asked_with question.now answer.old work.old) work.old }
-    ensures model { (q : model.Question) → asked_with question.now answer.old work.old ≡ answered q → Exact q (told result) × Demand3 q (told result) answer.new }
-    ensures finding { IfOk result (λ a. (q : model.Question) → asked_with question.now answer.old work.old ≡ answered q → answer_of a.finding ≡ decide q) }
+    ensures model { (q : model.Question) → asked_with question.now answer.old work.old ≡ answered q
+        → Exact q (told result) × Demand3 q (told result) answer.new }
+    ensures finding { IfOk result (λ a. (q : model.Question) → asked_with question.now answer.old work.old ≡ answered q
+        → answer_of a.finding ≡ decide q) }
 {
     let mut clauses = [0u8; CLAUSE_BYTES];
     let read = questions::read(question, &mut clauses)?;

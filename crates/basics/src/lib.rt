@@ -4,8 +4,8 @@
 ghost use Rattle.std.specs.Prelude.{◌≡◌, ◌+◌, ◌^◌, ◌≤◌, ◌<◌, length, take, drop};
 ghost use Rattle.shares.specs.Constant.{bit, number};
 
-// The clauses of a question are stored in so many bytes, four a clause, section after section: the first system's positive clauses from byte 0, then its
-// disequations, and then the second system's in the same way.
+// The clauses of a question are stored in so many bytes, four a clause, section after section: the first system's
+// positive clauses from byte 0, then its disequations, and then the second system's in the same way.
 pub const CLAUSE_BYTES: usize = 768;
 
 pub const FIRST_DISEQUATIONS: usize = 256;

@@ -9,11 +9,12 @@ use Rattle.beside.specs.declared.Sizes.{Sizes}
 
 -- ---- what can be read
 
--- a clause reads no own variable: only the first n terms, the constants and the two parts that are no term's count. There are at most 12 variables,
--- so none is among those from 12 on
+-- a clause reads no own variable: only the first n terms, the constants and the two parts that are no term's count.
+-- There are at most 12 variables, so none is among those from 12 on
 abbrev pub ReadsFree : List ℕ → ℕ → ℕ → Type 0
 ReadsFree clauses n at =
-    (x y : ℕ → Bool) → ((t : ℕ) → t < n → x t ≡ y t) → ((t : ℕ) → 12 ≤ t → x t ≡ y t) → clause_test clauses x at ≡ clause_test clauses y at
+    (x y : ℕ → Bool) → ((t : ℕ) → t < n → x t ≡ y t) → ((t : ℕ) → 12 ≤ t → x t ≡ y t)
+    → clause_test clauses x at ≡ clause_test clauses y at
 
 -- the clauses of a stored question can be read, and those of the first system read no own variable
 pub record Readable (clauses counts : List ℕ) (n m : ℕ) : Type 0 where
@@ -63,7 +64,8 @@ beside_words words w o p i = some_below o (λ k. p (64 * (k * words + w) + i))
 abbrev pub beside_own : ℕ → ℕ → ℕ → (ℕ → Bool) → ℕ → Bool
 beside_own n m w p i = some_own n m p ((64 * w + i) % 2 ^ n)
 
--- the bits at which s passes are taken out of word j, if bit j of `wanted` is set, which stays set only if some bit is left. Nothing else changes
+-- the bits at which s passes are taken out of word j, if bit j of `wanted` is set, which stays set only if some bit is
+-- left. Nothing else changes
 pub record Taken (j : ℕ) (s : ℕ → Bool) (wanted : ℕ) (left : List ℕ) (wanted' : ℕ) (left' : List ℕ) : Type 0 where
   pub word : T (bit wanted j) → Left (get_or left j 0) s (get_or left' j 0)
   pub empty : T (bit wanted j) → T (not (bit wanted' j)) → get_or left' j 0 ≡ 0
@@ -71,16 +73,20 @@ pub record Taken (j : ℕ) (s : ℕ → Bool) (wanted : ℕ) (left : List ℕ) (
   pub left_kept : (k : ℕ) → (k ≡ j → T (not (bit wanted j))) → get_or left' k 0 ≡ get_or left k 0
 
 -- the same of each of the first `count` words
-pub record TakenAll (count : ℕ) (s : ℕ → ℕ → Bool) (wanted : ℕ) (left : List ℕ) (wanted' : ℕ) (left' : List ℕ) : Type 0 where
+pub record TakenAll (count : ℕ) (s : ℕ → ℕ → Bool) (wanted : ℕ) (left : List ℕ) (wanted' : ℕ) (left' : List ℕ)
+    : Type 0 where
   pub word : (j : ℕ) → j < count → T (bit wanted j) → Left (get_or left j 0) (s j) (get_or left' j 0)
   pub empty : (j : ℕ) → j < count → T (bit wanted j) → T (not (bit wanted' j)) → get_or left' j 0 ≡ 0
   pub wanted_kept : (k : ℕ) → count ≤ k → k < 64 → bit wanted' k ≡ bit wanted k
   pub left_kept : (k : ℕ) → (k < count → T (not (bit wanted k))) → get_or left' k 0 ≡ get_or left k 0
 
 -- the same, but for those whose bits of `rest` are set, which are as they were
-pub record TakenBut (rest count : ℕ) (s : ℕ → ℕ → Bool) (wanted : ℕ) (left : List ℕ) (wanted' : ℕ) (left' : List ℕ) : Type 0 where
-  pub word : (j : ℕ) → j < count → bit rest j ≡ false → T (bit wanted j) → Left (get_or left j 0) (s j) (get_or left' j 0)
-  pub empty : (j : ℕ) → j < count → bit rest j ≡ false → T (bit wanted j) → T (not (bit wanted' j)) → get_or left' j 0 ≡ 0
+pub record TakenBut (rest count : ℕ) (s : ℕ → ℕ → Bool) (wanted : ℕ) (left : List ℕ) (wanted' : ℕ) (left' : List ℕ)
+    : Type 0 where
+  pub word : (j : ℕ) → j < count → bit rest j ≡ false → T (bit wanted j)
+      → Left (get_or left j 0) (s j) (get_or left' j 0)
+  pub empty : (j : ℕ) → j < count → bit rest j ≡ false → T (bit wanted j) → T (not (bit wanted' j))
+      → get_or left' j 0 ≡ 0
   pub inside : (j : ℕ) → T (bit rest j) → (j < count) × T (bit wanted j)
   pub wanted_same : (j : ℕ) → T (bit rest j) → bit wanted' j ≡ bit wanted j
   pub left_same : (j : ℕ) → T (bit rest j) → get_or left' j 0 ≡ get_or left j 0
@@ -115,4 +121,5 @@ pub record SweptAll (clauses counts : List ℕ) (n m values w x wanted none : �
 -- what is left of x beside all own choices
 pub record Missing (clauses counts : List ℕ) (n m values w x wanted r : ℕ) (left : List ℕ) : Type 0 where
   pub none : Left x (beside_own n m w (positives_pass clauses counts n m values)) r
-  pub each : (j : ℕ) → j < get_or counts 3 0 → T (bit wanted j) → Left x (beside_own n m w (disequation_passes clauses counts n m values j)) (get_or left j 0)
+  pub each : (j : ℕ) → j < get_or counts 3 0 → T (bit wanted j)
+      → Left x (beside_own n m w (disequation_passes clauses counts n m values j)) (get_or left j 0)

@@ -1,8 +1,10 @@
--- Laws of free choices: the choices of all words that fall on one word, gathered, say which free choices some own choice goes with.
+-- Laws of free choices: the choices of all words that fall on one word, gathered, say which free choices some own
+-- choice goes with.
 -- Assumes nothing.
 use Rattle.std.specs.Prelude.{◌≡◌, ◌↔◌, Bool, not, ◌&&◌, ℕ, ◌+◌, ◌-◌, ◌*◌, ◌/◌, ◌%◌, ◌^◌, ◌≤◌, ◌<◌, eqb}
 use Rattle.std.proofs.Math.Path.{sym, ap, subst}
-use Rattle.std.proofs.Common.{ap₂, ◌∙◌, mod-lt, mod-eq_of_lt, add_comm, lt_of_lt_of_le, arith, eqb→eq, pow_pos, pow_mono, pow-add, shr_lt}
+use Rattle.std.proofs.Common.{ap₂, ◌∙◌, mod-lt, mod-eq_of_lt, add_comm, lt_of_lt_of_le, arith, eqb→eq, pow_pos}
+use Rattle.std.proofs.Common.{pow_mono, pow-add, shr_lt}
 use Rattle.std.proofs.Math.Bool.{not-not}
 use Rattle.std.proofs.Math.Nat.{mod-one}
 use Rattle.std.proofs.Math.Decide.{dec_le}
@@ -83,7 +85,8 @@ module _ (n m : ℕ) (p : ℕ → Bool) (periodic : Periodic (n + m) p) where
   own_intro z t =
       let e : p z ≡ p (z / 2 ^ n % 2 ^ m * 2 ^ n + z % 2 ^ n) =
       periodic z ∙ ap (λ k. p (z % 2 ^ k)) (add_comm n m) ∙ ap p (mod-pow-add z m n) in
-      some_intro (2 ^ m) (λ y. p (y * 2 ^ n + z % 2 ^ n)) (z / 2 ^ n % 2 ^ m) (mod-lt (z / 2 ^ n) (pow_pos m)) (subst T e t)
+      some_intro (2 ^ m) (λ y. p (y * 2 ^ n + z % 2 ^ n)) (z / 2 ^ n % 2 ^ m) (mod-lt (z / 2 ^ n) (pow_pos m))
+      (subst T e t)
 
   -- beside a free choice x some choice below 2 ^ (n + m) passes
   pub own_found : (x : ℕ) → x < 2 ^ n → T (some_own n m p x) → (z : ℕ) × (z < 2 ^ (n + m)) × (z % 2 ^ n ≡ x) × T (p z)
@@ -96,21 +99,32 @@ module _ (n m : ℕ) (p : ℕ → Bool) (periodic : Periodic (n + m) p) where
   -- the two together, by words
   pub own_words : (w i : ℕ) → w < word_count n → i < 64
       → T (some_own n m p ((64 * w + i) % 2 ^ n))
-      ↔ ((u : ℕ) × (j : ℕ) × (u < word_count (n + m)) × (j < 64) × (u % word_count n ≡ w) × (j % 2 ^ n ≡ i % 2 ^ n) × T (p (64 * u + j)))
+      ↔ ((u : ℕ) × (j : ℕ) × (u < word_count (n + m)) × (j < 64) × (u % word_count n ≡ w) × (j % 2 ^ n ≡ i % 2 ^ n)
+      × T (p (64 * u + j)))
   own_words w i hw hi = (
     λ t.
         let (z, l, e, v) = own_found ((64 * w + i) % 2 ^ n) (mod-lt (64 * w + i) (pow_pos n)) t in
         let cut : 64 * (z / 64) + z % 64 ≡ z = omega arith in
-        let same = (same_free n (z / 64) w i (z % 64) hw hi (mod-lt z (omega arith))).0 (ap (λ k. k % 2 ^ n) cut ∙ e) in
-        (z / 64, z % 64, in_words (n + m) z l, mod-lt z (omega arith), same.0, same.1, subst (λ k. T (p k)) (sym cut) v),
+        let same = (same_free n (z / 64) w i (z % 64) hw hi (mod-lt z (omega arith))).0 (ap (λ k. k % 2 ^ n) cut
+        ∙ e) in (
+          z / 64,
+          z % 64,
+          in_words (n + m) z l,
+          mod-lt z (omega arith),
+          same.0,
+          same.1,
+          subst (λ k. T (p k)) (sym cut) v,
+        ),
     λ (u, j, hu, hj, e, f, v).
         subst (λ x. T (some_own n m p x)) ((same_free n u w i j hw hi hj).1 (e, f)) (own_intro (64 * u + j) v),
   )
 
 -- where all six digits of a bit's number are free, no other bit has the same
-alone : (n : ℕ) (f : ℕ → Bool) → 6 ≤ n → (i : ℕ) → i < 64 → f i ≡ some_below 64 (λ j. eqb (j % 2 ^ n) (i % 2 ^ n) && f j)
+alone : (n : ℕ) (f : ℕ → Bool) → 6 ≤ n → (i : ℕ) → i < 64
+    → f i ≡ some_below 64 (λ j. eqb (j % 2 ^ n) (i % 2 ^ n) && f j)
 alone n f h i l =
-    same_test (f i) (some_below 64 same) (λ t. some_intro 64 same i l (and_intro (eqb (i % 2 ^ n) (i % 2 ^ n)) (f i) (eqb_refl (i % 2 ^ n)) t))
+    same_test (f i) (some_below 64 same)
+    (λ t. some_intro 64 same i l (and_intro (eqb (i % 2 ^ n) (i % 2 ^ n)) (f i) (eqb_refl (i % 2 ^ n)) t))
     (λ t.
     let (j, b, s) = some_found 64 same t in
     let g = eqb→eq (j % 2 ^ n) (i % 2 ^ n) (and_left (eqb (j % 2 ^ n) (i % 2 ^ n)) (f j) s) in
@@ -137,8 +151,11 @@ choices_le n = subst (λ c. 2 ^ n ≤ c) (pow-add 2 6 (n - 6)) (pow_mono (omega 
 pub periodic_some : (n : ℕ) (p : ℕ → Bool) → Periodic n p → some_below (64 * word_count n) p ≡ some_below (2 ^ n) p
 periodic_some n p h =
     same_test (some_below (64 * word_count n) p) (some_below (2 ^ n) p)
-    (λ t. let (z, l, u) = some_found (64 * word_count n) p t in some_intro (2 ^ n) p (z % 2 ^ n) (mod-lt z (pow_pos n)) (subst T (h z) u))
-    (λ t. let (z, l, u) = some_found (2 ^ n) p t in some_intro (64 * word_count n) p z (lt_of_lt_of_le l (choices_le n)) u)
+    (λ t. let (z, l, u) = some_found (64 * word_count n) p t in
+    some_intro (2 ^ n) p (z % 2 ^ n) (mod-lt z (pow_pos n)) (subst T (h z) u))
+    (λ t. let (z, l, u) = some_found (2 ^ n) p t in
+    some_intro (64 * word_count n) p z (lt_of_lt_of_le l (choices_le n)) u)
 
-pub periodic_first : (n : ℕ) (p : ℕ → Bool) → T (some_below (2 ^ n) p) → first_below (64 * word_count n) p ≡ first_below (2 ^ n) p
+pub periodic_first : (n : ℕ) (p : ℕ → Bool) → T (some_below (2 ^ n) p)
+    → first_below (64 * word_count n) p ≡ first_below (2 ^ n) p
 periodic_first n p = first_longer (2 ^ n) (64 * word_count n) p (choices_le n)

@@ -1,5 +1,5 @@
-// Beside one word of free choices: which of them no own choice meets the second system with. Own variables are the digits above the free
-// ones, so that where there are fewer than six free variables a word holds own choices too.
+// Beside one word of free choices: which of them no own choice meets the second system with. Own variables are the
+// digits above the free ones, so that where there are fewer than six free variables a word holds own choices too.
 #![tactic(auto)]
 
 ghost use Rattle.std.specs.Prelude.{◌≡◌, ◌&&◌, not, ℕ, ◌+◌, ◌*◌, ◌%◌, ◌^◌, ◌<◌, ◌≤◌, T, length, get_or};
@@ -83,8 +83,8 @@ fn own_words(n: usize, m: usize) -> usize
     basics::power(m)
 }
 
-// Takes the choices of y in which disequation j of the second system holds out of word j, which is wanted. Bit j of `wanted` stays set only if some
-// choice is left.
+// Takes the choices of y in which disequation j of the second system holds out of word j, which is wanted. Bit j of
+// `wanted` stays set only if some choice is left.
 fn take_one(
     question: &Searchable<'_>,
     terms: &[u64; 64],
@@ -94,7 +94,9 @@ fn take_one(
     left: &mut [u64],
 ) -> u64
     requires { (j < get_or question.now.sizes.counts 3 0) × (32 ≤ length left.old) × T (bit wanted j) }
-    ensures { Taken j (λ i. bit y i && not (clause_test question.now.clauses.now (λ t. bit (get_or terms.now t 0) i) (640 + 4 * j))) wanted left.old result left.new }
+    ensures { Taken j (λ i. bit y i
+        && not (clause_test question.now.clauses.now (λ t. bit (get_or terms.now t 0) i) (640 + 4 * j))) wanted left.old
+        result left.new }
 {
     let z = left[j] & !words::failing_word(terms, question.clauses, SECOND_DISEQUATIONS + 4 * j, y);
     left[j] = z;
@@ -113,7 +115,9 @@ fn take_all(
     left: &mut [u64],
 ) -> u64
     requires { 32 ≤ length left.old }
-    ensures { TakenAll (get_or question.now.sizes.counts 3 0) (λ j i. bit y i && not (clause_test question.now.clauses.now (λ t. bit (get_or terms.now t 0) i) (640 + 4 * j))) wanted left.old result left.new }
+    ensures { TakenAll (get_or question.now.sizes.counts 3 0) (λ j i. bit y i
+        && not (clause_test question.now.clauses.now (λ t. bit (get_or terms.now t 0) i) (640 + 4 * j))) wanted left.old
+        result left.new }
 {
     if y == 0 {
         return wanted;
@@ -125,8 +129,9 @@ fn take_all(
     r
 }
 
-// Goes over the words beside word w: the result has the choices of x that meet the second system's positive clauses in none of them, and word j,
-// for each j whose bit of `wanted` is set, those of x that meet them and disequation j in none. Stops as soon as no choice is left anywhere.
+// Goes over the words beside word w: the result has the choices of x that meet the second system's positive clauses in
+// none of them, and word j, for each j whose bit of `wanted` is set, those of x that meet them and disequation j in
+// none. Stops as soon as no choice is left anywhere.
 fn sweep(
     question: &Searchable<'_>,
     terms: &mut [u64; 64],
@@ -135,8 +140,11 @@ fn sweep(
     wanted: u64,
     left: &mut [u64],
 ) -> u64
-    requires w_bound { (w < word_count question.now.sizes.free) × (32 ≤ length left.old) × ((j : ℕ) → j < get_or question.now.sizes.counts 3 0 → get_or left.old j 0 ≡ x) }
-    ensures by_index { (values : ℕ) → Terms question.now.sizes.free question.now.sizes.own values w terms.old → SweptAll question.now.clauses.now question.now.sizes.counts question.now.sizes.free question.now.sizes.own values w x wanted result terms.new left.new }
+    requires w_bound { (w < word_count question.now.sizes.free) × (32 ≤ length left.old)
+        × ((j : ℕ) → j < get_or question.now.sizes.counts 3 0 → get_or left.old j 0 ≡ x) }
+    ensures by_index { (values : ℕ) → Terms question.now.sizes.free question.now.sizes.own values w terms.old
+        → SweptAll question.now.clauses.now question.now.sizes.counts question.now.sizes.free question.now.sizes.own
+        values w x wanted result terms.new left.new }
     ensures by_index_2 { (k : ℕ) → 32 ≤ k → get_or left.new k 0 ≡ get_or left.old k 0 }
 {
     let sizes = question.sizes;
@@ -162,8 +170,9 @@ fn sweep(
     none
 }
 
-// The choices of x, of word w, beside which no own choice meets the second system's positive clauses. Word j of `left`, for each j whose bit of `wanted`
-// is set, becomes those beside which none meets them and disequation j; words from 32 on stay as they are.
+// The choices of x, of word w, beside which no own choice meets the second system's positive clauses. Word j of `left`,
+// for each j whose bit of `wanted` is set, becomes those beside which none meets them and disequation j; words from 32
+// on stay as they are.
 pub fn missing(
     question: &Searchable<'_>,
     terms: &mut [u64; 64],
@@ -172,8 +181,12 @@ pub fn missing(
     wanted: u64,
     left: &mut [u64],
 ) -> u64
-    requires w_bound { (w < word_count question.now.sizes.free) × (32 ≤ length left.old) × SameFree question.now.sizes.free x }
-    ensures by_index { (values : ℕ) → Terms question.now.sizes.free question.now.sizes.own values w terms.old → Terms question.now.sizes.free question.now.sizes.own values w terms.new × Missing question.now.clauses.now question.now.sizes.counts question.now.sizes.free question.now.sizes.own values w x wanted result left.new }
+    requires w_bound { (w < word_count question.now.sizes.free) × (32 ≤ length left.old)
+        × SameFree question.now.sizes.free x }
+    ensures by_index { (values : ℕ) → Terms question.now.sizes.free question.now.sizes.own values w terms.old
+        → Terms question.now.sizes.free question.now.sizes.own values w terms.new
+        × Missing question.now.clauses.now question.now.sizes.counts question.now.sizes.free question.now.sizes.own
+        values w x wanted result left.new }
     ensures by_index_2 { (k : ℕ) → 32 ≤ k → get_or left.new k 0 ≡ get_or left.old k 0 }
 {
     let sizes = question.sizes;

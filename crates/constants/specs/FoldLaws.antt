@@ -13,9 +13,13 @@ unfolding is_folded
 folded_iff (leaf b) = (λ _. tt, λ _. tt)
 folded_iff (pair l r) = (
   λ t.
-      let halves = and_right (not (twins l r)) _ t in
-      (is_false (twins l r) (and_left (not (twins l r)) _ t), (folded_iff l).0 (and_left (is_folded l) _ halves), (folded_iff r).0 (and_right (is_folded l) _ halves)),
-  λ (apart, fl, fr). and_intro (not (twins l r)) _ (of_false apart) (and_intro (is_folded l) _ ((folded_iff l).1 fl) ((folded_iff r).1 fr)),
+      let halves = and_right (not (twins l r)) _ t in (
+        is_false (twins l r) (and_left (not (twins l r)) _ t),
+        (folded_iff l).0 (and_left (is_folded l) _ halves),
+        (folded_iff r).0 (and_right (is_folded l) _ halves),
+      ),
+  λ (apart, fl, fr). and_intro (not (twins l r)) _ (of_false apart)
+      (and_intro (is_folded l) _ ((folded_iff l).1 fl) ((folded_iff r).1 fr)),
 )
 
 pub dec_folded : (t : Tree) → Dec (Folded t)

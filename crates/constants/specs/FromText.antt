@@ -24,7 +24,8 @@ abbrev pub constant_given : Result ℕ NoConstant → ℕ
 constant_given (Ok n) = n
 constant_given (Err refusal) = 0
 
--- what a tree gives, where constants have k levels: it is not folded if some pair could be folded, then too tall if it is taller, else the number of its leaves
+-- what a tree gives, where constants have k levels: it is not folded if some pair could be folded, then too tall if it
+-- is taller, else the number of its leaves
 abbrev pub of_folding : ℕ → (t : Tree) → Dec (Folded t) → Result ℕ NoConstant
 of_folding k t (no n) = Err NotFolded
 of_folding k t (yes f) = cond (ltb k (height t)) (Err TooTall) (Ok (tree_number k t))
@@ -38,6 +39,7 @@ abbrev pub of_text : (k : ℕ) {s : List ℕ} → Dec (TreeText s) → Result �
 of_text k (no n) = Err NotTreeText
 of_text k (yes (t, e)) = from_tree k t
 
--- what a text gives, which is no tree text if it is too long: `is_tree_text` is believed by its type, it gives a tree that is written so, or shows that there is none
+-- what a text gives, which is no tree text if it is too long: `is_tree_text` is believed by its type, it gives a tree
+-- that is written so, or shows that there is none
 unfoldable pub from_text : ℕ → List ℕ → Result ℕ NoConstant
 from_text k s = cond (ltb (longest_text k) (length s)) (Err NotTreeText) (of_text k (is_tree_text s))

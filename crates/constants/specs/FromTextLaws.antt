@@ -1,4 +1,5 @@
--- A constant, written and read again, is itself, and each text that gives a constant is what writing gives: for every number of levels. Assumes nothing.
+-- A constant, written and read again, is itself, and each text that gives a constant is what writing gives: for every
+-- number of levels. Assumes nothing.
 use Rattle.std.specs.Prelude.{◌≡◌, Bool, List, ℕ, Result, Ok, Err, ◌^◌, ◌≤◌, ◌<◌, ltb, length}
 use Rattle.std.proofs.Math.Path.{refl, sym, ap}
 use Rattle.std.proofs.Common.{◌∙◌, arith, lt-ltb, le-ltb, ltb-false, pow_pos}
@@ -73,18 +74,23 @@ written_read k n h =
     ∙ ap Ok (number_tree_number k n h)
 
 -- each text that gives a constant is what writing it gives
-pub read_written : (k : ℕ) (s : List ℕ) (n : ℕ) → from_text k s ≡ Ok n → (n < 2 ^ (2 ^ k)) × (text (number_tree k n) ≡ s)
+pub read_written : (k : ℕ) (s : List ℕ) (n : ℕ) → from_text k s ≡ Ok n → (n < 2 ^ (2 ^ k))
+    × (text (number_tree k n) ≡ s)
 unfolding from_text from_tree
 read_written k s n e = by_text (ltb (longest_text k) (length s)) (is_tree_text s) e
   where
     Due : Type 0
     Due = (n < 2 ^ (2 ^ k)) × (text (number_tree k n) ≡ s)
 
-    by_height : (t : Tree) → text t ≡ s → Folded t → (b : Bool) → ltb k (height t) ≡ b → cond b (Err TooTall) (Ok (tree_number k t)) ≡ Ok n → Due
+    by_height : (t : Tree) → text t ≡ s → Folded t → (b : Bool) → ltb k (height t) ≡ b
+        → cond b (Err TooTall) (Ok (tree_number k t)) ≡ Ok n → Due
     by_height t w f true eb e = absurd (omega (arith, ap constant_refusal e))
     by_height t w f false eb e =
-        let same : tree_number k t ≡ n = ap constant_given e in
-        (rw (← same) (tree_number_lt k t), ap (λ n. text (number_tree k n)) (sym same) ∙ ap text (tree_number_tree k t f (ltb-false k (height t) eb)) ∙ w)
+        let same : tree_number k t ≡ n = ap constant_given e in (
+          rw (← same) (tree_number_lt k t),
+          ap (λ n. text (number_tree k n)) (sym same)
+              ∙ ap text (tree_number_tree k t f (ltb-false k (height t) eb)) ∙ w,
+        )
 
     by_folding : (t : Tree) → text t ≡ s → (d : Dec (Folded t)) → of_folding k t d ≡ Ok n → Due
     by_folding t w (no m) e = absurd (omega (arith, ap constant_refusal e))

@@ -21,7 +21,8 @@ squared k = let e : 2 ^ suc k ≡ 2 ^ k + 2 ^ k = omega (arith, two-pow-succ k) 
 pair_lt : (k x y : ℕ) → x < 2 ^ (2 ^ k) → y < 2 ^ (2 ^ k) → y * 2 ^ (2 ^ k) + x < 2 ^ (2 ^ suc k)
 pair_lt k x y hx hy = rw (squared k) (digits_lt hy hx)
 
-pub pair_tree_number : (k : ℕ) (l r : Tree) → tree_number k (pair l r) ≡ pair_number k (tree_number (k - 1) l) (tree_number (k - 1) r)
+pub pair_tree_number : (k : ℕ) (l r : Tree)
+    → tree_number k (pair l r) ≡ pair_number k (tree_number (k - 1) l) (tree_number (k - 1) r)
 unfolding tree_number pair_number number_of leaf_at half full
 pair_tree_number zero l r = refl
 pair_tree_number (suc k) l r =
@@ -30,7 +31,8 @@ pair_tree_number (suc k) l r =
     let hx : x < 2 ^ (2 ^ k) = tree_number_lt k l in
     let e : suc k - 1 ≡ k = omega arith in
     rw e
-    (bits_same (2 ^ suc k) (tree_number (suc k) (pair l r)) (y * 2 ^ (2 ^ k) + x) (tree_number_lt (suc k) (pair l r)) (pair_lt k x y hx (tree_number_lt k r))
+    (bits_same (2 ^ suc k) (tree_number (suc k) (pair l r)) (y * 2 ^ (2 ^ k) + x) (tree_number_lt (suc k) (pair l r))
+    (pair_lt k x y hx (tree_number_lt k r))
     (λ i u. bit_tree_number (suc k) (pair l r) i u
     ∙ halves (λ j. leaf_at (suc k) (pair l r) j ≡ bit (y * 2 ^ (2 ^ k) + x) j) k
     (λ j v. leaf_left k (pair l r) j v ∙ sym (bit_tree_number k l j v) ∙ sym (bit_low (2 ^ k) y x hx j v))
@@ -58,7 +60,8 @@ module _ (k ones : ℕ) (e : ones ≡ 2 ^ (2 ^ (k - 1)) - 1) (above : k ≡ 0 �
       go (suc k) n = let e : suc k - 1 ≡ k = omega arith in rw e
 
   -- it is a number of so many leaves
-  pub pair_room : (x y levels : ℕ) → k ≤ levels → x < 2 ^ (2 ^ (k - 1)) → y < 2 ^ (2 ^ (k - 1)) → y * (ones + 1) + x < 2 ^ (2 ^ levels)
+  pub pair_room : (x y levels : ℕ) → k ≤ levels → x < 2 ^ (2 ^ (k - 1)) → y < 2 ^ (2 ^ (k - 1))
+      → y * (ones + 1) + x < 2 ^ (2 ^ levels)
   pair_room x y levels l hx hy =
       let up : suc (k - 1) ≤ levels = omega arith in
       rw scale (lt_of_lt_of_le (pair_lt (k - 1) x y hx hy) (pow_mono (pow_mono up)))

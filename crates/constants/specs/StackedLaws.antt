@@ -22,7 +22,9 @@ use Rattle.constants.specs.FoldLaws.{is_folded}
 use Rattle.shares.specs.Text.{sign}
 use Rattle.constants.specs.StackLaws.{onto_leaf, closed_law}
 use Rattle.constants.specs.PairLaws.{pair_tree_number}
-use Rattle.constants.specs.Stacks.{Item, bracket, tree, closed, onto, only, item_number, brackets, highest, all_folded, Numbered, Stacked, Stepped, pair_item, equal_leaves, is_pair, leaf_scan, open_scan, close_scan}
+use Rattle.constants.specs.Stacks.{Item, bracket, tree, closed, onto, only, item_number, brackets, highest, all_folded}
+use Rattle.constants.specs.Stacks.{Numbered, Stacked, Stepped, pair_item, equal_leaves, is_pair, leaf_scan, open_scan}
+use Rattle.constants.specs.Stacks.{close_scan}
 use Rattle.constants.specs.declared.Scan.{Scan}
 
 -- ---- the number of a tree
@@ -45,21 +47,28 @@ module _ (levels k : ℕ) (low : k ≤ levels) where
       let e : 2 * w + x ≡ w + (w + x) = omega arith in
       ap (λ n. n % w) e ∙ add-mod_left w _ ∙ add-mod_left w _ ∙ mod-eq_of_lt (fits (pair l r))
 
-  pub twins_items : (l r : Tree) → twins l r ≡ equal_leaves levels (item_number levels k (tree l)) (item_number levels k (tree r))
+  pub twins_items : (l r : Tree)
+      → twins l r ≡ equal_leaves levels (item_number levels k (tree l)) (item_number levels k (tree r))
   unfolding twins equal_leaves item_number
   twins_items (leaf a) (leaf b) =
-      rw (lt-ltb (2 ^ (2 ^ levels) + tree_number k (leaf a)) (2 * 2 ^ (2 ^ levels)) (omega (arith, fits (leaf a)))) (go a b)
+      rw (lt-ltb (2 ^ (2 ^ levels) + tree_number k (leaf a)) (2 * 2 ^ (2 ^ levels)) (omega (arith, fits (leaf a))))
+      (go a b)
     where
       other : tree_number k (leaf true) ≡ tree_number k (leaf false) → ⊥
-      other e = let two : 2 ≤ 2 ^ (2 ^ k) = pow_mono (pow_pos k) in omega (arith, sym (leaf_tree_number k true) ∙ e ∙ leaf_tree_number k false)
+      other e = let two : 2 ≤ 2 ^ (2 ^ k) =
+          pow_mono (pow_pos k) in omega (arith, sym (leaf_tree_number k true) ∙ e ∙ leaf_tree_number k false)
 
-      go : (a b : Bool) → beq a b ≡ (eqb (2 ^ (2 ^ levels) + tree_number k (leaf a)) (2 ^ (2 ^ levels) + tree_number k (leaf b)) && true)
+      go : (a b : Bool) → beq a b ≡ (eqb (2 ^ (2 ^ levels) + tree_number k (leaf a))
+          (2 ^ (2 ^ levels) + tree_number k (leaf b)) && true)
       go true true = rw (eq-eqb (2 ^ (2 ^ levels) + tree_number k (leaf true)) _ refl)
       go false false = rw (eq-eqb (2 ^ (2 ^ levels) + tree_number k (leaf false)) _ refl)
-      go true false = rw (ne_eqb (2 ^ (2 ^ levels) + tree_number k (leaf true)) (2 ^ (2 ^ levels) + tree_number k (leaf false)) (λ e. other (omega arith)))
-      go false true = rw (ne_eqb (2 ^ (2 ^ levels) + tree_number k (leaf false)) (2 ^ (2 ^ levels) + tree_number k (leaf true)) (λ e. other (omega arith)))
+      go true false = rw (ne_eqb (2 ^ (2 ^ levels) + tree_number k (leaf true))
+          (2 ^ (2 ^ levels) + tree_number k (leaf false)) (λ e. other (omega arith)))
+      go false true = rw (ne_eqb (2 ^ (2 ^ levels) + tree_number k (leaf false))
+          (2 ^ (2 ^ levels) + tree_number k (leaf true)) (λ e. other (omega arith)))
   twins_items (leaf a) (pair l r) =
-      rw (ne_eqb (2 ^ (2 ^ levels) + tree_number k (leaf a)) (2 * 2 ^ (2 ^ levels) + tree_number k (pair l r)) (λ e. omega (arith, fits (leaf a))))
+      rw (ne_eqb (2 ^ (2 ^ levels) + tree_number k (leaf a)) (2 * 2 ^ (2 ^ levels) + tree_number k (pair l r))
+      (λ e. omega (arith, fits (leaf a))))
   twins_items (pair l r) t = go (eqb (2 * 2 ^ (2 ^ levels) + tree_number k (pair l r)) (item_number levels k (tree t)))
     where
       go : (b : Bool) → false ≡ (b && ltb (2 * 2 ^ (2 ^ levels) + tree_number k (pair l r)) (2 * 2 ^ (2 ^ levels)))
@@ -68,7 +77,8 @@ module _ (levels k : ℕ) (low : k ≤ levels) where
 
 -- ---- what is kept stays, below what is put
 
-kept_set : (levels : ℕ) (items : List ℕ) (σ : List Item) (i x : ℕ) → length σ ≤ i → Numbered levels items σ → Numbered levels (set items i x) σ
+kept_set : (levels : ℕ) (items : List ℕ) (σ : List Item) (i x : ℕ) → length σ ≤ i → Numbered levels items σ
+    → Numbered levels (set items i x) σ
 kept_set levels items [] i x l h = tt
 kept_set levels items (y ∷ σ) i x l h =
     (get_or-set_other items i (length σ) x 0 (λ e. omega arith) ∙ h.0, kept_set levels items σ i x (omega arith) h.1)
@@ -86,12 +96,14 @@ brackets_low (bracket ∷ σ) = omega arith
 brackets_low (tree t ∷ σ) = omega (arith, brackets_low σ)
 
 module _ (levels : ℕ) (items : List ℕ) (scan : Scan) (σ : List Item) (S : Stacked levels items scan σ) where
-  put : (x : ℕ) (y : Item) → length σ < length items → x ≡ item_number levels (levels - brackets σ) y → Numbered levels (set items scan.top x) (y ∷ σ)
+  put : (x : ℕ) (y : Item) → length σ < length items → x ≡ item_number levels (levels - brackets σ) y
+      → Numbered levels (set items scan.top x) (y ∷ σ)
   put x y l e =
       subst (λ i. Numbered levels (set items i x) (y ∷ σ)) (sym S.top)
       (get_or-set_same items (length σ) x 0 l ∙ e, kept_set levels items σ (length σ) x (le_refl (length σ)) S.kept)
 
-  pub shows_leaf : (b : Bool) (x : ℕ) → length σ < length items → x ≡ item_number levels (levels - brackets σ) (tree (leaf b))
+  pub shows_leaf : (b : Bool) (x : ℕ) → length σ < length items
+      → x ≡ item_number levels (levels - brackets σ) (tree (leaf b))
       → Stacked levels (set items scan.top x) (leaf_scan scan) (tree (leaf b) ∷ σ)
   unfolding brackets highest all_folded height is_folded
   shows_leaf b x l e = record {
@@ -121,7 +133,8 @@ module _ (levels : ℕ) (items : List ℕ) where
 
   -- the test, where there are three items
   three : (n : ℕ) → is_pair items (suc (suc (suc n)))
-      ≡ cond (eqb (get_or items (suc (suc n)) 0) 0) false (cond (eqb (get_or items (suc n) 0) 0) false (eqb (get_or items n 0) 0))
+      ≡ cond (eqb (get_or items (suc (suc n)) 0) 0) false
+      (cond (eqb (get_or items (suc n) 0) 0) false (eqb (get_or items n 0) 0))
   unfolding is_pair
   three n =
       let a : suc (suc (suc n)) - 1 ≡ suc (suc n) = omega arith in
@@ -129,19 +142,31 @@ module _ (levels : ℕ) (items : List ℕ) where
       let c : suc (suc (suc n)) - 3 ≡ n = omega arith in
       rw (le-ltb (suc (suc (suc n))) 3 (omega arith), a, b, c)
 
-  some_tree : (k n : ℕ) (t : Tree) → get_or items n 0 ≡ item_number levels (levels - k) (tree t) → eqb (get_or items n 0) 0 ≡ false
+  some_tree : (k n : ℕ) (t : Tree) → get_or items n 0 ≡ item_number levels (levels - k) (tree t)
+      → eqb (get_or items n 0) 0 ≡ false
   some_tree k n t e = ne_eqb (get_or items n 0) 0 (λ z. tree_some levels (levels - k) (omega arith) t (sym e ∙ z))
 
-  pub pair_there : (σ : List Item) → Numbered levels items σ → T (is_pair items (length σ)) → (r : Tree) × (l : Tree) × (ρ : List Item) × (σ ≡ tree r ∷ tree l ∷ bracket ∷ ρ)
+  pub pair_there : (σ : List Item) → Numbered levels items σ → T (is_pair items (length σ)) → (r : Tree) × (l : Tree)
+      × (ρ : List Item) × (σ ≡ tree r ∷ tree l ∷ bracket ∷ ρ)
   unfolding item_number
   pair_there [] h t = absurd (short 0 (omega arith) t)
   pair_there (x ∷ []) h t = absurd (short 1 (omega arith) t)
   pair_there (x ∷ y ∷ []) h t = absurd (short 2 (omega arith) t)
-  pair_there (bracket ∷ y ∷ z ∷ ρ) h t = absurd (rw (three (length ρ), eq-eqb (get_or items (suc (suc (length ρ))) 0) 0 h.0) at t)
+  pair_there (bracket ∷ y ∷ z ∷ ρ) h t =
+      absurd (rw (three (length ρ), eq-eqb (get_or items (suc (suc (length ρ))) 0) 0 h.0) at t)
   pair_there (tree r ∷ bracket ∷ z ∷ ρ) h t =
-      absurd (rw (three (length ρ), some_tree _ (suc (suc (length ρ))) r h.0, eq-eqb (get_or items (suc (length ρ)) 0) 0 h.1.0) at t)
+      absurd (rw (
+        three (length ρ),
+        some_tree _ (suc (suc (length ρ))) r h.0,
+        eq-eqb (get_or items (suc (length ρ)) 0) 0 h.1.0,
+      ) at t)
   pair_there (tree r ∷ tree l ∷ tree u ∷ ρ) h t =
-      absurd (rw (three (length ρ), some_tree _ (suc (suc (length ρ))) r h.0, some_tree _ (suc (length ρ)) l h.1.0, some_tree _ (length ρ) u h.1.1.0) at t)
+      absurd (rw (
+        three (length ρ),
+        some_tree _ (suc (suc (length ρ))) r h.0,
+        some_tree _ (suc (length ρ)) l h.1.0,
+        some_tree _ (length ρ) u h.1.1.0,
+      ) at t)
   pair_there (tree r ∷ tree l ∷ bracket ∷ ρ) h t = (r, l, ρ, refl)
 
   pub no_pair : (σ : List Item) → Numbered levels items σ → T (not (is_pair items (length σ))) → closed σ ≡ none
@@ -170,18 +195,21 @@ folded_order n true false f = rw (and-false n)
 folded_order true true true f = and-true f
 folded_order false true true f = and-false f
 
-module _ (levels : ℕ) (items : List ℕ) (scan : Scan) (r l : Tree) (ρ : List Item) (S : Stacked levels items scan (tree r ∷ tree l ∷ bracket ∷ ρ)) where
+module _ (levels : ℕ) (items : List ℕ) (scan : Scan) (r l : Tree) (ρ : List Item)
+    (S : Stacked levels items scan (tree r ∷ tree l ∷ bracket ∷ ρ)) where
   below : ℕ
   below = levels - suc (brackets ρ)
 
   module _ (x y : ℕ) (ex : x ≡ get_or items (scan.top - 2) 0) (ey : y ≡ get_or items (scan.top - 1) 0) where
     left_is : x ≡ item_number levels below (tree l)
     unfolding below brackets
-    left_is = let e : scan.top - 2 ≡ suc (length ρ) = omega (arith, S.top) in ex ∙ ap (λ i. get_or items i 0) e ∙ S.kept.1.0
+    left_is = let e : scan.top - 2 ≡ suc (length ρ) = omega (arith, S.top) in ex ∙ ap (λ i. get_or items i 0) e
+        ∙ S.kept.1.0
 
     right_is : y ≡ item_number levels below (tree r)
     unfolding below brackets
-    right_is = let e : scan.top - 1 ≡ suc (suc (length ρ)) = omega (arith, S.top) in ey ∙ ap (λ i. get_or items i 0) e ∙ S.kept.0
+    right_is = let e : scan.top - 1 ≡ suc (suc (length ρ)) = omega (arith, S.top) in ey ∙ ap (λ i. get_or items i 0) e
+        ∙ S.kept.0
 
     leaves_are : (v : ℕ) (t : Tree) → v ≡ item_number levels below (tree t) → v % 2 ^ (2 ^ levels) ≡ tree_number below t
     unfolding below
@@ -191,11 +219,16 @@ module _ (levels : ℕ) (items : List ℕ) (scan : Scan) (r l : Tree) (ρ : List
     unfolding below brackets
     level k e = (omega (arith, S.pairs), omega (arith, S.pairs))
 
-    pub close_room : (k : ℕ) → k ≡ levels - (scan.pairs - 1) → (x % 2 ^ (2 ^ levels) < 2 ^ (2 ^ (k - 1))) × (y % 2 ^ (2 ^ levels) < 2 ^ (2 ^ (k - 1)))
-    close_room k e = rw (leaves_are x l left_is, leaves_are y r right_is, (level k e).1) (tree_number_lt below l, tree_number_lt below r)
+    pub close_room : (k : ℕ) → k ≡ levels - (scan.pairs - 1) → (x % 2 ^ (2 ^ levels) < 2 ^ (2 ^ (k - 1)))
+        × (y % 2 ^ (2 ^ levels) < 2 ^ (2 ^ (k - 1)))
+    close_room k e = rw (leaves_are x l left_is, leaves_are y r right_is, (level k e).1) (
+      tree_number_lt below l,
+      tree_number_lt below r,
+    )
 
     pub shows_close : (k : ℕ) → k ≡ levels - (scan.pairs - 1) → suc (suc (suc (length ρ))) ≤ length items
-        → Stacked levels (set items (scan.top - 2 - 1) (pair_item levels k x y)) (close_scan (equal_leaves levels x y) scan) (tree (pair l r) ∷ ρ)
+        → Stacked levels (set items (scan.top - 2 - 1) (pair_item levels k x y))
+        (close_scan (equal_leaves levels x y) scan) (tree (pair l r) ∷ ρ)
     unfolding below brackets highest all_folded height is_folded pair_item item_number
     shows_close k ek room = record {
       top = omega (arith, S.top);
@@ -208,14 +241,18 @@ module _ (levels : ℕ) (items : List ℕ) (scan : Scan) (r l : Tree) (ρ : List
           let at : scan.top - 2 - 1 ≡ length ρ = omega (arith, S.top) in
           let v = pair_item levels k x y in
           let is : v ≡ 2 * 2 ^ (2 ^ levels) + tree_number (levels - brackets ρ) (pair l r) =
-          rw (leaves_are x l left_is, leaves_are y r right_is, ← (level k ek).1, ← (level k ek).0) (ap (λ n. 2 * 2 ^ (2 ^ levels) + n) (sym (pair_tree_number k l r))) in
-          subst (λ i. Numbered levels (set items i v) (tree (pair l r) ∷ ρ)) (sym at)
-          (get_or-set_same items (length ρ) v 0 (omega arith) ∙ is, kept_set levels items ρ (length ρ) v (le_refl (length ρ)) S.kept.1.1.1);
+          rw (leaves_are x l left_is, leaves_are y r right_is, ← (level k ek).1, ← (level k ek).0)
+          (ap (λ n. 2 * 2 ^ (2 ^ levels) + n) (sym (pair_tree_number k l r))) in
+          subst (λ i. Numbered levels (set items i v) (tree (pair l r) ∷ ρ)) (sym at) (
+            get_or-set_same items (length ρ) v 0 (omega arith) ∙ is,
+            kept_set levels items ρ (length ρ) v (le_refl (length ρ)) S.kept.1.1.1,
+          );
     }
 
 -- ---- by the test of a pair
 
-module _ (levels : ℕ) (items : List ℕ) (scan : Scan) (σ : List Item) (S : Stacked levels items scan σ) (t : Bool) (e : t ≡ is_pair items scan.top) where
+module _ (levels : ℕ) (items : List ℕ) (scan : Scan) (σ : List Item) (S : Stacked levels items scan σ) (t : Bool)
+    (e : t ≡ is_pair items scan.top) where
   tested : t ≡ is_pair items (length σ)
   tested = e ∙ ap (is_pair items) S.top
 
@@ -233,16 +270,24 @@ module _ (levels : ℕ) (items : List ℕ) (scan : Scan) (σ : List Item) (S : S
   unfolding onto
   steps_stop n = no_pair levels items σ S.kept (of_false (sym tested ∙ n))
 
-  module _ (yes-pair : t ≡ true) (x y : ℕ) (ex : x ≡ get_or items (scan.top - 2) 0) (ey : y ≡ get_or items (scan.top - 1) 0) (k : ℕ) (ek : k ≡ levels - (scan.pairs - 1)) where
+  module _ (yes-pair : t ≡ true) (x y : ℕ) (ex : x ≡ get_or items (scan.top - 2) 0)
+      (ey : y ≡ get_or items (scan.top - 1) 0) (k : ℕ) (ek : k ≡ levels - (scan.pairs - 1)) where
     pub halves_room : (x % 2 ^ (2 ^ levels) < 2 ^ (2 ^ (k - 1))) × (y % 2 ^ (2 ^ levels) < 2 ^ (2 ^ (k - 1)))
-    halves_room = let (r, l, ρ, is) = pair_shape yes-pair in close_room levels items scan r l ρ (subst (Stacked levels items scan) is S) x y ex ey k ek
+    halves_room = let (r, l, ρ, is) =
+        pair_shape yes-pair in close_room levels items scan r l ρ (subst (Stacked levels items scan) is S) x y
+        ex ey k ek
 
     pub steps_close : length σ ≤ length items
-        → (τ : List Item) × (onto 0x29 σ ≡ some τ) × Stacked levels (set items (scan.top - 2 - 1) (pair_item levels k x y)) (close_scan (equal_leaves levels x y) scan) τ
+        → (τ : List Item) × (onto 0x29 σ ≡ some τ)
+        × Stacked levels (set items (scan.top - 2 - 1) (pair_item levels k x y))
+        (close_scan (equal_leaves levels x y) scan) τ
     unfolding onto closed
     steps_close room =
-        let (r, l, ρ, is) = pair_shape yes-pair in
-        (tree (pair l r) ∷ ρ, ap closed is, shows_close levels items scan r l ρ (subst (Stacked levels items scan) is S) x y ex ey k ek (rw is at room))
+        let (r, l, ρ, is) = pair_shape yes-pair in (
+          tree (pair l r) ∷ ρ,
+          ap closed is,
+          shows_close levels items scan r l ρ (subst (Stacked levels items scan) is S) x y ex ey k ek (rw is at room),
+        )
 
 -- ---- the end of a text
 
@@ -267,45 +312,62 @@ module _ (levels : ℕ) (items : List ℕ) (scan : Scan) (σ : List Item) (S : S
       go (tree t ∷ x ∷ σ) h n = refl
 
   pub tree_alone : (x : ℕ) → x ≡ get_or items 0 0 → scan.top ≡ 1 → (x ≡ 0 → ⊥)
-      → (t : Tree) × (only (some σ) ≡ some t) × (x % 2 ^ (2 ^ levels) ≡ tree_number levels t) × (scan.highest ≡ height t) × (scan.folded ≡ is_folded t)
+      → (t : Tree) × (only (some σ) ≡ some t) × (x % 2 ^ (2 ^ levels) ≡ tree_number levels t)
+      × (scan.highest ≡ height t) × (scan.folded ≡ is_folded t)
   unfolding item_number brackets highest all_folded
   tree_alone x e one n = go σ S.kept (sym S.top ∙ one) S.highest S.folded
     where
-      go : (σ : List Item) → Numbered levels items σ → length σ ≡ 1 → scan.highest ≡ highest σ → scan.folded ≡ all_folded σ
-          → (t : Tree) × (only (some σ) ≡ some t) × (x % 2 ^ (2 ^ levels) ≡ tree_number levels t) × (scan.highest ≡ height t) × (scan.folded ≡ is_folded t)
+      go : (σ : List Item) → Numbered levels items σ → length σ ≡ 1 → scan.highest ≡ highest σ
+          → scan.folded ≡ all_folded σ
+          → (t : Tree) × (only (some σ) ≡ some t) × (x % 2 ^ (2 ^ levels) ≡ tree_number levels t)
+          × (scan.highest ≡ height t) × (scan.folded ≡ is_folded t)
       go [] h l hh hf = absurd (omega arith)
       go (bracket ∷ []) h l hh hf = absurd (n (e ∙ h.0))
       go (tree t ∷ []) h l hh hf =
-          let z : levels - 0 ≡ levels = omega arith in
-          (t, refl, ap (λ m. m % 2 ^ (2 ^ levels)) (e ∙ h.0) ∙ tree_leaves levels (levels - 0) (omega arith) t ∙ ap (λ k. tree_number k t) z, omega arith, hf ∙ and-true (is_folded t))
+          let z : levels - 0 ≡ levels = omega arith in (
+            t,
+            refl,
+            ap (λ m. m % 2 ^ (2 ^ levels)) (e ∙ h.0) ∙ tree_leaves levels (levels - 0) (omega arith) t
+                ∙ ap (λ k. tree_number k t) z,
+            omega arith,
+            hf ∙ and-true (is_folded t),
+          )
       go (y ∷ z ∷ σ) h l hh hf = absurd (omega arith)
 
 -- ---- a sign more, by its tests
 
-module _ (levels : ℕ) (items : List ℕ) (scan : Scan) (σ : List Item) (S : Stacked levels items scan σ) (room : length σ < length items) (x : ℕ) where
-  pub steps_open : x ≡ 0x28 → (τ : List Item) × (onto x σ ≡ some τ) × Stacked levels (set items scan.top 0) (open_scan scan) τ
+module _ (levels : ℕ) (items : List ℕ) (scan : Scan) (σ : List Item) (S : Stacked levels items scan σ)
+    (room : length σ < length items) (x : ℕ) where
+  pub steps_open : x ≡ 0x28 → (τ : List Item) × (onto x σ ≡ some τ)
+      × Stacked levels (set items scan.top 0) (open_scan scan) τ
   unfolding onto
   steps_open e = (bracket ∷ σ, rw (eq-eqb x 0x28 e), shows_open levels items scan σ S room)
 
   pub steps_leaf : (b : Bool) (n : ℕ) → x ≡ sign b → n ≡ cond b (2 ^ (2 ^ (levels - scan.pairs)) - 1) 0
-      → (τ : List Item) × (onto x σ ≡ some τ) × Stacked levels (set items scan.top (2 ^ (2 ^ levels) + n)) (leaf_scan scan) τ
+      → (τ : List Item) × (onto x σ ≡ some τ)
+      × Stacked levels (set items scan.top (2 ^ (2 ^ levels) + n)) (leaf_scan scan) τ
   unfolding item_number
   steps_leaf b n e en = (
     tree (leaf b) ∷ σ,
     ap (λ y. onto y σ) e ∙ onto_leaf b σ,
     shows_leaf levels items scan σ S b (2 ^ (2 ^ levels) + n) room
-        (ap (λ m. 2 ^ (2 ^ levels) + m) (en ∙ ap (λ p. cond b (2 ^ (2 ^ (levels - p)) - 1) 0) S.pairs ∙ sym (leaf_tree_number (levels - brackets σ) b))),
+        (ap (λ m. 2 ^ (2 ^ levels) + m) (en ∙ ap (λ p. cond b (2 ^ (2 ^ (levels - p)) - 1) 0) S.pairs
+        ∙ sym (leaf_tree_number (levels - brackets σ) b))),
   )
 
-pub onto_other : (x : ℕ) (σ : List Item) → (x ≡ 0x28 → ⊥) → (x ≡ 0x6F → ⊥) → (x ≡ 0x2A → ⊥) → (x ≡ 0x29 → ⊥) → onto x σ ≡ none
+pub onto_other : (x : ℕ) (σ : List Item) → (x ≡ 0x28 → ⊥) → (x ≡ 0x6F → ⊥) → (x ≡ 0x2A → ⊥) → (x ≡ 0x29 → ⊥)
+    → onto x σ ≡ none
 unfolding onto
 onto_other x σ a b c d = rw (ne_eqb x 0x28 a, ne_eqb x 0x6F b, ne_eqb x 0x2A c, ne_eqb x 0x29 d)
 
 -- what a sign gives, by equal numbers
-pub steps_same : (levels x : ℕ) (σ : List Item) (i j : List ℕ) {f g : code.Option Scan} → i ≡ j → f ≡ g → Stepped levels j x σ g → Stepped levels i x σ f
-steps_same levels x σ i j {f} {g} d e h = subst (λ k. Stepped levels k x σ f) (sym d) (subst (λ r. Stepped levels j x σ r) (sym e) h)
+pub steps_same : (levels x : ℕ) (σ : List Item) (i j : List ℕ) {f g : code.Option Scan} → i ≡ j → f ≡ g
+    → Stepped levels j x σ g → Stepped levels i x σ f
+steps_same levels x σ i j {f} {g} d e h =
+    subst (λ k. Stepped levels k x σ f) (sym d) (subst (λ r. Stepped levels j x σ r) (sym e) h)
 
 -- before the first sign
-pub none_yet : {levels : ℕ} {items : List ℕ} → Stacked levels items (record { top = 0; pairs = 0; highest = 0; folded = true }) []
+pub none_yet : {levels : ℕ} {items : List ℕ}
+    → Stacked levels items (record { top = 0; pairs = 0; highest = 0; folded = true }) []
 unfolding brackets highest all_folded
 none_yet = record { top = refl; pairs = refl; highest = refl; folded = refl; kept = tt }

@@ -1,5 +1,6 @@
 -- The reader's stack: what stands on it after each sign of a text, and the numbers that it is kept in. Assumes nothing.
-use Rattle.std.specs.Prelude.{◌≡◌, Bool, true, false, not, cond, ◌&&◌, List, [], ◌∷◌, ℕ, zero, suc, ◌+◌, ◌*◌, ◌-◌, ◌%◌, ◌^◌, max, eqb, ltb, length, get_or}
+use Rattle.std.specs.Prelude.{◌≡◌, Bool, true, false, not, cond, ◌&&◌, List, [], ◌∷◌, ℕ, zero, suc, ◌+◌, ◌*◌, ◌-◌, ◌%◌}
+use Rattle.std.specs.Prelude.{◌^◌, max, eqb, ltb, length, get_or}
 use Rattle.std.specs.Prelude as code
 use Rattle.std.proofs.Math.Option.{Option, none, some}
 use Rattle.shares.specs.Tree.{Tree, leaf, pair, height}
@@ -84,7 +85,8 @@ all_folded (tree t ∷ σ) = is_folded t && all_folded σ
 -- the items are kept from the bottom on, each with its leaves unfolded to the height that the open pairs below leave
 abbrev pub Numbered : ℕ → List ℕ → List Item → Type 0
 Numbered levels items [] = Unit {0}
-Numbered levels items (x ∷ σ) = (get_or items (length σ) 0 ≡ item_number levels (levels - brackets σ) x) × Numbered levels items σ
+Numbered levels items (x ∷ σ) = (get_or items (length σ) 0 ≡ item_number levels (levels - brackets σ) x)
+    × Numbered levels items σ
 
 -- a stack is kept in numbers
 pub record Stacked (levels : ℕ) (items : List ℕ) (scan : Scan) (σ : List Item) : Type 0 where
@@ -108,7 +110,8 @@ pair_number (suc k) left right = right * 2 ^ (2 ^ k) + left
 
 -- the number of a pair, by those of its halves
 unfoldable pub pair_item : ℕ → ℕ → ℕ → ℕ → ℕ
-pair_item levels k left right = 2 * 2 ^ (2 ^ levels) + pair_number k (left % 2 ^ (2 ^ levels)) (right % 2 ^ (2 ^ levels))
+pair_item levels k left right =
+    2 * 2 ^ (2 ^ levels) + pair_number k (left % 2 ^ (2 ^ levels)) (right % 2 ^ (2 ^ levels))
 
 -- whether two trees are equal leaves
 unfoldable pub equal_leaves : ℕ → ℕ → ℕ → Bool
@@ -118,7 +121,8 @@ equal_leaves levels left right = eqb left right && ltb left (2 * 2 ^ (2 ^ levels
 unfoldable pub is_pair : List ℕ → ℕ → Bool
 is_pair items top =
     cond (ltb top 3) false
-    (cond (eqb (get_or items (top - 1) 0) 0) false (cond (eqb (get_or items (top - 2) 0) 0) false (eqb (get_or items (top - 3) 0) 0)))
+    (cond (eqb (get_or items (top - 1) 0) 0) false
+    (cond (eqb (get_or items (top - 2) 0) 0) false (eqb (get_or items (top - 3) 0) 0)))
 
 -- what is told of the stack with a leaf more
 abbrev pub leaf_scan : Scan → Scan
@@ -126,11 +130,22 @@ leaf_scan scan = record { top = scan.top + 1; pairs = scan.pairs; highest = scan
 
 -- with a pair opened
 abbrev pub open_scan : Scan → Scan
-open_scan scan = record { top = scan.top + 1; pairs = scan.pairs + 1; highest = max scan.highest (scan.pairs + 1); folded = scan.folded }
+open_scan scan = record {
+  top = scan.top + 1;
+  pairs = scan.pairs + 1;
+  highest = max scan.highest (scan.pairs + 1);
+  folded = scan.folded;
+}
 
 -- with one closed
 abbrev pub close_scan : Bool → Scan → Scan
-close_scan equal scan = record { top = scan.top - 2; pairs = scan.pairs - 1; highest = scan.highest; folded = scan.folded && not equal }
+close_scan equal scan = record {
+  top = scan.top - 2;
+  pairs = scan.pairs - 1;
+  highest = scan.highest;
+  folded =
+      scan.folded && not equal;
+}
 
 -- the numbers told are a tree's, with its leaves unfolded to height k
 pub record Of (k : ℕ) (t : Tree) (told : Told) : Type 0 where

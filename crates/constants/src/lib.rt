@@ -1,5 +1,6 @@
-// Constants from tree text: a whole text is read as one tree, in one pass, and gives the tree's leaves as a number. What was read stands on a
-// stack, an opening bracket or a tree an item; a closing bracket makes two trees and the bracket below them one.
+// Constants from tree text: a whole text is read as one tree, in one pass, and gives the tree's leaves as a number.
+// What was read stands on a stack, an opening bracket or a tree an item; a closing bracket makes two trees and the
+// bracket below them one.
 #![tactic(auto)]
 
 ghost use Rattle.std.specs.Prelude.{◌≡◌, List, [], ℕ, ◌+◌, ◌-◌, ◌%◌, ◌^◌, ◌≤◌, ◌<◌, max, length, get_or, set};
@@ -8,7 +9,8 @@ ghost use Rattle.shares.specs.Tree.{Tree};
 ghost use Rattle.shares.specs.Constant.{constant_levels};
 ghost use Rattle.shares.specs.Text.{longest_text};
 ghost use Rattle.constants.specs.FromText.{refusal_number, from_tree, from_text};
-ghost use Rattle.constants.specs.Stacks.{Item, runs, Stacked, Stepped, pair_number, pair_item, equal_leaves, is_pair, leaf_scan, open_scan, close_scan, Of};
+ghost use Rattle.constants.specs.Stacks.{Item, runs, Stacked, Stepped, pair_number, pair_item, equal_leaves, is_pair};
+ghost use Rattle.constants.specs.Stacks.{leaf_scan, open_scan, close_scan, Of};
 
 // A constant is no taller, and no text of one is longer.
 const LEVELS: usize = 5;
@@ -44,7 +46,8 @@ struct Told {
     folded: bool,
 }
 
-// What is told of a stack: how many items it has, how many pairs are open, the most that were open at once, and whether all its trees are folded.
+// What is told of a stack: how many items it has, how many pairs are open, the most that were open at once, and whether
+// all its trees are folded.
 #[derive(Clone, Copy)]
 struct Scan {
     top: usize,
@@ -53,7 +56,8 @@ struct Scan {
     folded: bool,
 }
 
-// A bracket is kept as 0, a tree as the number of its leaves with a bit above it: this one for a leaf, the next for a pair.
+// A bracket is kept as 0, a tree as the number of its leaves with a bit above it: this one for a leaf, the next for a
+// pair.
 const LEAF: u64 = 0x1_0000_0000;
 
 const PAIR: u64 = 0x2_0000_0000;
@@ -146,7 +150,8 @@ fn equal_leaves(left: u64, right: u64) -> bool
 #[tactic(auto, unfolding(crate::specs::Stacks::pair_item))]
 fn pair_item(levels: usize, left: u64, right: u64) -> u64
     requires levels_le_constant_levels { levels ≤ constant_levels }
-    requires constant_levels_bound { (left % 2 ^ (2 ^ constant_levels) < 2 ^ (2 ^ (levels - 1))) × (right % 2 ^ (2 ^ constant_levels) < 2 ^ (2 ^ (levels - 1))) }
+    requires constant_levels_bound { (left % 2 ^ (2 ^ constant_levels) < 2 ^ (2 ^ (levels - 1)))
+        × (right % 2 ^ (2 ^ constant_levels) < 2 ^ (2 ^ (levels - 1))) }
     ensures { result ≡ pair_item constant_levels levels left right }
 {
     PAIR + pair_leaves(levels, leaves_of(left), leaves_of(right))
@@ -169,7 +174,8 @@ fn closed_scan(scan: Scan, equal: bool) -> Scan
 #[tactic(auto, using(crate::specs::StackedLaws::pair_sizes))]
 fn close_pair(items: &mut [u64], scan: Scan) -> Option<Scan>
     requires { (σ : List Item) × Stacked constant_levels items.old scan σ × (length σ ≤ length items.old) }
-    ensures { (σ : List Item) → Stacked constant_levels items.old scan σ → length σ ≤ length items.old → Stepped constant_levels items.new 0x29 σ result }
+    ensures { (σ : List Item) → Stacked constant_levels items.old scan σ → length σ ≤ length items.old
+        → Stepped constant_levels items.new 0x29 σ result }
 {
     if !is_pair(items, scan.top) {
         return None;
@@ -185,7 +191,8 @@ fn close_pair(items: &mut [u64], scan: Scan) -> Option<Scan>
 #[tactic(auto, using(crate::specs::StackedLaws::brackets_few, crate::specs::StackedLaws::onto_other))]
 fn take_sign(items: &mut [u64], scan: Scan, sign: u8) -> Option<Scan>
     requires { (σ : List Item) × Stacked constant_levels items.old scan σ × (length σ < length items.old) }
-    ensures { (σ : List Item) → Stacked constant_levels items.old scan σ → length σ < length items.old → Stepped constant_levels items.new sign σ result }
+    ensures { (σ : List Item) → Stacked constant_levels items.old scan σ → length σ < length items.old
+        → Stepped constant_levels items.new sign σ result }
 {
     match sign {
         b'(' => Some(open_pair(items, scan)),
@@ -211,7 +218,9 @@ fn from_told(told: Told) -> Result<u32, NoConstant>
 
 // What a whole text gives that left this stack. The leaves fit, and `try_from` would have an error that cannot be.
 fn from_stack(scan: Scan, item: u64) -> Result<u32, NoConstant>
-    ensures { (items : List ℕ) (σ : List Item) (s : List ℕ) → Stacked constant_levels items scan σ → item ≡ get_or items 0 0 → runs s (some []) ≡ some σ → length s ≤ longest_text constant_levels → result ≡ from_text constant_levels s }
+    ensures { (items : List ℕ) (σ : List Item) (s : List ℕ) → Stacked constant_levels items scan σ
+        → item ≡ get_or items 0 0 → runs s (some []) ≡ some σ → length s ≤ longest_text constant_levels
+        → result ≡ from_text constant_levels s }
 {
     if scan.top != 1 || item == 0 {
         return Err(NoConstant::NotTreeText);

@@ -10,7 +10,8 @@ use Rattle.decide.specs.NamedLaws.{height_is}
 use Rattle.decide.specs.declared.Finding.{Finding}
 use Rattle.words.specs.declared.Passing.{Passing}
 
-module _ (x : Question) (clauses : List ℕ) (y : Searchable) (sized : y.sizes ≡ sizes_of x) (same : y.clauses.now ≡ clauses) (constants : y.constants.now ≡ x.constants) where
+module _ (x : Question) (clauses : List ℕ) (y : Searchable) (sized : y.sizes ≡ sizes_of x)
+    (same : y.clauses.now ≡ clauses) (constants : y.constants.now ≡ x.constants) where
   pub posed_is : posed y ≡ stored_of x clauses
   posed_is = rw (sized, same, constants) refl
 

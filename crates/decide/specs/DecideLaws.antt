@@ -38,10 +38,12 @@ flip true e = ap not e
 flip false e = ap not e
 
 -- a problem with one disequation more, before the others, is solvable only if some leaf meets that one
-unmet_somewhere : (h : ℕ) (q : Question) → T (solvable (least q.free) h (with_unmet (least q.own) (second_at h q) (first_at h q))) → T (some_unmet h q)
+unmet_somewhere : (h : ℕ) (q : Question)
+    → T (solvable (least q.free) h (with_unmet (least q.own) (second_at h q) (first_at h q))) → T (some_unmet h q)
 unfolding solvable can_be_unmet special_at
 unmet_somewhere h q t =
-    every_at _ (λ j. some_below (2 ^ h) (special_at (least q.free) P j)) (and_right (every_below (2 ^ h) (plain_at (least q.free) P)) _ t) 0 (suc-le-suc zero-le)
+    every_at _ (λ j. some_below (2 ^ h) (special_at (least q.free) P j))
+    (and_right (every_below (2 ^ h) (plain_at (least q.free) P)) _ t) 0 (suc-le-suc zero-le)
   where
     P : Problem (Row Bool q.free)
     P = with_unmet (least q.own) (second_at h q) (first_at h q)
@@ -53,9 +55,11 @@ module _ {k : ℕ} (x : Stored) (q : Question) (St : Stands k x q) where
   -- ---- the searches are the question's
 
   -- whether a search is solvable
-  search_is : (search : Search) (P : Problem (Row Bool q.free)) → Same x q St H P (tests_of (with_variables x q.free q.own) H search)
+  search_is : (search : Search) (P : Problem (Row Bool q.free))
+      → Same x q St H P (tests_of (with_variables x q.free q.own) H search)
       → solvable_in x H search ≡ solvable (least q.free) H P
-  search_is search P same = ap₂ (λ n m. solvable_in (with_variables x n m) H search) St.free St.own ∙ sym same.solvable_is
+  search_is search P same = ap₂ (λ n m. solvable_in (with_variables x n m) H search) St.free St.own
+      ∙ sym same.solvable_is
 
   first_is : solvable_in x H First ≡ can_solve H q
   first_is = search_is First (first_at H q) (same_first x q St H)
@@ -74,15 +78,18 @@ module _ {k : ℕ} (x : Stored) (q : Question) (St : Stands k x q) where
 
   -- ---- a finding with which a solution is shown, and one with which none is
 
-  with_pairs : (f : Finding) (firsts leaves : List Passing) → decide q ≡ answer_of f → SolvedAs x H (search_of f) true firsts leaves → Decided x q f firsts leaves
+  with_pairs : (f : Finding) (firsts leaves : List Passing) → decide q ≡ answer_of f
+      → SolvedAs x H (search_of f) true firsts leaves → Decided x q f firsts leaves
   with_pairs f firsts leaves d D = record { answer = sym d; solved = λ _. D }
 
-  without_pairs : (f : Finding) (firsts leaves : List Passing) → shows (answer_of f) ≡ false → decide q ≡ answer_of f → Decided x q f firsts leaves
+  without_pairs : (f : Finding) (firsts leaves : List Passing) → shows (answer_of f) ≡ false → decide q ≡ answer_of f
+      → Decided x q f firsts leaves
   without_pairs f firsts leaves s d = record { answer = sym d; solved = λ t. absurd (rw (d, s) at t) }
 
   -- ---- of satisfiability
 
-  module _ (found : Bool) (firsts leaves : List Passing) (D : SolvedAs x H First found firsts leaves) (kind : q.kind ≡ satisfiability) where
+  module _ (found : Bool) (firsts leaves : List Passing) (D : SolvedAs x H First found firsts leaves)
+      (kind : q.kind ≡ satisfiability) where
     pub decided_satisfied : found ≡ true → Decided x q Satisfied firsts leaves
     unfolding decide_kind
     decided_satisfied e =
@@ -118,22 +125,33 @@ module _ {k : ℕ} (x : Stored) (q : Question) (St : Stands k x q) where
       holds_on : some_unmet H q ≡ false
       holds_on =
           is_false (some_unmet H q) (not_T (some_unmet H q) (λ t.
-          T_not (solvable (least q.free) H (with_unmet (least q.own) (second_at H q) (first_at H q))) (of_false (sym unmet_is ∙ f))
+          T_not (solvable (least q.free) H (with_unmet (least q.own) (second_at H q) (first_at H q)))
+          (of_false (sym unmet_is ∙ f))
           (unmet_solvable (least q.free) (least q.own) H (first_at H q) (second_at H q) (of_true can) t)))
 
     pub decided_entailed : SurveyedAs x H Survey.Entailed firsts leaves → Decided x q Entailed firsts leaves
     unfolding decide_kind
     decided_entailed (e, f, none) =
         let lowest : get_or x.counts 3 0 ≡ lowest_missed H q = sym none ∙ lowest_is in
-        let d : decide q ≡ entailed = rw (kind, can e f, holds_on e f, ← lowest, ← count, le-ltb (get_or x.counts 3 0) (get_or x.counts 3 0) (le_refl (get_or x.counts 3 0))) in
+        let d : decide q ≡ entailed =
+        rw (
+          kind,
+          can e f,
+          holds_on e f,
+          ← lowest,
+          ← count,
+          le-ltb (get_or x.counts 3 0) (get_or x.counts 3 0) (le_refl (get_or x.counts 3 0)),
+        ) in
         without_pairs Entailed firsts leaves refl d
 
-    pub decided_missed : (j : ℕ) → SurveyedAs x H (Survey.Missed j) firsts leaves → (found : Bool) (third fourth : List Passing) → SolvedAs x H (Missed j) found third fourth
+    pub decided_missed : (j : ℕ) → SurveyedAs x H (Survey.Missed j) firsts leaves
+        → (found : Bool) (third fourth : List Passing) → SolvedAs x H (Missed j) found third fourth
         → Decided x q (Missed j) third fourth
     unfolding decide_kind
     decided_missed j (e, f, l, first) found third fourth G =
         let lowest : j ≡ lowest_missed H q = sym first ∙ lowest_is in
-        let d : decide q ≡ missed j = rw (kind, can e f, holds_on e f, ← lowest, ← count, lt-ltb j (get_or x.counts 3 0) l) in
+        let d : decide q ≡ missed j =
+        rw (kind, can e f, holds_on e f, ← lowest, ← count, lt-ltb j (get_or x.counts 3 0) l) in
         with_pairs (Missed j) third fourth d (rw (G.found_is ∙ is_true _ there) at G)
       where
         there : T (solvable_in x H (Missed j))

@@ -1,4 +1,5 @@
--- What deciding hands over: the model's answer, and the first words of the question's fixed solution, with its plan. Assumes nothing.
+-- What deciding hands over: the model's answer, and the first words of the question's fixed solution, with its plan.
+-- Assumes nothing.
 use Rattle.std.specs.Prelude.{◌≡◌, true, cond, List, ℕ, zero, suc, ◌<◌, max, T, get_or}
 use Rattle.shares.specs.Tree.{height}
 use Rattle.shares.specs.Constant.{constant_levels, number_tree, bit}
@@ -37,7 +38,8 @@ most_below (suc n) f = max (f 0) (most_below n (λ i. f (suc i)))
 
 -- the height of the tallest of the constants that are named
 unfoldable pub tallest_of : ℕ → List ℕ → ℕ → ℕ
-tallest_of levels constants named = most_below most_constants (λ i. cond (bit named i) (height (number_tree levels (get_or constants i 0))) 0)
+tallest_of levels constants named =
+    most_below most_constants (λ i. cond (bit named i) (height (number_tree levels (get_or constants i 0))) 0)
 
 -- the numbers of a question that was read, with its height
 abbrev pub sizes_of : Question → Sizes
@@ -62,7 +64,8 @@ search_of (Missed j) = Missed j
 
 -- ---- the decision of a question
 
--- what is stored as x stands for q: the answer is q's, and where a solution is shown its search is solved, by these first words
+-- what is stored as x stands for q: the answer is q's, and where a solution is shown its search is solved, by these
+-- first words
 pub record Decided (x : Stored) (q : Asked) (r : Finding) (firsts leaves : List Passing) : Type 0 where
   pub answer : answer_of r ≡ decide q
   pub solved : T (shows (decide q)) → SolvedAs x (question_height q) (search_of r) true firsts leaves
@@ -70,7 +73,8 @@ pub record Decided (x : Stored) (q : Asked) (r : Finding) (firsts leaves : List 
 -- the same of every question of a kind that a question to be searched stands for, with its height
 abbrev pub DecidedAs : Kind → Searchable → Finding → List Passing → List Passing → Type 0
 DecidedAs kind x r firsts leaves =
-    (k : ℕ) (q : Asked) → Stands k (posed x) q → q.kind ≡ kind → x.sizes.height ≡ question_height q → Decided (posed x) q r firsts leaves
+    (k : ℕ) (q : Asked) → Stands k (posed x) q → q.kind ≡ kind → x.sizes.height ≡ question_height q
+    → Decided (posed x) q r firsts leaves
 
 -- a question that was read stands for q, with some clauses
 pub record StandsFor (x : Question) (q : Asked) : Type 0 where

@@ -18,7 +18,8 @@ use Rattle.format.specs.Stored.{reading_from, section_start, four_at, Stored, co
 use Rattle.format.proofs.KeepingLaws.{section_count}
 use Rattle.format.proofs.Callers.{levels_are, readings_at_lem}
 use Rattle.format.specs.declared.Section.{Section}
-use Rattle.format.specs.declared.Section.TheVariants.{FirstPositive, FirstDisequation, SecondPositive, SecondDisequation}
+use Rattle.format.specs.declared.Section.TheVariants.{FirstPositive, FirstDisequation, SecondPositive}
+use Rattle.format.specs.declared.Section.TheVariants.{SecondDisequation}
 use Rattle.decide.specs.Decision.{tallest_of}
 use Rattle.decide.specs.TallestLaws.{tallest_is}
 use Rattle.decide.specs.StoredLaws.{Kept}
@@ -56,26 +57,35 @@ module _ {kind : ℕ} (x : Stored) (q : Question) (St : Stands kind x q) where
 
   tree_is : (i : ℕ) → i < defined_by q → constant_tree q.constants i ≡ number_tree x.levels (get_or x.constants i 0)
   tree_is i l =
-      ap (λ cs. constant_tree cs i) St.constants ∙ ap (number_tree x.levels) (get_or-take (defined_by q) x.constants i 0 l)
+      ap (λ cs. constant_tree cs i) St.constants
+      ∙ ap (number_tree x.levels) (get_or-take (defined_by q) x.constants i 0 l)
 
   pub height_is : tallest_of x.levels x.constants x.named ≡ question_height q
   height_is =
-      sym (tallest_is x.levels x.constants x.named (question_height q) (λ i t. omega (arith, bit_defined i t, St.constant_counted))
+      sym (tallest_is x.levels x.constants x.named (question_height q)
+      (λ i t. omega (arith, bit_defined i t, St.constant_counted))
       (λ i t. rw (← tree_is i (bit_defined i t)) (among_low q.constants (named_by q) i (bit_named i t)))
-      (λ k f. among_least q.constants (named_by q) k (λ i t. rw (tree_is i (St.named_defined i t)) (f i (bit_set i t)))))
+      (λ k f. among_least q.constants (named_by q) k
+      (λ i t. rw (tree_is i (St.named_defined i t)) (f i (bit_set i t)))))
 
   pub question_low : question_height q ≤ x.levels
   question_low =
       among_least q.constants (named_by q) x.levels
-      (λ i t. omega (arith, tree_of_height q.constants.levels (λ j. bit (get_or q.constants.numbers i 0) j), levels_are x q St))
+      (λ i t. omega (
+        arith,
+        tree_of_height q.constants.levels (λ j. bit (get_or q.constants.numbers i 0) j),
+        levels_are x q St,
+      ))
 
   -- ---- every constant in a clause has its bit
 
   pub first_kept : InSystem (Kept x.named) q.first
-  first_kept = system_named _ (λ v. tt) q.first (λ i t. bit_set i (among_left i (named_in q.first) (named_in q.second) t))
+  first_kept = system_named _ (λ v. tt) q.first
+      (λ i t. bit_set i (among_left i (named_in q.first) (named_in q.second) t))
 
   second_kept : InSystem (Kept x.named) q.second
-  second_kept = system_named _ (λ v. tt) q.second (λ i t. bit_set i (among_right i (named_in q.first) (named_in q.second) t))
+  second_kept = system_named _ (λ v. tt) q.second
+      (λ i t. bit_set i (among_right i (named_in q.first) (named_in q.second) t))
 
   section_kept : (σ : Section) → InAtoms (Kept x.named) (in_section q σ)
   section_kept FirstPositive = in_positives _ q.first first_kept
@@ -83,10 +93,12 @@ module _ {kind : ℕ} (x : Stored) (q : Question) (St : Stands kind x q) where
   section_kept SecondPositive = in_positives _ q.second second_kept
   section_kept SecondDisequation = in_disequations _ q.second second_kept
 
-  pub reading_kept : (σ : Section) (i : ℕ) → i < count_of x.counts σ → InReading (Kept x.named) (reading_from (four_at x.clauses (section_start σ + 4 * i)))
+  pub reading_kept : (σ : Section) (i : ℕ) → i < count_of x.counts σ
+      → InReading (Kept x.named) (reading_from (four_at x.clauses (section_start σ + 4 * i)))
   reading_kept σ i l =
       let a = equal (variable 0) (variable 0) in
       subst (InReading (Kept x.named))
       (sym (get_or-map read_as (in_section q σ) i a) ∙ ap (λ k. get_or k i (read_as a)) (sym (St.sections σ))
       ∙ readings_at_lem x.clauses (section_start σ) (count_of x.counts σ) i (read_as a) l)
-      (in_reading (Kept x.named) (get_or (in_section q σ) i a) (in_at (Kept x.named) (in_section q σ) a (section_kept σ) i (rw (section_count x q St σ) l)))
+      (in_reading (Kept x.named) (get_or (in_section q σ) i a)
+      (in_at (Kept x.named) (in_section q σ) a (section_kept σ) i (rw (section_count x q St σ) l)))

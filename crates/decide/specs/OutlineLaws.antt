@@ -46,11 +46,13 @@ module _ {kind : ℕ} (x : Stored) (q : Question) (St : Stands kind x q) where
   count_few = omega (arith, St.counted FirstDisequation, count_is)
 
   pub splits_few : (search : Search) → c (room_of search (first_count q)) ≤ 5
-  splits_few search = c_most (room_of search (first_count q)) 5 (omega (arith, room_most search (first_count q), count_few))
+  splits_few search = c_most (room_of search (first_count q)) 5
+      (omega (arith, room_most search (first_count q), count_few))
 
   pub outline_is : (search : Search) (height room splits extra : ℕ) → height ≡ tallest_of x.levels x.constants x.named
       → room ≡ room_of search (get_or x.counts 1 0) → splits ≡ c room → extra ≡ extra_of search
-      → record { free = x.free; height = height; splits = splits; extra = extra; count = get_or x.counts 1 0 } ≡ outline_of q search
+      → record { free = x.free; height = height; splits = splits; extra = extra; count = get_or x.counts 1 0 }
+      ≡ outline_of q search
   outline_is search height room splits extra h r s e = rw (St.free, h ∙ height_is x q St, s, r, e, count_is)
 
 -- from the numbers of a question that was read
@@ -58,8 +60,16 @@ module _ (sizes : Sizes) (q : Question) (S : SizedFor sizes q) where
   pub count_sized : get_or sizes.counts 1 0 ≤ 31
   count_sized = rw S.sized (S.standing.stands.counted FirstDisequation)
 
-  pub outline_sized : (search : Search) (room splits extra : ℕ) → room ≡ room_of search (get_or sizes.counts 1 0) → splits ≡ c room → extra ≡ extra_of search
-      → record { free = sizes.free; height = sizes.height; splits = splits; extra = extra; count = get_or sizes.counts 1 0 } ≡ outline_of q search
+  pub outline_sized : (search : Search) (room splits extra : ℕ) → room ≡ room_of search (get_or sizes.counts 1 0)
+      → splits ≡ c room → extra ≡ extra_of search
+      → record {
+        free = sizes.free;
+        height = sizes.height;
+        splits = splits;
+        extra = extra;
+        count =
+            get_or sizes.counts 1 0;
+      } ≡ outline_of q search
   outline_sized search room splits extra r s e =
       rw S.sized (outline_is _ q S.standing.stands search _ room splits extra refl (rw S.sized at r) s e)
 
@@ -70,7 +80,8 @@ module _ (sizes : Sizes) (q : Question) (S : SizedFor sizes q) where
 
 -- where a solution is shown it is the height of what is to be planned
 pub shown_height : (q : Question) (f : Finding) → shows (answer_of f) ≡ true
-    → (outline_of q (search_of f)).height + (outline_of q (search_of f)).splits ≡ height_given (question_height q) q (answer_of f)
+    → (outline_of q (search_of f)).height + (outline_of q (search_of f)).splits
+    ≡ height_given (question_height q) q (answer_of f)
 shown_height q Satisfied e = refl
 shown_height q Unsatisfied e = absurd (true≢false (sym e))
 shown_height q Vacuous e = absurd (true≢false (sym e))
@@ -79,7 +90,8 @@ shown_height q Unmet e = refl
 shown_height q (Missed j) e = refl
 
 -- where none is shown it is 0
-pub no_height : (q : Question) (f : Finding) → shows (answer_of f) ≡ false → height_given (question_height q) q (answer_of f) ≡ 0
+pub no_height : (q : Question) (f : Finding) → shows (answer_of f) ≡ false
+    → height_given (question_height q) q (answer_of f) ≡ 0
 no_height q Satisfied e = absurd (true≢false e)
 no_height q Unsatisfied e = refl
 no_height q Vacuous e = refl

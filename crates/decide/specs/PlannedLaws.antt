@@ -1,4 +1,5 @@
--- The first words of a finding can be planned, and the plan of them is that of the question's fixed solution. Assumes nothing.
+-- The first words of a finding can be planned, and the plan of them is that of the question's fixed solution. Assumes
+-- nothing.
 use Rattle.std.specs.Prelude.{◌≡◌, refl, Bool, true, false, cond, List, ℕ, ◌+◌, ◌-◌, ◌^◌, ◌≤◌, ◌<◌, T, ltb}
 use Rattle.std.proofs.Math.Path.{sym, ap}
 use Rattle.std.proofs.Common.{◌∙◌, le_trans, arith, pow_mono, ltb-true}
@@ -20,10 +21,12 @@ use Rattle.leaves.proofs.ProblemLaws.{plain_passes, leaf_passes, rank_lt}
 use Rattle.leaves.specs.Numbers.{numbered, leaf_for, plain_choice, special_choice}
 use Rattle.plans.specs.NumberLaws.{plain_is}
 use Rattle.systems.specs.Clauses.{Assignment}
-use Rattle.systems.specs.Questions.{Kind, satisfiability, entailment, Question, question_height, first_count, second_count}
+use Rattle.systems.specs.Questions.{Kind, satisfiability, entailment, Question, question_height, first_count}
+use Rattle.systems.specs.Questions.{second_count}
 use Rattle.systems.specs.Answers.{Answer, satisfied, unsatisfied, vacuous, entailed, unmet, missed, shows, height_given}
 use Rattle.systems.specs.AtLeaves.{first_at}
-use Rattle.systems.specs.Decide.{can_solve, some_unmet, lowest_missed, decide_kind, decide, shares_of, fixed, shown_with}
+use Rattle.systems.specs.Decide.{can_solve, some_unmet, lowest_missed, decide_kind, decide, shares_of, fixed}
+use Rattle.systems.specs.Decide.{shown_with}
 use Rattle.format.specs.Stored.{Stored, Stands}
 use Rattle.format.proofs.KeepingLaws.{section_count}
 use Rattle.format.proofs.Callers.{levels_are}
@@ -60,7 +63,8 @@ missed_there h q j = by_kind q.kind
       where
         apart : unmet ≡ missed j → ◌≡◌ {A = ℕ} 0 1
         apart e = cc
-    chosen true false true l e = let s : lowest_missed h q ≡ j = cc in omega (arith, ltb-true (lowest_missed h q) (second_count q) l)
+    chosen true false true l e = let s : lowest_missed h q ≡ j =
+        cc in omega (arith, ltb-true (lowest_missed h q) (second_count q) l)
     chosen true false false l e = let z : ◌≡◌ {A = ℕ} 0 1 = cc in absurd (omega arith)
     chosen false b t l e = let z : ◌≡◌ {A = ℕ} 0 1 = cc in absurd (omega arith)
 
@@ -81,7 +85,8 @@ module _ {kind : ℕ} (x : Stored) (q : Question) (St : Stands kind x q) (room_f
   abbrev Q : Stored
   Q = with_variables x q.free q.own
 
-  solved_at : {search : Search} {found : Bool} {firsts leaves : List Passing} → SolvedAs x H search found firsts leaves → SolvedAs Q H search found firsts leaves
+  solved_at : {search : Search} {found : Bool} {firsts leaves : List Passing} → SolvedAs x H search found firsts leaves
+      → SolvedAs Q H search found firsts leaves
   solved_at D = rw (← St.free, ← St.own) D
 
   module _ (search : Search) where
@@ -99,7 +104,8 @@ module _ {kind : ℕ} (x : Stored) (q : Question) (St : Stands kind x q) (room_f
 
     module _ (can : T (solvable_in Q H search)) where
       -- pairs of it can be planned
-      fitting : {firsts leaves : List Passing} → PairsOf q.free H R (extra_of search) firsts leaves → Fitting (outline_of q search) firsts × LeavesFit (outline_of q search) leaves
+      fitting : {firsts leaves : List Passing} → PairsOf q.free H R (extra_of search) firsts leaves
+          → Fitting (outline_of q search) firsts × LeavesFit (outline_of q search) leaves
       fitting P = (
         record {
           variables = omega (arith, St.variables, St.free);
@@ -107,8 +113,10 @@ module _ {kind : ℕ} (x : Stored) (q : Question) (St : Stands kind x q) (room_f
           splits = splits_few x q St search;
           extra = extra_most search;
           few = count_few x q St;
-          entries = λ e l. let m : e < R.count = rw tests_count l in rw (P.entries e m) (digits_lt (leaf_passes (least q.free) H (numbered q.free R) can e m).0 (wide e m));
-          choices = λ e l. let m : e < R.count = rw tests_count l in rw (P.entries e m, digits_mod (leaf_for q.free H R e) (wide e m)) (P.within e m);
+          entries = λ e l. let m : e < R.count = rw tests_count l in
+              rw (P.entries e m) (digits_lt (leaf_passes (least q.free) H (numbered q.free R) can e m).0 (wide e m));
+          choices = λ e l. let m : e < R.count =
+              rw tests_count l in rw (P.entries e m, digits_mod (leaf_for q.free H R e) (wide e m)) (P.within e m);
         },
         λ b l. rw (P.plains b l) (least_lt b l),
       )
@@ -118,7 +126,8 @@ module _ {kind : ℕ} (x : Stored) (q : Question) (St : Stands kind x q) (room_f
 
           least_lt : (b : ℕ) → b < 2 ^ H → plain_choice q.free H R b < 2 ^ q.free
           least_lt b l =
-              let t : T (some_below (2 ^ q.free) (R.pos b)) = rw (plain_is q.free H R b) at (plain_passes (least q.free) H (numbered q.free R) can b l) in
+              let t : T (some_below (2 ^ q.free) (R.pos b)) =
+              rw (plain_is q.free H R b) at (plain_passes (least q.free) H (numbered q.free R) can b l) in
               let (i, m, p) = some_found (2 ^ q.free) (R.pos b) t in
               (first_passes (2 ^ q.free) (R.pos b) i m p).0
 
@@ -133,7 +142,8 @@ module _ {kind : ℕ} (x : Stored) (q : Question) (St : Stands kind x q) (room_f
           sub_leaves = λ j l.
               let m : j < R.count = rw M.count at l in
               rw (M.high, M.sub_leaves j m)
-              (leaf_lt H k (leaf_passes (least q.free) H (numbered q.free R) can j m).0 (rank_lt (least q.free) H (numbered q.free R) k j room m));
+              (leaf_lt H k (leaf_passes (least q.free) H (numbered q.free R) can j m).0
+              (rank_lt (least q.free) H (numbered q.free R) k j room m));
         }
 
         -- its trees are those of the question's problem
@@ -143,11 +153,13 @@ module _ {kind : ℕ} (x : Stored) (q : Question) (St : Stands kind x q) (room_f
         trees P same v l =
             ap (λ w. tree_of w (λ s. bit (shown.plan_choice plan s) (q.free - 1 - v))) M.high
             ∙ tree_of_ext (H + k) _ _ (λ s m.
-            ap (λ y. bit y (q.free - 1 - v)) (plan_shows q.free H R k plan M room s m can ∙ ap value (sym (same.fixed_is k s m)))
+            ap (λ y. bit y (q.free - 1 - v)) (plan_shows q.free H R k plan M room s m can
+            ∙ ap value (sym (same.fixed_is k s m)))
             ∙ sym (row_digit q.free (fixed_at (least q.free) H P (H + k) s) v l))
 
         -- so it is that of what is shown with an answer
-        planned : (a : Answer) (P : Problem (Row Bool q.free)) → Same x q St H P R → decide q ≡ a → height_given H q a ≡ H + k
+        planned : (a : Answer) (P : Problem (Row Bool q.free)) → Same x q St H P R → decide q ≡ a
+            → height_given H q a ≡ H + k
             → shown_with H q a ≡ fixed H q P (H + k) → Planned q plan
         planned a P same d g s = record {
           formed = formed;
@@ -157,8 +169,10 @@ module _ {kind : ℕ} (x : Stored) (q : Question) (St : Stands kind x q) (room_f
 
   -- the finding says which problem is shown
   planned_as : (f : Finding) → T (shows (answer_of f)) → decide q ≡ answer_of f → T (solvable_in Q H (search_of f))
-      → (plan : Plan) → Made q.free H (tests_of Q H (search_of f)) (c (room_of (search_of f) (first_count q))) plan → Planned q plan
-  planned_as Satisfied t d can plan M = planned First can plan M satisfied (first_at H q) (same_first x q St H) d refl refl
+      → (plan : Plan) → Made q.free H (tests_of Q H (search_of f)) (c (room_of (search_of f) (first_count q))) plan
+      → Planned q plan
+  planned_as Satisfied t d can plan M =
+      planned First can plan M satisfied (first_at H q) (same_first x q St H) d refl refl
   planned_as Unsatisfied t d can plan M = absurd t
   planned_as Vacuous t d can plan M = absurd t
   planned_as Entailed t d can plan M = absurd t
@@ -169,7 +183,8 @@ module _ {kind : ℕ} (x : Stored) (q : Question) (St : Stands kind x q) (room_f
 
   -- ---- of a decision
 
-  module _ (f : Finding) (firsts leaves : List Passing) (D : Decided x q f firsts leaves) (t : T (shows (answer_of f))) where
+  module _ (f : Finding) (firsts leaves : List Passing) (D : Decided x q f firsts leaves)
+      (t : T (shows (answer_of f))) where
     solved : SolvedAs Q H (search_of f) true firsts leaves
     solved = solved_at (D.solved (rw D.answer at t))
 
@@ -180,8 +195,10 @@ module _ {kind : ℕ} (x : Stored) (q : Question) (St : Stands kind x q) (room_f
     decided_fits = fitting (search_of f) can (solved.pairs_are tt)
 
     pub decided_planned : (plan : Plan)
-        → ((R : Problem ℕ) → R.count ≡ extra_of (search_of f) + first_count q → PairsOf q.free H R (extra_of (search_of f)) firsts leaves
+        → ((R : Problem ℕ) → R.count ≡ extra_of (search_of f) + first_count q
+        → PairsOf q.free H R (extra_of (search_of f)) firsts leaves
         → Made q.free H R (c (room_of (search_of f) (first_count q))) plan)
         → Planned q plan
     decided_planned plan made =
-        planned_as f t (sym D.answer) can plan (made (tests_of Q H (search_of f)) (tests_count (search_of f)) (solved.pairs_are tt))
+        planned_as f t (sym D.answer) can plan
+        (made (tests_of Q H (search_of f)) (tests_count (search_of f)) (solved.pairs_are tt))

@@ -14,11 +14,13 @@ use Rattle.format.specs.Stored.{section_start, four_at, Stored, count_of, part_n
 use Rattle.format.proofs.KeepingLaws.{part_cases, parts_small}
 use Rattle.format.specs.SectionLaws.{section_room, variables_le}
 use Rattle.format.specs.declared.Section.{Section}
-use Rattle.format.specs.declared.Section.TheVariants.{FirstPositive, FirstDisequation, SecondPositive, SecondDisequation}
+use Rattle.format.specs.declared.Section.TheVariants.{FirstPositive, FirstDisequation, SecondPositive}
+use Rattle.format.specs.declared.Section.TheVariants.{SecondDisequation}
 use Rattle.beside.specs.Beside.{ReadsFree, Readable}
 
 -- one of four bytes
-one_of_four : (l : List ℕ) (p r : ℕ) → r < 4 → get_or l p 0 < 64 → get_or l (p + 1) 0 < 64 → get_or l (p + 2) 0 < 64 → get_or l (p + 3) 0 < 64 → get_or l (p + r) 0 < 64
+one_of_four : (l : List ℕ) (p r : ℕ) → r < 4 → get_or l p 0 < 64 → get_or l (p + 1) 0 < 64 → get_or l (p + 2) 0 < 64
+    → get_or l (p + 3) 0 < 64 → get_or l (p + r) 0 < 64
 one_of_four l p r m b₀ b₁ b₂ b₃ = pick (ℕ_discrete r 0) (ℕ_discrete r 1) (ℕ_discrete r 2)
   where
     pick : Dec (r ≡ 0) → Dec (r ≡ 1) → Dec (r ≡ 2) → get_or l (p + r) 0 < 64
@@ -51,7 +53,8 @@ module _ (n k : ℕ) (x y : ℕ → Bool) (low : (t : ℕ) → t < n → x t ≡
 reads_free : (l : List ℕ) (n k at : ℕ) → StoredClause n k (four_at l at) → ReadsFree l n at
 unfolding clause_test
 reads_free l n k at C x y low high =
-    rw (part_same n k x y low high _ C.first, part_same n k x y low high _ C.second, part_same n k x y low high _ C.sum) refl
+    rw (part_same n k x y low high _ C.first, part_same n k x y low high _ C.second, part_same n k x y low high _ C.sum)
+    refl
 
 -- ---- what stands for a question
 
@@ -62,9 +65,11 @@ module _ {kind : ℕ} (x : Stored) (q : Question) (St : Stands kind x q) where
       small : (k : ℕ) → k < 4 * count_of x.counts σ → get_or x.clauses (section_start σ + k) 0 < 64
       small k l =
           let C = St.clauses σ (k / 4) (omega arith) in
-          let B = parts_small _ _ _ C (omega (arith, variables_le x.free x.own σ, St.variables)) (omega (arith, St.constant_counted)) in
+          let B = parts_small _ _ _ C (omega (arith, variables_le x.free x.own σ, St.variables))
+          (omega (arith, St.constant_counted)) in
           let e : section_start σ + k ≡ section_start σ + 4 * (k / 4) + k % 4 = omega arith in
-          rw e (one_of_four x.clauses (section_start σ + 4 * (k / 4)) (k % 4) (mod-lt k (omega arith)) (omega (arith, C.form)) B.0 B.1 B.2)
+          rw e (one_of_four x.clauses (section_start σ + 4 * (k / 4)) (k % 4) (mod-lt k (omega arith))
+          (omega (arith, C.form)) B.0 B.1 B.2)
 
   pub readable : Readable x.clauses x.counts x.free x.own
   readable = record {
@@ -74,6 +79,7 @@ module _ {kind : ℕ} (x : Stored) (q : Question) (St : Stands kind x q) where
     second_positive = section_clauses SecondPositive;
     second_disequation = section_clauses SecondDisequation;
     positive_free = λ k l. reads_free x.clauses x.free (defined_by q) (0 + 4 * k) (St.clauses FirstPositive k l);
-    disequation_free = λ k l. reads_free x.clauses x.free (defined_by q) (256 + 4 * k) (St.clauses FirstDisequation k l);
+    disequation_free = λ k l. reads_free x.clauses x.free (defined_by q) (256 + 4 * k)
+        (St.clauses FirstDisequation k l);
     few = (St.counted FirstDisequation, St.counted SecondDisequation);
   }

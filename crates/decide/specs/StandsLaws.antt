@@ -26,17 +26,28 @@ use Rattle.format.specs.SectionLaws.{variables_le}
 use Rattle.format.proofs.KeepingLaws.{section_count}
 use Rattle.format.proofs.Callers.{readings_at_lem}
 use Rattle.format.specs.declared.Section.{Section}
-use Rattle.format.specs.declared.Section.TheVariants.{FirstPositive, FirstDisequation, SecondPositive, SecondDisequation}
+use Rattle.format.specs.declared.Section.TheVariants.{FirstPositive, FirstDisequation, SecondPositive}
+use Rattle.format.specs.declared.Section.TheVariants.{SecondDisequation}
 use Rattle.leaves.specs.Numbers.{numbered}
 use Rattle.leaves.proofs.SameLaws.{solvable_same, fixed_same}
-use Rattle.steps.specs.Tests.{leaf_values, first_meets, first_differs, second_meets, second_differs, special_in, tests_of}
+use Rattle.steps.specs.Tests.{leaf_values, first_meets, first_differs, second_meets, second_differs, special_in}
+use Rattle.steps.specs.Tests.{tests_of}
 use Rattle.decide.specs.StoredLaws.{reading_at, row_digit, all_readings, all_read, reading_same, section_same}
 use Rattle.decide.specs.NamedLaws.{reading_kept}
 use Rattle.steps.specs.declared.Search.TheVariants.{First, Unmet, Missed}
 
 -- what is stored, with n free and m own variables
 abbrev pub with_variables : Stored → ℕ → ℕ → Stored
-with_variables x n m = record { clauses = x.clauses; counts = x.counts; constants = x.constants; levels = x.levels; named = x.named; free = n; own = m }
+with_variables x n m = record {
+  clauses = x.clauses;
+  counts = x.counts;
+  constants = x.constants;
+  levels =
+      x.levels;
+  named = x.named;
+  free = n;
+  own = m;
+}
 
 module _ {kind : ℕ} (x : Stored) (q : Question) (St : Stands kind x q) (h : ℕ) where
   abbrev S : Stored
@@ -62,7 +73,8 @@ module _ {kind : ℕ} (x : Stored) (q : Question) (St : Stands kind x q) (h : �
     all_same =
         all_read h q.constants b X (in_section q σ)
         ∙ ap₂ (λ k l. all_readings h k b X l) St.constants (sym (St.sections σ))
-        ∙ section_same S (defined_by q) h b St.constant_counted q.free m few-m (variables_for q.free q.own σ) few_named X z values (section_start σ) (count_of x.counts σ)
+        ∙ section_same S (defined_by q) h b St.constant_counted q.free m few-m (variables_for q.free q.own σ) few_named
+        X z values (section_start σ) (count_of x.counts σ)
         (clause_at_lem σ) (reading_kept x q St σ)
 
     one_same : (j : ℕ) (d : Atom) → j < count_of x.counts σ
@@ -74,7 +86,8 @@ module _ {kind : ℕ} (x : Stored) (q : Question) (St : Stands kind x q) (h : �
         (ap₂ (λ k t. reading_at h k b X t) St.constants
         (sym (get_or-map read_as (in_section q σ) j d) ∙ ap (λ k. get_or k j (read_as d)) (sym (St.sections σ))
         ∙ readings_at_lem x.clauses (section_start σ) (count_of x.counts σ) j (read_as d) l)
-        ∙ reading_same S (defined_by q) h b St.constant_counted q.free m few-m (variables_for q.free q.own σ) few_named X z values (section_start σ + 4 * j) (clause_at_lem σ j l)
+        ∙ reading_same S (defined_by q) h b St.constant_counted q.free m few-m (variables_for q.free q.own σ) few_named
+        X z values (section_start σ + 4 * j) (clause_at_lem σ j l)
         (reading_kept x q St σ j l))
 
   module _ (b : ℕ) (v : Row Bool q.free) where
@@ -86,28 +99,34 @@ module _ {kind : ℕ} (x : Stored) (q : Question) (St : Stands kind x q) (h : �
     first_pos : (first_at h q).pos b v ≡ first_meets S (leaf_values S h b) (value v)
     first_pos = all_same b 0 (omega (arith, few)) FirstPositive (at false v) (value v) free_values
 
-    first_dis : (j : ℕ) → j < count_of x.counts FirstDisequation → (first_at h q).dis j b v ≡ first_differs S (leaf_values S h b) j (value v)
+    first_dis : (j : ℕ) → j < count_of x.counts FirstDisequation
+        → (first_at h q).dis j b v ≡ first_differs S (leaf_values S h b) j (value v)
     first_dis j l = one_same b 0 (omega (arith, few)) FirstDisequation (at false v) (value v) free_values j _ l
 
     module _ (u : Row Bool q.own) where
       both_values : (t : ℕ) → t < q.free + q.own
-          → both_at q.free (at false v) (at false u) t ≡ term_value q.free q.own (leaf_values S h b) (value u * 2 ^ q.free + value v) t
+          → both_at q.free (at false v) (at false u) t
+          ≡ term_value q.free q.own (leaf_values S h b) (value u * 2 ^ q.free + value v) t
       unfolding both_at
       both_values t l = go (ltb t q.free) refl
         where
           go : (c : Bool) → ltb t q.free ≡ c
-              → cond c (at false v t) (at false u (t - q.free)) ≡ term_value q.free q.own (leaf_values S h b) (value u * 2 ^ q.free + value v) t
+              → cond c (at false v t) (at false u (t - q.free))
+              ≡ term_value q.free q.own (leaf_values S h b) (value u * 2 ^ q.free + value v) t
           go true e =
               let k = ltb-true t q.free e in
-              row_digit q.free v t k ∙ sym (value_free q.free q.own (leaf_values S h b) (value u) (value v) (value_lt q.free v) t k)
+              row_digit q.free v t k ∙ sym
+              (value_free q.free q.own (leaf_values S h b) (value u) (value v) (value_lt q.free v) t k)
           go false e =
               let k : q.free ≤ t = ltb-false t q.free e in
               row_digit q.own u (t - q.free) (omega arith)
-              ∙ sym (value_own q.free q.own (leaf_values S h b) (value u) (value v) (value_lt q.free v) (t - q.free) (omega arith))
+              ∙ sym (value_own q.free q.own (leaf_values S h b) (value u) (value v) (value_lt q.free v) (t - q.free)
+              (omega arith))
               ∙ ap (term_value q.free q.own (leaf_values S h b) (value u * 2 ^ q.free + value v)) (omega arith)
 
       second_pos : (second_at h q).pos b v u
-          ≡ all_pass x.clauses 384 (count_of x.counts SecondPositive) q.free q.own (leaf_values S h b) (value u * 2 ^ q.free + value v)
+          ≡ all_pass x.clauses 384 (count_of x.counts SecondPositive) q.free q.own (leaf_values S h b)
+          (value u * 2 ^ q.free + value v)
       second_pos = all_same b q.own few SecondPositive _ _ both_values
 
       second_dis : (j : ℕ) → j < count_of x.counts SecondDisequation → (second_at h q).dis j b v u
@@ -121,7 +140,8 @@ module _ {kind : ℕ} (x : Stored) (q : Question) (St : Stands kind x q) (h : �
         ∙ ap (λ y. second_all y) (sym (mod-eq_of_lt (value_lt q.free v)))
       where
         second_all : ℕ → Bool
-        second_all y = some_own q.free q.own (all_pass x.clauses 384 (count_of x.counts SecondPositive) q.free q.own (leaf_values S h b)) y
+        second_all y = some_own q.free q.own
+            (all_pass x.clauses 384 (count_of x.counts SecondPositive) q.free q.own (leaf_values S h b)) y
 
     pub second_with : (j : ℕ) → j < count_of x.counts SecondDisequation
         → leaf.meets_with (least q.own) (second_at h q) j b v ≡ second_differs S (leaf_values S h b) j (value v)
@@ -132,7 +152,8 @@ module _ {kind : ℕ} (x : Stored) (q : Question) (St : Stands kind x q) (h : �
       where
         second_but : ℕ → Bool
         second_but y =
-            some_own q.free q.own (all_pass_but x.clauses 384 (count_of x.counts SecondPositive) (640 + 4 * j) q.free q.own (leaf_values S h b)) y
+            some_own q.free q.own (all_pass_but x.clauses 384 (count_of x.counts SecondPositive) (640 + 4 * j) q.free
+            q.own (leaf_values S h b)) y
 
   -- ---- the problem of each search is the question's
 
@@ -140,7 +161,8 @@ module _ {kind : ℕ} (x : Stored) (q : Question) (St : Stands kind x q) (h : �
   pub record Same (P : Problem (Row Bool q.free)) (R : Problem ℕ) : Type 0 where
     pub count : P.count ≡ R.count
     pub solvable_is : solvable (least q.free) h P ≡ solvable (least q.free) h (numbered q.free R)
-    pub fixed_is : (k s : ℕ) → s < 2 ^ (h + k) → fixed_at (least q.free) h P (h + k) s ≡ fixed_at (least q.free) h (numbered q.free R) (h + k) s
+    pub fixed_is : (k s : ℕ) → s < 2 ^ (h + k)
+        → fixed_at (least q.free) h P (h + k) s ≡ fixed_at (least q.free) h (numbered q.free R) (h + k) s
 
   same_of : (P : Problem (Row Bool q.free)) (R : Problem ℕ) → P.count ≡ R.count
       → ((b : ℕ) (v : Row Bool q.free) → P.pos b v ≡ R.pos b (value v))
@@ -153,14 +175,17 @@ module _ {kind : ℕ} (x : Stored) (q : Question) (St : Stands kind x q) (h : �
 
   -- the stored disequations come after the extra ones
   stored_after : (extra i e b : ℕ) (v : Row Bool q.free) → e ≡ extra + i → i < (first_at h q).count
-      → (first_at h q).dis i b v ≡ special_in x.clauses q.free (leaf_values S h b) (second_meets S (leaf_values S h b)) extra e (value v)
+      → (first_at h q).dis i b v ≡ special_in x.clauses q.free (leaf_values S h b) (second_meets S (leaf_values S h b))
+      extra e (value v)
   unfolding special_in
   stored_after extra i e b v at l =
       first_dis b v i (rw (section_count x q St FirstDisequation) at l)
-      ∙ rw (le-ltb e extra (omega arith)) (ap (λ j. first_differs S (leaf_values S h b) j (value v)) {y = e - extra} (omega arith))
+      ∙ rw (le-ltb e extra (omega arith)) (ap (λ j. first_differs S (leaf_values S h b) j (value v)) {y =
+      e - extra} (omega arith))
 
   pub same_first : Same (first_at h q) (tests_of S h First)
-  same_first = same_of _ _ (section_count x q St FirstDisequation ∙ omega arith) first_pos (λ j l b v. stored_after 0 j j b v (omega arith) l)
+  same_first = same_of _ _ (section_count x q St FirstDisequation ∙ omega arith) first_pos
+      (λ j l b v. stored_after 0 j j b v (omega arith) l)
 
   pub same_unmet : Same (with_unmet (least q.own) (second_at h q) (first_at h q)) (tests_of S h Unmet)
   unfolding special_in

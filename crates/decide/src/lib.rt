@@ -11,7 +11,8 @@ ghost use Rattle.steps.specs.Steps.{posed};
 ghost use Rattle.beside.specs.Beside.{Bounded};
 ghost use Rattle.steps.specs.Tests.{extra_of, room_of};
 ghost use Rattle.decide.specs.Findings.{answer_of};
-ghost use Rattle.decide.specs.Decision.{Standing, tallest_of, sizes_of, search_of, Decided, DecidedAs, StandsFor, SizedFor, DecidedFor, outline_of, Planned};
+ghost use Rattle.decide.specs.Decision.{Standing, tallest_of, sizes_of, search_of, Decided, DecidedAs, StandsFor};
+ghost use Rattle.decide.specs.Decision.{SizedFor, DecidedFor, outline_of, Planned};
 
 use basics::CLAUSE_BYTES;
 use beside::{Searchable, Sizes};
@@ -21,9 +22,9 @@ use search::Survey;
 use steps::Search;
 use words::{FIRST_WORDS, LEAF_WORDS, Passing};
 
-// What deciding finds. Of a question of satisfiability: a solution; none. Of an entailment: the first system has no solution; every
-// solution extends; some solution cannot meet the second's positive clauses; some solution cannot have this disequation of the second
-// beside them, and it is the lowest such.
+// What deciding finds. Of a question of satisfiability: a solution; none. Of an entailment: the first system has no
+// solution; every solution extends; some solution cannot meet the second's positive clauses; some solution cannot have
+// this disequation of the second beside them, and it is the lowest such.
 #[derive(Clone, Copy, PartialEq, Eq, Debug)]
 pub enum Finding {
     Satisfied,
@@ -47,7 +48,8 @@ fn question_height(constants: &[u64; 32], named: u64) -> usize
     shares::unlike_height(leaves) as usize
 }
 
-// A question that was read, as it is searched: its numbers, with its height, and its clauses and constants where they are.
+// A question that was read, as it is searched: its numbers, with its height, and its clauses and constants where they
+// are.
 pub fn searchable<'a>(question: &'a Question, clauses: &'a [u8; CLAUSE_BYTES]) -> Searchable<'a>
     requires { (q : Asked) × Stands (kind_value question.now.kind) (stored_of question.now clauses.now) q }
     ensures sizes { result.sizes ≡ sizes_of question.now }
@@ -117,7 +119,8 @@ pub fn decide(
     leaves: &mut [Passing; LEAF_WORDS],
 ) -> Finding
     requires { Bounded question.now.sizes }
-    ensures { (q : Asked) → Stands (kind_value kind) (posed question.now) q → question.now.sizes.height ≡ question_height q → Decided (posed question.now) q result firsts.new leaves.new }
+    ensures { (q : Asked) → Stands (kind_value kind) (posed question.now) q
+        → question.now.sizes.height ≡ question_height q → Decided (posed question.now) q result firsts.new leaves.new }
 {
     match kind {
         Kind::Satisfiability => decide_satisfiability(question, firsts, leaves),

@@ -1,5 +1,7 @@
--- Every accepted question can be written, and one of satisfiability is written byte for byte as it came. Assumes nothing.
-use Rattle.std.specs.Prelude.{◌≡◌, refl, Bool, true, false, cond, ◌&&◌, ℕ, zero, suc, ◌+◌, ◌*◌, ◌^◌, ◌≤◌, ◌<◌, eqb, ltb, length, get_or, take, drop}
+-- Every accepted question can be written, and one of satisfiability is written byte for byte as it came. Assumes
+-- nothing.
+use Rattle.std.specs.Prelude.{◌≡◌, refl, Bool, true, false, cond, ◌&&◌, ℕ, zero, suc, ◌+◌, ◌*◌, ◌^◌, ◌≤◌, ◌<◌, eqb, ltb}
+use Rattle.std.specs.Prelude.{length, get_or, take, drop}
 use Rattle.std.proofs.Math.Path.{sym, ap₂}
 use Rattle.std.proofs.Common.{ap, subst, ◌∙◌, arith, ltb-false, eqb-true, eqb→eq, take-add}
 use mathlib.Core.List.{List, [], ◌∷◌, ◌++◌, map-append, append-nil, append_assoc}
@@ -9,21 +11,26 @@ use Rattle.shares.specs.Test.{of_true, and_right}
 use Rattle.systems.specs.Clauses.{Clause, positive, negated, System}
 use Rattle.systems.specs.Questions.{satisfiability, entailment, Question}
 use Rattle.format.specs.declared.Section.{Section}
-use Rattle.format.specs.declared.Section.TheVariants.{FirstPositive, FirstDisequation, SecondPositive, SecondDisequation}
+use Rattle.format.specs.declared.Section.TheVariants.{FirstPositive, FirstDisequation, SecondPositive}
+use Rattle.format.specs.declared.Section.TheVariants.{SecondDisequation}
 use Rattle.format.specs.declared.Test.{Test}
 use Rattle.format.specs.declared.Test.TheVariants.{Join, Equality, Full, Empty, Together}
 use Rattle.format.specs.declared.Shape.{Shape}
 use Rattle.std.specs.Prelude.{Some}
 use Rattle.format.specs.declared.Command.{Command}
 use Rattle.format.specs.Format.{Head, Opens, Wrong, Step, Take, Refused}
-use Rattle.format.specs.Format.{Result, refused, accepted, entry_of, read_at, atom_of, is_foreign, fault, judged, with_first, with_clause, with_constant, taken, ended, onward, turn, head_fits, kind_from, opened, head_of, after_head, read}
+use Rattle.format.specs.Format.{Result, refused, accepted, entry_of, read_at, atom_of, is_foreign, fault, judged}
+use Rattle.format.specs.Format.{with_first, with_clause, with_constant, taken, ended, onward, turn, head_fits}
+use Rattle.format.specs.Format.{kind_from, opened, head_of, after_head, read}
 use Rattle.format.specs.Stored.{kind_number}
 use Rattle.format.specs.SectionLaws.{clause_keeps}
-use Rattle.format.proofs.FormatLaws.{branch, size, Whole, read_whole, clause_fits, constant_fits, Stay, run_law, accepted_formed, accepted_limited}
+use Rattle.format.proofs.FormatLaws.{branch, size, Whole, read_whole, clause_fits, constant_fits, Stay, run_law}
+use Rattle.format.proofs.FormatLaws.{accepted_formed, accepted_limited}
 use Rattle.format.proofs.KeepingLaws.{Bytes, byte_back}
 use Rattle.encoding.specs.Order.{first_said, second_said}
 use Rattle.encoding.proofs.OrderLaws.{said}
-use Rattle.encoding.specs.Encode.{clause_byte, encode_command, encode_commands, clause_command, first_command, commands_for, head_bytes, encode, AllHaveCommands, Writable}
+use Rattle.encoding.specs.Encode.{clause_byte, encode_command, encode_commands, clause_command, first_command}
+use Rattle.encoding.specs.Encode.{commands_for, head_bytes, encode, AllHaveCommands, Writable}
 use Rattle.encoding.proofs.ByteLaws.{Readable, Again, AgainStep, read_again}
 use Rattle.encoding.proofs.EncodeLaws.{read_encode}
 
@@ -77,7 +84,8 @@ abbrev SayableResult : Result → Type 0
 SayableResult (refused n place) = Unit {0}
 SayableResult (accepted q) = Sayable q
 
-sayable_clause : (q : Question) (σ : Section) (t : Test) (a b c : ℕ) → entry_of (clause_byte σ t) ≡ Some (Shape.Clause σ t) → Sayable q
+sayable_clause : (q : Question) (σ : Section) (t : Test) (a b c : ℕ)
+    → entry_of (clause_byte σ t) ≡ Some (Shape.Clause σ t) → Sayable q
     → Sayable (with_clause q σ (atom_of t a b c))
 sayable_clause q σ t a b c e d =
     let k = known_has σ t a b c e in
@@ -95,7 +103,8 @@ module _ (s : List ℕ) (bytes : Bytes s) where
 
   sayable_on : (at : ℕ) (q : Question) (c : Command) (next : ℕ) → Sayable q → Again s at c → Onward at q (Take c next)
   unfolding taken ended
-  sayable_on at q Command.End next d g = branch SayableResult (eqb next (length s)) (accepted q) (refused 10 next) (λ _. d) (λ _. tt)
+  sayable_on at q Command.End next d g =
+      branch SayableResult (eqb next (length s)) (accepted q) (refused 10 next) (λ _. d) (λ _. tt)
   sayable_on at q Command.Head next d g = d
   sayable_on at q (Command.Constant x) next d g =
       record { small = below_append _ x q.constants.numbers d.small g.0; first = d.first; second = d.second }
@@ -107,7 +116,8 @@ module _ (s : List ℕ) (bytes : Bytes s) where
     where
       judge : (r : Step) → AgainStep s at r → Onward at q (judged q r)
       judge (Refused n) g = tt
-      judge (Take c next) g = branch (Onward at q) (eqb (fault q c) 0) (Take c next) (Refused (fault q c)) (λ _. sayable_on at q c next d g) (λ _. tt)
+      judge (Take c next) g = branch (Onward at q) (eqb (fault q c) 0) (Take c next) (Refused (fault q c))
+          (λ _. sayable_on at q c next d g) (λ _. tt)
 
   read_sayable : SayableResult (read s)
   unfolding read opened
@@ -123,7 +133,14 @@ pub accepted_writable : (s : List ℕ) (q : Question) → Bytes s → read s ≡
 accepted_writable s q bytes e =
     let d = subst SayableResult e (read_sayable s bytes) in
     let l = accepted_limited s q e in
-    record { formed = accepted_formed s q e; limited = l; small = λ i. rw l.levels (d.small i); first = d.first; second = d.second }
+    record {
+      formed = accepted_formed s q e;
+      limited = l;
+      small = λ i. rw l.levels (d.small i);
+      first =
+          d.first;
+      second = d.second;
+    }
 
 -- what is written of an accepted question is read as that question
 pub encode_again : (s : List ℕ) (q : Question) → Bytes s → read s ≡ accepted q → read (encode q) ≡ accepted q
@@ -134,14 +151,16 @@ encode_again s q bytes e = read_encode q (accepted_writable s q bytes e)
 encode_append : (l m : List Command) → encode_commands (l ++ m) ≡ encode_commands l ++ encode_commands m
 unfolding encode_commands
 encode_append [] m = refl
-encode_append (c ∷ l) m = ap (λ r. encode_command c ++ r) (encode_append l m) ∙ sym (append_assoc (encode_command c) (encode_commands l) (encode_commands m))
+encode_append (c ∷ l) m = ap (λ r. encode_command c ++ r) (encode_append l m)
+    ∙ sym (append_assoc (encode_command c) (encode_commands l) (encode_commands m))
 
 encode_snoc : (l : List Command) (c : Command) → encode_commands (l ++ (c ∷ [])) ≡ encode_commands l ++ encode_command c
 unfolding encode_commands
 encode_snoc l c = encode_append l (c ∷ []) ∙ ap (λ r. encode_commands l ++ r) (append-nil (encode_command c))
 
 -- a clause's command is that of what it says
-clause_again : (σ : Section) (t : Test) (a b c : ℕ) → Readable (Command.Clause σ t a b c) → clause_command σ (atom_of t a b c) ≡ Command.Clause σ t a b c
+clause_again : (σ : Section) (t : Test) (a b c : ℕ) → Readable (Command.Clause σ t a b c)
+    → clause_command σ (atom_of t a b c) ≡ Command.Clause σ t a b c
 clause_again σ Join a b c h = rw (byte_back a, byte_back b, byte_back c) refl
 clause_again σ Equality a b c h = rw (byte_back a, byte_back b, ← h.1.1) refl
 clause_again σ Full a b c h = rw (byte_back a, ← h.1.0, ← h.1.1) refl
@@ -153,10 +172,12 @@ no_clause_lem [] e = refl
 no_clause_lem (c ∷ f) e = absurd (omega arith)
 
 -- one command more
-more_constant : (q : Question) (x : ℕ) → q.first ≡ [] → q.second ≡ [] → commands_for (with_constant q x) ≡ commands_for q ++ (Command.Constant x ∷ [])
+more_constant : (q : Question) (x : ℕ) → q.first ≡ [] → q.second ≡ []
+    → commands_for (with_constant q x) ≡ commands_for q ++ (Command.Constant x ∷ [])
 more_constant q x e f = rw (e, f) (simp (map-append, append-nil))
 
-more_first : (q : Question) (c : Clause) → q.second ≡ [] → commands_for (with_first q c) ≡ commands_for q ++ (first_command c ∷ [])
+more_first : (q : Question) (c : Clause) → q.second ≡ [] → commands_for (with_first q c) ≡ commands_for q
+    ++ (first_command c ∷ [])
 more_first q c e = rw e (simp (map-append, append-nil, append_assoc))
 
 -- the bytes up to an offset are those of a question of satisfiability, without its end
@@ -169,7 +190,8 @@ SameResult s (refused n place) = Unit {0}
 SameResult s (accepted q) = q.kind ≡ satisfiability → encode q ≡ s
 
 module _ (s : List ℕ) (at : ℕ) (q : Question) (e : take at s ≡ head_bytes q ++ encode_commands (commands_for q)) where
-  same_more : (c : Command) (cs : List Command) → cs ≡ commands_for q ++ (c ∷ []) → take (size c) (drop at s) ≡ encode_command c
+  same_more : (c : Command) (cs : List Command) → cs ≡ commands_for q ++ (c ∷ [])
+      → take (size c) (drop at s) ≡ encode_command c
       → take (at + size c) s ≡ head_bytes q ++ encode_commands cs
   same_more c cs f g =
       take-add at (size c) s
@@ -177,7 +199,8 @@ module _ (s : List ℕ) (at : ℕ) (q : Question) (e : take at s ≡ head_bytes 
       ∙ append_assoc (head_bytes q) (encode_commands (commands_for q)) (encode_command c)
       ∙ ap (λ l. head_bytes q ++ l) (sym (ap encode_commands f ∙ encode_snoc (commands_for q) c))
 
-  same_end : (next : ℕ) → next ≡ at + size Command.End → next ≡ length s → take (size Command.End) (drop at s) ≡ encode_command Command.End → encode q ≡ s
+  same_end : (next : ℕ) → next ≡ at + size Command.End → next ≡ length s
+      → take (size Command.End) (drop at s) ≡ encode_command Command.End → encode q ≡ s
   unfolding encode
   same_end next n l g =
       sym (append_assoc (head_bytes q) (encode_commands (commands_for q)) (encode_command Command.End))
@@ -186,23 +209,28 @@ module _ (s : List ℕ) (at : ℕ) (q : Question) (e : take at s ≡ head_bytes 
       ∙ take_all (at + size Command.End) s (omega arith)
 
 -- a clause of a question of satisfiability is of the first system
-same_clause : (s : List ℕ) (at : ℕ) (q : Question) (σ : Section) (t : Test) (a b c : ℕ) → is_foreign q.kind σ ≡ false → Same s q at
-    → Again s at (Command.Clause σ t a b c) → Same s (with_clause q σ (atom_of t a b c)) (at + size (Command.Clause σ t a b c))
+same_clause : (s : List ℕ) (at : ℕ) (q : Question) (σ : Section) (t : Test) (a b c : ℕ) → is_foreign q.kind σ ≡ false
+    → Same s q at
+    → Again s at (Command.Clause σ t a b c)
+    → Same s (with_clause q σ (atom_of t a b c)) (at + size (Command.Clause σ t a b c))
 same_clause s at q FirstPositive t a b c f d g k =
     let e = ap (λ r. commands_for q ++ (r ∷ [])) (clause_again FirstPositive t a b c g.0) in
     ((d k).0, same_more s at q (d k).1 _ _ (more_first q (positive (atom_of t a b c)) (d k).0 ∙ e) g.1)
 same_clause s at q FirstDisequation t a b c f d g k =
     let e = ap (λ r. commands_for q ++ (r ∷ [])) (clause_again FirstDisequation t a b c g.0) in
     ((d k).0, same_more s at q (d k).1 _ _ (more_first q (negated (atom_of t a b c)) (d k).0 ∙ e) g.1)
-same_clause s at q SecondPositive t a b c f d g k = let z = rw k at f in let y : ◌≡◌ {A = ℕ} 0 1 = cc in absurd (omega arith)
-same_clause s at q SecondDisequation t a b c f d g k = let z = rw k at f in let y : ◌≡◌ {A = ℕ} 0 1 = cc in absurd (omega arith)
+same_clause s at q SecondPositive t a b c f d g k = let z = rw k at f in let y : ◌≡◌ {A = ℕ} 0 1 =
+    cc in absurd (omega arith)
+same_clause s at q SecondDisequation t a b c f d g k = let z = rw k at f in let y : ◌≡◌ {A = ℕ} 0 1 =
+    cc in absurd (omega arith)
 
 module _ (s : List ℕ) (bytes : Bytes s) where
   -- after a command, or a refusal of it
   abbrev SameOn : ℕ → Question → Step → Type 0
   SameOn at q r = Stay (Same s) (SameResult s) (onward s at q r)
 
-  same_on : (at : ℕ) (q : Question) (c : Command) (next : ℕ) → Same s q at → fault q c ≡ 0 → Whole s at (Take c next) → Again s at c → SameOn at q (Take c next)
+  same_on : (at : ℕ) (q : Question) (c : Command) (next : ℕ) → Same s q at → fault q c ≡ 0 → Whole s at (Take c next)
+      → Again s at c → SameOn at q (Take c next)
   unfolding taken ended fault
   same_on at q Command.End next d e w g =
       branch (SameResult s) (eqb next (length s)) (accepted q) (refused 10 next)
@@ -212,7 +240,8 @@ module _ (s : List ℕ) (bytes : Bytes s) where
       let f = (constant_fits q x e).before in
       let a = no_clause_lem q.first (omega arith) in
       ((d k).0, rw w.0 (same_more s at q (d k).1 _ _ (more_constant q x a (d k).0) g.1))
-  same_on at q (Command.Clause σ t a b c) next d e w g = rw w.0 (same_clause s at q σ t a b c (clause_fits q σ t a b c e).home d g)
+  same_on at q (Command.Clause σ t a b c) next d e w g =
+      rw w.0 (same_clause s at q σ t a b c (clause_fits q σ t a b c e).home d g)
 
   same_turn : (q : Question) (at : ℕ) → Same s q at → Stay (Same s) (SameResult s) (turn s at q)
   unfolding turn
@@ -221,7 +250,8 @@ module _ (s : List ℕ) (bytes : Bytes s) where
       judge : (r : Step) → Whole s at r → AgainStep s at r → SameOn at q (judged q r)
       judge (Refused n) w g = tt
       judge (Take c next) w g =
-          branch (SameOn at q) (eqb (fault q c) 0) (Take c next) (Refused (fault q c)) (λ e. same_on at q c next d (eqb-true (fault q c) 0 e) w g) (λ _. tt)
+          branch (SameOn at q) (eqb (fault q c) 0) (Take c next) (Refused (fault q c))
+          (λ e. same_on at q c next d (eqb-true (fault q c) 0 e) w g) (λ _. tt)
 
 -- ---- the head stands as it is written
 
@@ -230,7 +260,8 @@ abbrev HeadStands : List ℕ → Head → Type 0
 HeadStands s (Opens kind n m) = take 4 s ≡ 0x01 ∷ kind ∷ n ∷ m ∷ []
 HeadStands s (Wrong n) = Unit {0}
 
-first_four : (s : List ℕ) → 4 ≤ length s → get_or s 0 0 ≡ 1 → take 4 s ≡ 0x01 ∷ get_or s 1 0 ∷ get_or s 2 0 ∷ get_or s 3 0 ∷ []
+first_four : (s : List ℕ) → 4 ≤ length s → get_or s 0 0 ≡ 1 → take 4 s ≡ 0x01 ∷ get_or s 1 0 ∷ get_or s 2 0
+    ∷ get_or s 3 0 ∷ []
 first_four [] l e = absurd (omega arith)
 first_four (a ∷ []) l e = absurd (omega arith)
 first_four (a ∷ b ∷ []) l e = absurd (omega arith)
@@ -243,14 +274,16 @@ head_stands s =
     branch (HeadStands s) (ltb 0 (length s) && eqb (get_or s 0 0) 1) _ (Wrong 1)
     (λ e. branch (HeadStands s) (ltb (length s) 4) (Wrong 2) _ (λ _. tt)
     (λ w. branch (HeadStands s) (head_fits (get_or s 1 0) (get_or s 2 0) (get_or s 3 0)) (Opens _ _ _) (Wrong 5)
-    (λ _. first_four s (ltb-false (length s) 4 w) (eqb→eq (get_or s 0 0) 1 (and_right (ltb 0 (length s)) _ (of_true e)))) (λ _. tt)))
+    (λ _. first_four s (ltb-false (length s) 4 w)
+    (eqb→eq (get_or s 0 0) 1 (and_right (ltb 0 (length s)) _ (of_true e)))) (λ _. tt)))
     (λ _. tt)
 
 -- kind 0 asks satisfiability
 kind_alone : (kind : ℕ) → kind_from kind ≡ satisfiability → kind ≡ kind_number (kind_from kind)
 kind_alone kind e = pick (eqb kind 0) refl e
   where
-    pick : (b : Bool) → eqb kind 0 ≡ b → cond b satisfiability entailment ≡ satisfiability → kind ≡ kind_number (cond b satisfiability entailment)
+    pick : (b : Bool) → eqb kind 0 ≡ b → cond b satisfiability entailment ≡ satisfiability
+        → kind ≡ kind_number (cond b satisfiability entailment)
     pick true f g = eqb-true kind 0 f
     pick false f g = let z : ◌≡◌ {A = ℕ} 0 1 = cc in absurd (omega arith)
 

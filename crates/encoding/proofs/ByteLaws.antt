@@ -1,22 +1,28 @@
 -- What is written of a command reads back: its byte, its constant's bytes, its terms. Assumes nothing.
-use Rattle.std.specs.Prelude.{◌≡◌, Bool, true, false, cond, List, [], ◌∷◌, ◌++◌, ℕ, zero, suc, ◌+◌, ◌-◌, ◌*◌, ◌/◌, ◌%◌, ◌^◌, ◌≤◌, ◌<◌, eqb, ltb, length, get_or, take, drop}
+use Rattle.std.specs.Prelude.{◌≡◌, Bool, true, false, cond, List, [], ◌∷◌, ◌++◌, ℕ, zero, suc, ◌+◌, ◌-◌, ◌*◌, ◌/◌, ◌%◌}
+use Rattle.std.specs.Prelude.{◌^◌, ◌≤◌, ◌<◌, eqb, ltb, length, get_or, take, drop}
 use Rattle.std.proofs.Math.Path.{refl, ap}
-use Rattle.std.proofs.Common.{sym, ap₂, subst, ◌∙◌, append_assoc, arith, lt-ltb, le-ltb, ltb-true, ltb-false, eqb-true, length-append, length-drop, shr_lt, length-take-le, drop-cons, get_or-append-add, take_at, get_or-take, get_or-drop, ext_get_or}
+use Rattle.std.proofs.Common.{sym, ap₂, subst, ◌∙◌, append_assoc, arith, lt-ltb, le-ltb, ltb-true, ltb-false, eqb-true}
+use Rattle.std.proofs.Common.{length-append, length-drop, shr_lt, length-take-le, drop-cons, get_or-append-add, take_at}
+use Rattle.std.proofs.Common.{get_or-take, get_or-drop, ext_get_or}
 use Rattle.std.proofs.Math.Pow.{split, high, low}
 use Rattle.std.proofs.Math.Seq.{get_or-append_seam, drop-append_seam}
 use Rattle.shares.specs.Constant.{constant_levels, number, bytes_at}
 use Rattle.format.specs.declared.Section.{Section}
-use Rattle.format.specs.declared.Section.TheVariants.{FirstPositive, FirstDisequation, SecondPositive, SecondDisequation}
+use Rattle.format.specs.declared.Section.TheVariants.{FirstPositive, FirstDisequation, SecondPositive}
+use Rattle.format.specs.declared.Section.TheVariants.{SecondDisequation}
 use Rattle.format.specs.declared.Test.{Test}
 use Rattle.format.specs.declared.Test.TheVariants.{Join, Equality, Full, Empty, Together}
 use Rattle.format.specs.declared.Shape.{Shape}
 use Rattle.std.specs.Prelude.{Option, Some, None}
 use Rattle.format.specs.declared.Command.{Command}
-use Rattle.format.specs.Format.{Step, Take, Refused, entry_of, term_count, operands, term_byte, command_of, whole_at, read_at}
+use Rattle.format.specs.Format.{Step, Take, Refused, entry_of, term_count, operands, term_byte, command_of, whole_at}
+use Rattle.format.specs.Format.{read_at}
 use Rattle.format.proofs.FormatLaws.{term_small, branch, size}
 use Rattle.format.proofs.KeepingLaws.{Bytes, take_bytes, command_proper}
 use Rattle.encoding.specs.Worked
-use Rattle.encoding.specs.Encode.{clause_byte, command_byte, lowest_bytes, constant_bytes, shape_of, operand_bytes, encode_command}
+use Rattle.encoding.specs.Encode.{clause_byte, command_byte, lowest_bytes, constant_bytes, shape_of, operand_bytes}
+use Rattle.encoding.specs.Encode.{encode_command}
 
 -- ---- a number's bytes
 
@@ -37,7 +43,8 @@ bytes_length (suc n) x = ap suc (bytes_length n (x / 2 ^ 8))
 pub bytes_back : (l : List ℕ) → Bytes l → lowest_bytes (length l) (number l) ≡ l
 unfolding lowest_bytes number
 bytes_back [] h = refl
-bytes_back (b ∷ l) h = ap₂ ◌∷◌ (low (number l) 8 (h 0)) (ap (lowest_bytes (length l)) (high (number l) 8 (h 0)) ∙ bytes_back l (λ i. h (suc i)))
+bytes_back (b ∷ l) h = ap₂ ◌∷◌ (low (number l) 8 (h 0)) (ap (lowest_bytes (length l)) (high (number l) 8 (h 0))
+    ∙ bytes_back l (λ i. h (suc i)))
 
 -- ---- command bytes
 
@@ -47,7 +54,8 @@ Announces b (Some h) = command_byte h ≡ b
 Announces b None = Unit {0}
 
 -- one line of the table
-row : (b n : ℕ) (h : Shape) (e : Option Shape) → command_byte h ≡ n → Announces b e → Announces b (cond (eqb b n) (Some h) e)
+row : (b n : ℕ) (h : Shape) (e : Option Shape) → command_byte h ≡ n → Announces b e
+    → Announces b (cond (eqb b n) (Some h) e)
 unfolding Announces
 row b n h e c f = branch (Announces b) (eqb b n) (Some h) e (λ t. c ∙ sym (eqb-true b n t)) (λ _. f)
 
@@ -125,7 +133,8 @@ module _ (p rest : List ℕ) where
   past l k = get_or-append-add p l k 0
 
   terms_back : (σ : Section) (t : Test) (a b c : ℕ) → Absent t b c
-      → command_of (p ++ (take (term_count t) (a ∷ b ∷ c ∷ []) ++ rest)) (length p) (Shape.Clause σ t) ≡ Command.Clause σ t a b c
+      → command_of (p ++ (take (term_count t) (a ∷ b ∷ c ∷ []) ++ rest)) (length p) (Shape.Clause σ t)
+      ≡ Command.Clause σ t a b c
   unfolding command_of
   terms_back σ Join a b c h = rw (past (a ∷ b ∷ c ∷ rest) 0, past (a ∷ b ∷ c ∷ rest) 1, past (a ∷ b ∷ c ∷ rest) 2) refl
   terms_back σ Equality a b c h = rw (past (a ∷ b ∷ rest) 0, past (a ∷ b ∷ rest) 1, ← h.1) refl
@@ -150,18 +159,28 @@ module _ (p rest : List ℕ) where
   operands_back (Command.Clause σ t a b c) r = terms_back σ t a b c r.1
 
 -- a command that is written where it is due is read there
-pub read_back : (p rest : List ℕ) (c : Command) → Readable c → read_at (p ++ (encode_command c ++ rest)) (length p) ≡ Take c (length p + size c)
+pub read_back : (p rest : List ℕ) (c : Command) → Readable c → read_at (p ++ (encode_command c ++ rest)) (length p)
+    ≡ Take c (length p + size c)
 unfolding read_at whole_at
 read_back p rest c r =
     let b = command_byte (shape_of c) in
     let s : List ℕ = p ++ (encode_command c ++ rest) in
-    let n : length s ≡ length p + (1 + operands (shape_of c) + length rest) = simp length-append (omega (arith, operands_length c r)) in
-    let known : entry_of (get_or s (length p) 0) ≡ Some (shape_of c) = ap entry_of (get_or-append_seam p b (operand_bytes c ++ rest) 0) ∙ entry_back c r in
+    let n : length s ≡ length p + (1 + operands (shape_of c) + length rest) =
+    simp length-append (omega (arith, operands_length c r)) in
+    let known : entry_of (get_or s (length p) 0) ≡ Some (shape_of c) =
+    ap entry_of (get_or-append_seam p b (operand_bytes c ++ rest) 0) ∙ entry_back c r in
     let before : length (p ++ (b ∷ [])) ≡ length p + 1 = simp length-append in
     let whole : command_of s (length p + 1) (shape_of c) ≡ c =
-    ap₂ (λ l i. command_of l i (shape_of c)) (sym (append_assoc p (b ∷ []) (operand_bytes c ++ rest))) (sym before) ∙ operands_back (p ++ (b ∷ [])) rest c r in
+    ap₂ (λ l i. command_of l i (shape_of c)) (sym (append_assoc p (b ∷ []) (operand_bytes c ++ rest))) (sym before)
+    ∙ operands_back (p ++ (b ∷ [])) rest c r in
     let next : length p + 1 + operands (shape_of c) ≡ length p + size c = omega (arith, size_shape c) in
-    rw (lt-ltb (length p) (length s) (omega arith), known, le-ltb (length s - (length p + 1)) (operands (shape_of c)) (omega arith), whole, next) refl
+    rw (
+      lt-ltb (length p) (length s) (omega arith),
+      known,
+      le-ltb (length s - (length p + 1)) (operands (shape_of c)) (omega arith),
+      whole,
+      next,
+    ) refl
 
 -- ---- a command that is read stands there as it is written
 
@@ -169,13 +188,15 @@ read_back p rest c r =
 abbrev selected : ℕ → List ℕ → ℕ → ℕ
 selected n l k = cond (ltb k n) (get_or l k 0) 0
 
-select_at : (n : ℕ) (l : List ℕ) → n ≤ 3 → (i : ℕ) → i < n → get_or (selected n l 0 ∷ selected n l 1 ∷ selected n l 2 ∷ []) i 0 ≡ get_or l i 0
+select_at : (n : ℕ) (l : List ℕ) → n ≤ 3 → (i : ℕ) → i < n
+    → get_or (selected n l 0 ∷ selected n l 1 ∷ selected n l 2 ∷ []) i 0 ≡ get_or l i 0
 select_at n l m zero h = rw (lt-ltb 0 n (omega arith)) refl
 select_at n l m (suc zero) h = rw (lt-ltb 1 n (omega arith)) refl
 select_at n l m (suc (suc zero)) h = rw (lt-ltb 2 n (omega arith)) refl
 select_at n l m (suc (suc (suc i))) h = absurd (omega arith)
 
-select_first : (n : ℕ) (l : List ℕ) → n ≤ 3 → n ≤ length l → take n (selected n l 0 ∷ selected n l 1 ∷ selected n l 2 ∷ []) ≡ take n l
+select_first : (n : ℕ) (l : List ℕ) → n ≤ 3 → n ≤ length l
+    → take n (selected n l 0 ∷ selected n l 1 ∷ selected n l 2 ∷ []) ≡ take n l
 select_first n l m h =
     let t : List ℕ = selected n l 0 ∷ selected n l 1 ∷ selected n l 2 ∷ [] in
     let e : length (take n t) ≡ n = length-take-le n t m in
@@ -207,34 +228,46 @@ module _ (s : List ℕ) (bytes : Bytes s) (at : ℕ) (l : at < length s) where
   rest_length = length-drop (at + 1) s
 
   -- the command byte, and then its operands
-  byte_first : (h : Shape) → entry_of (get_or s at 0) ≡ Some h → take (1 + operands h) (drop at s) ≡ command_byte h ∷ take (operands h) (drop (at + 1) s)
+  byte_first : (h : Shape) → entry_of (get_or s at 0) ≡ Some h → take (1 + operands h) (drop at s) ≡ command_byte h
+      ∷ take (operands h) (drop (at + 1) s)
   byte_first h e =
       let n : 1 + operands h ≡ suc (operands h) = omega arith in
       let i : suc at ≡ at + 1 = omega arith in
       rw (n, drop-cons s at 0 l, i, ← command_byte_lem (get_or s at 0) h e) refl
 
   constant_stands : bytes_at constant_levels ≤ length s - (at + 1)
-      → constant_bytes constant_levels (number (take (bytes_at constant_levels) (drop (at + 1) s))) ≡ take (bytes_at constant_levels) (drop (at + 1) s)
+      → constant_bytes constant_levels (number (take (bytes_at constant_levels) (drop (at + 1) s)))
+      ≡ take (bytes_at constant_levels) (drop (at + 1) s)
   constant_stands f =
       let n = bytes_at constant_levels in
       let r : List ℕ = take n (drop (at + 1) s) in
       let b : Bytes r = take_bytes n (drop (at + 1) s) (λ j. rw get_or-drop (bytes (at + 1 + j))) in
-      subst (λ m. lowest_bytes m (number r) ≡ r) (length-take-le n (drop (at + 1) s) (omega (arith, rest_length))) (bytes_back r b)
+      subst (λ m. lowest_bytes m (number r) ≡ r) (length-take-le n (drop (at + 1) s) (omega (arith, rest_length)))
+      (bytes_back r b)
 
   terms_stand : (t : Test) → term_count t ≤ length s - (at + 1)
-      → take (term_count t) (term_byte s (at + 1) (term_count t) 0 ∷ term_byte s (at + 1) (term_count t) 1 ∷ term_byte s (at + 1) (term_count t) 2 ∷ [])
+      → take (term_count t) (term_byte s (at + 1) (term_count t) 0 ∷ term_byte s (at + 1) (term_count t) 1
+      ∷ term_byte s (at + 1) (term_count t) 2 ∷ [])
       ≡ take (term_count t) (drop (at + 1) s)
-  terms_stand t f = simp get_or-drop at (select_first (term_count t) (drop (at + 1) s) (term_small t) (omega (arith, rest_length)))
+  terms_stand t f = simp get_or-drop at
+      (select_first (term_count t) (drop (at + 1) s) (term_small t) (omega (arith, rest_length)))
 
-  again : (h : Shape) → entry_of (get_or s at 0) ≡ Some h → operands h ≤ length s - (at + 1) → Again s at (command_of s (at + 1) h)
+  again : (h : Shape) → entry_of (get_or s at 0) ≡ Some h → operands h ≤ length s - (at + 1)
+      → Again s at (command_of s (at + 1) h)
   unfolding command_of
   again Shape.End e f = (tt, byte_first Shape.End e)
   again Shape.Head e f = tt
-  again Shape.Constant e f =
-      (command_proper s bytes (at + 1) Shape.Constant, byte_first Shape.Constant e ∙ ap (λ r. command_byte Shape.Constant ∷ r) (sym (constant_stands f)))
+  again Shape.Constant e f = (
+    command_proper s bytes (at + 1) Shape.Constant,
+    byte_first Shape.Constant e
+        ∙ ap (λ r. command_byte Shape.Constant ∷ r) (sym (constant_stands f)),
+  )
   again (Shape.Clause σ t) e f =
       let n = term_count t in (
-        (ap entry_of (command_byte_lem (get_or s at 0) (Shape.Clause σ t) e) ∙ e, (twice (ltb 1 n) _, twice (ltb 2 n) _)),
+        (
+          ap entry_of (command_byte_lem (get_or s at 0) (Shape.Clause σ t) e) ∙ e,
+          (twice (ltb 1 n) _, twice (ltb 2 n) _),
+        ),
         byte_first (Shape.Clause σ t) e ∙ ap (λ r. command_byte (Shape.Clause σ t) ∷ r) (sym (terms_stand t f)),
       )
 
@@ -242,10 +275,12 @@ module _ (s : List ℕ) (bytes : Bytes s) (at : ℕ) (l : at < length s) where
 pub read_again : (s : List ℕ) → Bytes s → (at : ℕ) → AgainStep s at (read_at s at)
 unfolding read_at whole_at
 read_again s bytes at =
-    branch (AgainStep s at) (ltb at (length s)) _ (Refused 2) (λ l. entry (ltb-true at (length s) l) (entry_of (get_or s at 0)) refl) (λ _. tt)
+    branch (AgainStep s at) (ltb at (length s)) _ (Refused 2)
+    (λ l. entry (ltb-true at (length s) l) (entry_of (get_or s at 0)) refl) (λ _. tt)
   where
     entry : at < length s → (e : Option Shape) → entry_of (get_or s at 0) ≡ e → AgainStep s at (whole_at s at e)
     entry l None e = tt
     entry l (Some h) e =
-        branch (AgainStep s at) (ltb (length s - (at + 1)) (operands h)) (Refused 2) (Take (command_of s (at + 1) h) (at + 1 + operands h)) (λ _. tt)
+        branch (AgainStep s at) (ltb (length s - (at + 1)) (operands h)) (Refused 2)
+        (Take (command_of s (at + 1) h) (at + 1 + operands h)) (λ _. tt)
         (λ f. again s bytes at l h e (ltb-false (length s - (at + 1)) (operands h) f))

@@ -1,11 +1,13 @@
 -- A question written as bytes, by docs/SPEC.md, section 3, and which questions can be written. Assumes nothing.
 use Rattle.std.specs.Prelude.{List, [], ◌∷◌, ◌++◌, map, ℕ, zero, suc, ◌/◌, ◌%◌, ◌^◌, ◌<◌, get_or, take}
 use Rattle.shares.specs.Constant.{constant_levels, bytes_at}
-use Rattle.systems.specs.Clauses.{Term, Atom, joined, equal, is_full, is_empty, together, Clause, positive, negated, System}
+use Rattle.systems.specs.Clauses.{Term, Atom, joined, equal, is_full, is_empty, together, Clause, positive, negated}
+use Rattle.systems.specs.Clauses.{System}
 use Rattle.systems.specs.Questions.{Question, WellFormed}
 use Rattle.systems.specs.AtLeaves.{of}
 use Rattle.format.specs.declared.Section.{Section}
-use Rattle.format.specs.declared.Section.TheVariants.{FirstPositive, FirstDisequation, SecondPositive, SecondDisequation}
+use Rattle.format.specs.declared.Section.TheVariants.{FirstPositive, FirstDisequation, SecondPositive}
+use Rattle.format.specs.declared.Section.TheVariants.{SecondDisequation}
 use Rattle.format.specs.declared.Test.{Test}
 use Rattle.format.specs.declared.Test.TheVariants.{Join, Equality, Full, Empty, Together}
 use Rattle.format.specs.declared.Shape.{Shape}
@@ -16,7 +18,8 @@ use Rattle.format.specs.Limits.{Limited}
 
 -- ---- the bytes of a command
 
--- the byte of what has no command, as "a is empty", not negated: no command byte, and no question that can be written has it
+-- the byte of what has no command, as "a is empty", not negated: no command byte, and no question that can be written
+-- has it
 abbrev pub no_command : ℕ
 no_command = 0xFF
 
@@ -122,7 +125,8 @@ encode q = head_bytes q ++ (encode_commands (commands_for q) ++ encode_command C
 
 -- ---- which questions can be written
 
--- a clause that has a command: joins and equalities and their negations, "a is full", "a is not empty", "a and b may be held together"
+-- a clause that has a command: joins and equalities and their negations, "a is full", "a is not empty", "a and b may be
+-- held together"
 abbrev pub HasCommand : Clause → Type 0
 HasCommand (positive (joined a b c)) = Unit {0}
 HasCommand (positive (equal a b)) = Unit {0}

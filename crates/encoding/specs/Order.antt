@@ -1,8 +1,10 @@
--- Going over a byte string command by command: the commands that stand in it, and the clauses that they say, in order. Assumes nothing.
+-- Going over a byte string command by command: the commands that stand in it, and the clauses that they say, in order.
+-- Assumes nothing.
 use Rattle.std.specs.Prelude.{List, [], ◌∷◌, ◌++◌, ℕ, zero, suc, length}
 use Rattle.systems.specs.Clauses.{Atom, positive, negated, System}
 use Rattle.format.specs.declared.Section.{Section}
-use Rattle.format.specs.declared.Section.TheVariants.{FirstPositive, FirstDisequation, SecondPositive, SecondDisequation}
+use Rattle.format.specs.declared.Section.TheVariants.{FirstPositive, FirstDisequation, SecondPositive}
+use Rattle.format.specs.declared.Section.TheVariants.{SecondDisequation}
 use Rattle.format.specs.declared.Command.{Command}
 use Rattle.format.specs.Format.{Step, Take, Refused, atom_of, read_at}
 
@@ -16,7 +18,8 @@ read_on f (Take Command.Head next) = Command.Head ∷ f next
 read_on f (Take (Command.Constant x) next) = Command.Constant x ∷ f next
 read_on f (Take (Command.Clause σ t a b c) next) = Command.Clause σ t a b c ∷ f next
 
--- the commands from an offset up to the end or the first that cannot be read, without the end; the first number bounds how many
+-- the commands from an offset up to the end or the first that cannot be read, without the end; the first number bounds
+-- how many
 unfoldable pub commands_from : ℕ → List ℕ → ℕ → List Command
 commands_from zero s at = []
 commands_from (suc k) s at = read_on (commands_from k s) (read_at s at)

@@ -1,4 +1,5 @@
--- Worked questions: one with every kind of command, written; and a string in which the two systems alternate, gone over. Assumes nothing.
+-- Worked questions: one with every kind of command, written; and a string in which the two systems alternate, gone
+-- over. Assumes nothing.
 use Rattle.std.specs.Prelude.{◌≡◌, refl, List, [], ◌∷◌, ℕ}
 use Rattle.shares.specs.Constant.{constant_levels}
 use Rattle.systems.specs.Clauses.{variable, constant, joined, equal, is_full, is_empty, together, positive, negated}
@@ -70,10 +71,12 @@ alternating =
     ∷ []
 
 pub first_in_order : first_clauses (commands_of alternating)
-    ≡ negated (equal (variable 0) (variable 0)) ∷ positive (joined (variable 0) (variable 0) (variable 0)) ∷ positive (is_full (variable 0)) ∷ []
+    ≡ negated (equal (variable 0) (variable 0)) ∷ positive (joined (variable 0) (variable 0) (variable 0))
+    ∷ positive (is_full (variable 0)) ∷ []
 unfolding commands_from first_clauses read_at whole_at entry_of command_of term_of
 first_in_order = refl
 
-pub second_in_order : second_clauses (commands_of alternating) ≡ positive (equal (variable 1) (variable 0)) ∷ negated (is_empty (variable 1)) ∷ []
+pub second_in_order : second_clauses (commands_of alternating) ≡ positive (equal (variable 1) (variable 0))
+    ∷ negated (is_empty (variable 1)) ∷ []
 unfolding commands_from second_clauses read_at whole_at entry_of command_of term_of
 second_in_order = refl

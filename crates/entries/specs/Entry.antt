@@ -1,4 +1,5 @@
--- What is kept of the words of choices that a pass goes over. Words are counted through all leaves; bit i of word t is number 64 * t + i. Assumes nothing.
+-- What is kept of the words of choices that a pass goes over. Words are counted through all leaves; bit i of word t is
+-- number 64 * t + i. Assumes nothing.
 use Rattle.std.specs.Prelude.{◌≡◌, Bool, true, false, ◌&&◌, ◌||◌, List, ℕ, ◌+◌, ◌*◌, ◌≤◌, ◌<◌, T, get_or}
 use Rattle.shares.specs.Below.{some_below, first_below}
 use Rattle.shares.specs.Constant.{bit}
@@ -17,20 +18,25 @@ abbrev pub WordOf : (ℕ → Bool) → (ℕ → Bool) → ℕ → Type 0
 WordOf word p t = (i : ℕ) → i < 64 → word i ≡ p (64 * t + i)
 
 -- entry e after word t, of which `word` has the bits. Nothing else changes
-pub record Kept (e t : ℕ) (word : ℕ → Bool) (met : ℕ) (firsts : List Passing) (met' : ℕ) (firsts' : List Passing) : Type 0 where
+pub record Kept (e t : ℕ) (word : ℕ → Bool) (met : ℕ) (firsts : List Passing) (met' : ℕ) (firsts' : List Passing)
+    : Type 0 where
   pub entry : (p : ℕ → Bool) → WordOf word p t → Entry p t met firsts e → Entry p (t + 1) met' firsts' e
   pub met_kept : (k : ℕ) → (k ≡ e → ⊥) → bit met' k ≡ bit met k
   pub firsts_kept : (k : ℕ) → (k ≡ e → ⊥) → number_at firsts' k ≡ number_at firsts k
 
 -- the same of the first `count` entries
-pub record KeptAll (count t : ℕ) (word : ℕ → ℕ → Bool) (met : ℕ) (firsts : List Passing) (met' : ℕ) (firsts' : List Passing) : Type 0 where
-  pub entry : (e : ℕ) → e < count → (p : ℕ → Bool) → WordOf (word e) p t → Entry p t met firsts e → Entry p (t + 1) met' firsts' e
+pub record KeptAll (count t : ℕ) (word : ℕ → ℕ → Bool) (met : ℕ) (firsts : List Passing) (met' : ℕ)
+    (firsts' : List Passing) : Type 0 where
+  pub entry : (e : ℕ) → e < count → (p : ℕ → Bool) → WordOf (word e) p t → Entry p t met firsts e
+      → Entry p (t + 1) met' firsts' e
   pub met_kept : (k : ℕ) → count ≤ k → bit met' k ≡ bit met k
   pub firsts_kept : (k : ℕ) → count ≤ k → number_at firsts' k ≡ number_at firsts k
 
 -- the same, but for those whose bits of `rest` are set, which are as they were
-pub record KeptBut (rest count t : ℕ) (word : ℕ → ℕ → Bool) (met : ℕ) (firsts : List Passing) (met' : ℕ) (firsts' : List Passing) : Type 0 where
-  pub entry : (e : ℕ) → e < count → bit rest e ≡ false → (p : ℕ → Bool) → WordOf (word e) p t → Entry p t met firsts e → Entry p (t + 1) met' firsts' e
+pub record KeptBut (rest count t : ℕ) (word : ℕ → ℕ → Bool) (met : ℕ) (firsts : List Passing) (met' : ℕ)
+    (firsts' : List Passing) : Type 0 where
+  pub entry : (e : ℕ) → e < count → bit rest e ≡ false → (p : ℕ → Bool) → WordOf (word e) p t → Entry p t met firsts e
+      → Entry p (t + 1) met' firsts' e
   pub met_kept : (k : ℕ) → (k < count → T (bit rest k)) → bit met' k ≡ bit met k
   pub firsts_kept : (k : ℕ) → (k < count → T (bit rest k)) → number_at firsts' k ≡ number_at firsts k
 
@@ -57,10 +63,12 @@ pub record Settling (j count mark wanted wanted' : ℕ) : Type 0 where
   pub settled : T (bit wanted j) → bit wanted' j ≡ false → FullMark count mark
   pub wanted_kept : (k : ℕ) → k < 64 → (k ≡ j → ⊥) → bit wanted' k ≡ bit wanted k
 
--- mark j, which is wanted: rows 0 to 31 are the choices left, 32 to 63 those of the first system's disequations, 64 to 95 the marks
+-- mark j, which is wanted: rows 0 to 31 are the choices left, 32 to 63 those of the first system's disequations, 64 to
+-- 95 the marks
 pub record Marked (j count wanted here : ℕ) (rows : List ℕ) (wanted' here' : ℕ) (rows' : List ℕ) : Type 0 where
   pub there : bit here' j ≡ (bit here j || some (get_or rows j 0))
-  pub mark : (i : ℕ) → i < count → bit (get_or rows' (64 + j) 0) i ≡ (bit (get_or rows (64 + j) 0) i || common (get_or rows (32 + i) 0) (get_or rows j 0))
+  pub mark : (i : ℕ) → i < count → bit (get_or rows' (64 + j) 0) i
+      ≡ (bit (get_or rows (64 + j) 0) i || common (get_or rows (32 + i) 0) (get_or rows j 0))
   pub settled : bit wanted' j ≡ false → (bit here' j ≡ true) × FullMark count (get_or rows' (64 + j) 0)
   pub wanted_kept : (k : ℕ) → k < 64 → (k ≡ j → ⊥) → bit wanted' k ≡ bit wanted k
   pub here_kept : (k : ℕ) → (k ≡ j → ⊥) → bit here' k ≡ bit here k
@@ -70,15 +78,20 @@ pub record Marked (j count wanted here : ℕ) (rows : List ℕ) (wanted' here' :
 pub record MarkedAll (n count wanted here : ℕ) (rows : List ℕ) (wanted' here' : ℕ) (rows' : List ℕ) : Type 0 where
   pub there : (j : ℕ) → j < n → bit here' j ≡ (bit here j || (bit wanted j && some (get_or rows j 0)))
   pub mark : (j : ℕ) → j < n → (i : ℕ) → i < count
-      → bit (get_or rows' (64 + j) 0) i ≡ (bit (get_or rows (64 + j) 0) i || (bit wanted j && common (get_or rows (32 + i) 0) (get_or rows j 0)))
-  pub settled : (j : ℕ) → j < n → T (bit wanted j) → bit wanted' j ≡ false → (bit here' j ≡ true) × FullMark count (get_or rows' (64 + j) 0)
+      → bit (get_or rows' (64 + j) 0) i
+      ≡ (bit (get_or rows (64 + j) 0) i || (bit wanted j && common (get_or rows (32 + i) 0) (get_or rows j 0)))
+  pub settled : (j : ℕ) → j < n → T (bit wanted j) → bit wanted' j ≡ false → (bit here' j ≡ true)
+      × FullMark count (get_or rows' (64 + j) 0)
 
 -- the same, but for those whose bits of `rest` are set, which are as they were
 pub record MarkedBut (rest n count wanted here : ℕ) (rows : List ℕ) (wanted' here' : ℕ) (rows' : List ℕ) : Type 0 where
-  pub there : (j : ℕ) → j < n → bit rest j ≡ false → bit here' j ≡ (bit here j || (bit wanted j && some (get_or rows j 0)))
+  pub there : (j : ℕ) → j < n → bit rest j ≡ false
+      → bit here' j ≡ (bit here j || (bit wanted j && some (get_or rows j 0)))
   pub mark : (j : ℕ) → j < n → bit rest j ≡ false → (i : ℕ) → i < count
-      → bit (get_or rows' (64 + j) 0) i ≡ (bit (get_or rows (64 + j) 0) i || (bit wanted j && common (get_or rows (32 + i) 0) (get_or rows j 0)))
-  pub settled : (j : ℕ) → j < n → bit rest j ≡ false → T (bit wanted j) → bit wanted' j ≡ false → (bit here' j ≡ true) × FullMark count (get_or rows' (64 + j) 0)
+      → bit (get_or rows' (64 + j) 0) i
+      ≡ (bit (get_or rows (64 + j) 0) i || (bit wanted j && common (get_or rows (32 + i) 0) (get_or rows j 0)))
+  pub settled : (j : ℕ) → j < n → bit rest j ≡ false → T (bit wanted j) → bit wanted' j ≡ false → (bit here' j ≡ true)
+      × FullMark count (get_or rows' (64 + j) 0)
   pub inside : (j : ℕ) → T (bit rest j) → (j < n) × T (bit wanted j)
   pub wanted_kept : (j : ℕ) → T (bit rest j) → bit wanted' j ≡ bit wanted j
   pub here_kept : (j : ℕ) → T (bit rest j) → bit here' j ≡ bit here j

@@ -9,13 +9,19 @@ use Rattle.shares.specs.Constant.{bit}
 use Rattle.words.specs.LowestLaws.{lowest_lt}
 
 -- what fails below 64 * w, and at the d choices from there, fails below 64 * w + d
-pub none_more : (p : ℕ → Bool) (w d : ℕ) → ((z : ℕ) → z < 64 * w → p z ≡ false) → ((i : ℕ) → i < d → p (64 * w + i) ≡ false)
+pub none_more : (p : ℕ → Bool) (w d : ℕ) → ((z : ℕ) → z < 64 * w → p z ≡ false)
+    → ((i : ℕ) → i < d → p (64 * w + i) ≡ false)
     → (z : ℕ) → z < 64 * w + d → p z ≡ false
 none_more p w d h g z l =
-    elim (dec_lt z (64 * w)) [ yes a ↦ h z a | no a ↦ (let e : z ≡ 64 * w + (z - 64 * w) = omega arith in ap p e ∙ g (z - 64 * w) (omega arith)) ]
+    elim (dec_lt z (64 * w)) [
+      | yes a ↦ h z a
+      | no a ↦ (let e : z ≡ 64 * w + (z - 64 * w) =
+          omega arith in ap p e ∙ g (z - 64 * w) (omega arith))
+    ]
 
 -- the first choice that passes is the lowest set bit of the first word that is not 0
-pub found_in_word : (p : ℕ → Bool) (w count x : ℕ) → w < count → x < 2 ^ 64 → (x ≡ 0 → ⊥) → ((z : ℕ) → z < 64 * w → p z ≡ false)
+pub found_in_word : (p : ℕ → Bool) (w count x : ℕ) → w < count → x < 2 ^ 64 → (x ≡ 0 → ⊥)
+    → ((z : ℕ) → z < 64 * w → p z ≡ false)
     → ((i : ℕ) → i < 64 → bit x i ≡ p (64 * w + i)) → 64 * w + first_below 64 (bit x) ≡ first_below (64 * count) p
 found_in_word p w count x hw hx n before word =
     let r = first_below 64 (bit x) in

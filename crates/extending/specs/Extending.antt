@@ -1,4 +1,5 @@
--- Whether rows extend to the second system of a stored question, choice by choice at the leaves of the rows: definitions. Assumes nothing.
+-- Whether rows extend to the second system of a stored question, choice by choice at the leaves of the rows:
+-- definitions. Assumes nothing.
 use Rattle.std.specs.Prelude.{Bool, ◌&&◌, List, ℕ, ◌^◌, get_or}
 use Rattle.shares.specs.Below.{every_below, some_below}
 use Rattle.shares.specs.Blocks.{block_of}

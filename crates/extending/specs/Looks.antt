@@ -1,5 +1,7 @@
--- Sets of choices, and what is found where some of them are looked at: definitions that the contracts of private functions cite. Assumes nothing.
-use Rattle.std.specs.Prelude.{◌≡◌, ◌⊎◌, Bool, not, Option, MatchOption, List, ℕ, ◌+◌, ◌*◌, ◌/◌, ◌%◌, ◌^◌, ◌≤◌, ◌<◌, T, get_or}
+-- Sets of choices, and what is found where some of them are looked at: definitions that the contracts of private
+-- functions cite. Assumes nothing.
+use Rattle.std.specs.Prelude.{◌≡◌, ◌⊎◌, Bool, not, Option, MatchOption, List, ℕ, ◌+◌, ◌*◌, ◌/◌, ◌%◌, ◌^◌, ◌≤◌, ◌<◌, T}
+use Rattle.std.specs.Prelude.{get_or}
 use Rattle.std.specs.Bool.{beq}
 use Rattle.shares.specs.Below.{every_below}
 use Rattle.shares.specs.Constant.{bit}
@@ -25,8 +27,8 @@ pub record Added (choice : ℕ → ℕ) (Given : ℕ → Type 0) (old new : List
 abbrev pub BitOf : ℕ → ℕ → Type 0
 BitOf x i = (i < 64) × T (bit x i)
 
--- where constants have so many levels: the choice at leaf 64 * w + i, and leaves of word w that have the same, among which
--- i is if it is one of those given
+-- where constants have so many levels: the choice at leaf 64 * w + i, and leaves of word w that have the same, among
+-- which i is if it is one of those given
 pub record SameAs (levels : ℕ) (table : List ℕ) (n w i leaves : ℕ) (r : Same) : Type 0 where
   pub choice : r.choice ≡ choice_at levels table n (64 * w + i)
   pub same : (k : ℕ) → BitOf r.leaves k → choice_at levels table n (64 * w + k) ≡ choice_at levels table n (64 * w + i)
@@ -34,7 +36,8 @@ pub record SameAs (levels : ℕ) (table : List ℕ) (n w i leaves : ℕ) (r : Sa
 
 -- leaf i of the rows lies below a leaf of the constants from b on, where they have the values that they have at b
 abbrev pub Alike : ℕ → List ℕ → ℕ → ℕ → Type 0
-Alike levels keys b i = (i < 2 ^ row_levels levels) × (b ≤ over levels i) × (get_or keys (over levels i) 0 ≡ get_or keys b 0)
+Alike levels keys b i = (i < 2 ^ row_levels levels) × (b ≤ over levels i)
+    × (get_or keys (over levels i) 0 ≡ get_or keys b 0)
 
 -- ---- what is found
 
@@ -47,7 +50,8 @@ abbrev pub Unmet : (ℕ → Bool) → (ℕ → Type 0) → Type 0
 Unmet meets Among = (c : ℕ) × Among c × T (not (meets c))
 
 -- none does. A bit of `wanted` goes only where some number has that disequation, and it stays only if none has it
-pub record AllMet (count : ℕ) (meets : ℕ → Bool) (differs : ℕ → ℕ → Bool) (Among : ℕ → Type 0) (wanted rest : ℕ) : Type 0 where
+pub record AllMet (count : ℕ) (meets : ℕ → Bool) (differs : ℕ → ℕ → Bool) (Among : ℕ → Type 0) (wanted rest : ℕ)
+    : Type 0 where
   pub fewer : (j : ℕ) → j < 64 → T (bit rest j) → T (bit wanted j)
   pub all : (c : ℕ) → Among c → T (meets c)
   pub found : (j : ℕ) → j < count → T (bit wanted j) → T (not (bit rest j)) → (c : ℕ) × Among c × T (differs j c)
@@ -64,7 +68,8 @@ module _ (S : Stored) where
 
   -- leaf i of the rows lies where the constants have the values of one of their first b leaves
   abbrev pub SeenBy : ℕ → ℕ → Type 0
-  SeenBy b i = (a : ℕ) × (a < b) × (i < 2 ^ row_levels S.levels) × (values_at_leaf S a ≡ values_at_leaf S (over S.levels i))
+  SeenBy b i = (a : ℕ) × (a < b) × (i < 2 ^ row_levels S.levels)
+      × (values_at_leaf S a ≡ values_at_leaf S (over S.levels i))
 
   -- those leaves of the rows are looked at
   abbrev pub LeavesLooked : List ℕ → ℕ → ℕ → Option ℕ → Type 0

@@ -1,7 +1,10 @@
--- Laws of sets of choices: the choice at a leaf digit by digit, one choice marked, and the choices at the leaves of a word. Assumes nothing.
-use Rattle.std.specs.Prelude.{◌≡◌, ◌⊎◌, Bool, true, false, not, ◌&&◌, ◌||◌, List, ℕ, zero, suc, ◌+◌, ◌-◌, ◌*◌, ◌/◌, ◌%◌, ◌^◌, ◌≤◌, ◌<◌, T, eqb, length, get_or, set, replicate}
+-- Laws of sets of choices: the choice at a leaf digit by digit, one choice marked, and the choices at the leaves of a
+-- word. Assumes nothing.
+use Rattle.std.specs.Prelude.{◌≡◌, ◌⊎◌, Bool, true, false, not, ◌&&◌, ◌||◌, List, ℕ, zero, suc, ◌+◌, ◌-◌, ◌*◌, ◌/◌, ◌%◌}
+use Rattle.std.specs.Prelude.{◌^◌, ◌≤◌, ◌<◌, T, eqb, length, get_or, set, replicate}
 use Rattle.std.proofs.Math.Path.{refl, ap}
-use Rattle.std.proofs.Common.{sym, ap₂, ◌∙◌, subst, inl, inr, pow-suc, mod-lt, lt_of_lt_of_le, add-one, arith, T_not, eqb→eq, pow-add, get_or-set_same, get_or-set_other, eq-eqb}
+use Rattle.std.proofs.Common.{sym, ap₂, ◌∙◌, subst, inl, inr, pow-suc, mod-lt, lt_of_lt_of_le, add-one, arith, T_not}
+use Rattle.std.proofs.Common.{eqb→eq, pow-add, get_or-set_same, get_or-set_other, eq-eqb}
 use Rattle.std.specs.Bool.{beq}
 use Rattle.std.proofs.Math.Decide.{ℕ_discrete}
 use Rattle.std.proofs.Math.Arith.{lt_of_le-ne}
@@ -35,7 +38,8 @@ value_more (suc n) f =
     let ih = value_more n (λ i. f (suc i)) in
     go (f zero) ih
   where
-    go : (b : Bool) → value (rows.table (suc n) (λ i. f (suc i))) ≡ 2 * value (rows.table n (λ i. f (suc i))) + one (f (suc n))
+    go : (b : Bool) → value (rows.table (suc n) (λ i. f (suc i)))
+        ≡ 2 * value (rows.table n (λ i. f (suc i))) + one (f (suc n))
         → one b * 2 ^ suc n + value (rows.table (suc n) (λ i. f (suc i)))
         ≡ 2 * (one b * 2 ^ n + value (rows.table n (λ i. f (suc i)))) + one (f (suc n))
     go true ih = omega (arith, pow-suc 2 n)
@@ -70,17 +74,21 @@ module _ (levels : ℕ) (table : List ℕ) (w i leaves : ℕ) (small : i < 64) w
       → SameAs levels table v w i leaves (record { choice = choice; leaves = same })
       → SameAs levels table (v + 1) w i leaves (record { choice = choice'; leaves = bit_and same like })
   same_more v choice same x like choice' digit ex ed ec el S = record {
-    choice = ec ∙ ap₂ (λ a b. 2 * a + one b) S.choice (ed ∙ sym (here i small)) ∙ sym (choice_more levels table v (64 * w + i));
+    choice = ec ∙ ap₂ (λ a b. 2 * a + one b) S.choice (ed ∙ sym (here i small))
+        ∙ sym (choice_more levels table v (64 * w + i));
     same = λ k b.
         let t = subst T (bit_of_and same like k) b.1 in
-        let e : bit x k ≡ digit = (beq_iff (bit x k) digit).0 (subst T (el k b.0) (and_right (bit same k) (bit like k) t)) in
+        let e : bit x k ≡ digit = (beq_iff (bit x k) digit).0
+        (subst T (el k b.0) (and_right (bit same k) (bit like k) t)) in
         choice_more levels table v (64 * w + k)
-        ∙ ap₂ (λ a b. 2 * a + one b) (S.same k (b.0, and_left (bit same k) (bit like k) t)) (here k b.0 ∙ e ∙ ed ∙ sym (here i small))
+        ∙ ap₂ (λ a b. 2 * a + one b) (S.same k (b.0, and_left (bit same k) (bit like k) t)) (here k b.0 ∙ e ∙ ed
+        ∙ sym (here i small))
         ∙ sym (choice_more levels table v (64 * w + i));
     itself = λ b. (
       small,
       subst T (sym (bit_of_and same like i))
-          (and_intro (bit same i) (bit like i) (S.itself b).1 (subst T (sym (el i small)) ((beq_iff (bit x i) digit).1 (sym ed)))),
+          (and_intro (bit same i) (bit like i) (S.itself b).1
+          (subst T (sym (el i small)) ((beq_iff (bit x i) digit).1 (sym ed)))),
     );
   }
     where
@@ -113,11 +121,13 @@ added_more choice choice' G G' H old mid new parts first second A B = record {
     add i (inl g) = B.kept (choice i) (A.added i g)
     add i (inr (k, g, e)) = subst (λ c. T (in_set new c)) e (B.added k g)
 
-    before : (c : ℕ) → T (in_set old c) ⊎ ((i : ℕ) × G i × (choice i ≡ c)) → T (in_set old c) ⊎ ((i : ℕ) × H i × (choice i ≡ c))
+    before : (c : ℕ) → T (in_set old c) ⊎ ((i : ℕ) × G i × (choice i ≡ c))
+        → T (in_set old c) ⊎ ((i : ℕ) × H i × (choice i ≡ c))
     before c (inl t) = inl t
     before c (inr (i, g, e)) = inr (i, first i g, e)
 
-    from : (c : ℕ) → T (in_set mid c) ⊎ ((k : ℕ) × G' k × (choice' k ≡ c)) → T (in_set old c) ⊎ ((i : ℕ) × H i × (choice i ≡ c))
+    from : (c : ℕ) → T (in_set mid c) ⊎ ((k : ℕ) × G' k × (choice' k ≡ c))
+        → T (in_set old c) ⊎ ((i : ℕ) × H i × (choice i ≡ c))
     from c (inl t) = before c (A.only c t)
     from c (inr (k, g, e)) = let (i, h, f) = second k g in inr (i, h, f ∙ e)
 
@@ -130,17 +140,20 @@ added_as choice G H old new back there A = record {
   only = λ c t. from c (A.only c t);
 }
   where
-    from : (c : ℕ) → T (in_set old c) ⊎ ((i : ℕ) × G i × (choice i ≡ c)) → T (in_set old c) ⊎ ((i : ℕ) × H i × (choice i ≡ c))
+    from : (c : ℕ) → T (in_set old c) ⊎ ((i : ℕ) × G i × (choice i ≡ c))
+        → T (in_set old c) ⊎ ((i : ℕ) × H i × (choice i ≡ c))
     from c (inl t) = inl t
     from c (inr (i, g, e)) = inr (i, there i g, e)
 
 -- one bit of a word set
 marked_bit : (x j k : ℕ) → j < 64 → bit (bit_or x ((1 * 2 ^ j) % 2 ^ 64)) k ≡ (bit x k || eqb k j)
-marked_bit x j k h = bit_of_or x ((1 * 2 ^ j) % 2 ^ 64) k ∙ ap (◌||◌ (bit x k)) (ap (λ y. bit y k) (power_shift j h) ∙ power_bit j k)
+marked_bit x j k h = bit_of_or x ((1 * 2 ^ j) % 2 ^ 64) k
+    ∙ ap (◌||◌ (bit x k)) (ap (λ y. bit y k) (power_shift j h) ∙ power_bit j k)
 
 -- one choice marked
 pub added_one : (old : List ℕ) (choice : ℕ) → choice / 64 < length old
-    → Added (λ c. c) (λ c. c ≡ choice) old (set old (choice / 64) (bit_or (get_or old (choice / 64) 0) ((1 * 2 ^ (choice % 64)) % 2 ^ 64)))
+    → Added (λ c. c) (λ c. c ≡ choice) old
+    (set old (choice / 64) (bit_or (get_or old (choice / 64) 0) ((1 * 2 ^ (choice % 64)) % 2 ^ 64)))
 unfolding in_set
 added_one old choice room = record {
   kept = λ c t. go c (ℕ_discrete (c / 64) (choice / 64)) t;
@@ -161,19 +174,23 @@ added_one old choice room = record {
 
     stored : (c : ℕ) → c / 64 ≡ choice / 64 → in_set new c ≡ (bit word (c % 64) || eqb (c % 64) (choice % 64))
     stored c e =
-        ap (λ x. bit x (c % 64)) (ap (λ w. get_or new w 0) e ∙ get_or-set_same old (choice / 64) _ 0 room) ∙ marked_bit word (choice % 64) (c % 64) small
+        ap (λ x. bit x (c % 64)) (ap (λ w. get_or new w 0) e ∙ get_or-set_same old (choice / 64) _ 0 room)
+        ∙ marked_bit word (choice % 64) (c % 64) small
 
     here : (c : ℕ) → c / 64 ≡ choice / 64 → T (bit word (c % 64) || eqb (c % 64) (choice % 64)) → T (in_set new c)
     here c e t = subst T (sym (stored c e)) t
 
     go : (c : ℕ) → Dec (c / 64 ≡ choice / 64) → T (in_set old c) → T (in_set new c)
-    go c (yes e) t = here c e (or_left (bit word (c % 64)) (eqb (c % 64) (choice % 64)) (subst (λ w. T (bit (get_or old w 0) (c % 64))) e t))
+    go c (yes e) t = here c e (or_left (bit word (c % 64)) (eqb (c % 64) (choice % 64))
+        (subst (λ w. T (bit (get_or old w 0) (c % 64))) e t))
     go c (no n) t = subst (λ x. T (bit x (c % 64))) (sym (get_or-set_other old (choice / 64) (c / 64) _ 0 n)) t
 
-    from : (c : ℕ) → Dec (c / 64 ≡ choice / 64) → T (in_set new c) → T (in_set old c) ⊎ ((i : ℕ) × (i ≡ choice) × (i ≡ c))
+    from : (c : ℕ) → Dec (c / 64 ≡ choice / 64) → T (in_set new c)
+        → T (in_set old c) ⊎ ((i : ℕ) × (i ≡ choice) × (i ≡ c))
     from c (yes e) t = split (or_cases (bit word (c % 64)) (eqb (c % 64) (choice % 64)) (subst T (stored c e) t))
       where
-        split : T (bit word (c % 64)) ⊎ T (eqb (c % 64) (choice % 64)) → T (in_set old c) ⊎ ((i : ℕ) × (i ≡ choice) × (i ≡ c))
+        split : T (bit word (c % 64)) ⊎ T (eqb (c % 64) (choice % 64))
+            → T (in_set old c) ⊎ ((i : ℕ) × (i ≡ choice) × (i ≡ c))
         split (inl u) = inl (subst (λ w. T (bit (get_or old w 0) (c % 64))) (sym e) u)
         split (inr u) = let f = eqb→eq (c % 64) (choice % 64) u in inr (c, omega arith, refl)
     from c (no n) t = inl (subst (λ x. T (bit x (c % 64))) (get_or-set_other old (choice / 64) (c / 64) _ 0 n) t)
@@ -185,16 +202,24 @@ abbrev pub Done : ℕ → ℕ → ℕ → Type 0
 Done leaves rest k = BitOf leaves k × T (not (bit rest k))
 
 -- a set bit taken out makes a word smaller
-pub less_rest : (rest same i : ℕ) → same < 2 ^ 64 → BitOf rest i → BitOf same i → bit_and rest ((2 ^ 64 - 1) - same) < rest
+pub less_rest : (rest same i : ℕ) → same < 2 ^ 64 → BitOf rest i → BitOf same i
+    → bit_and rest ((2 ^ 64 - 1) - same) < rest
 less_rest rest same i small r s = lt_of_le-ne (and_le_l rest ((2 ^ 64 - 1) - same)) (λ e.
     T_not (bit same i)
     (subst T (bit_not 64 same i small s.0)
-    (and_right (bit rest i) (bit ((2 ^ 64 - 1) - same) i) (subst T (sym (ap (λ y. bit y i) e) ∙ bit_of_and rest ((2 ^ 64 - 1) - same) i) r.1)))
+    (and_right (bit rest i) (bit ((2 ^ 64 - 1) - same) i)
+    (subst T (sym (ap (λ y. bit y i) e) ∙ bit_of_and rest ((2 ^ 64 - 1) - same) i) r.1)))
     s.1)
 
 -- what is left of the rest
-pub rest_more : (leaves rest same k : ℕ) → ((k : ℕ) → BitOf rest k → BitOf leaves k) → BitOf (bit_and rest ((2 ^ 64 - 1) - same)) k → BitOf leaves k
-rest_more leaves rest same k within b = within k (b.0, and_left (bit rest k) (bit ((2 ^ 64 - 1) - same) k) (subst T (bit_of_and rest ((2 ^ 64 - 1) - same) k) b.1))
+pub rest_more : (leaves rest same k : ℕ) → ((k : ℕ) → BitOf rest k → BitOf leaves k)
+    → BitOf (bit_and rest ((2 ^ 64 - 1) - same)) k → BitOf leaves k
+rest_more leaves rest same k within b =
+    within k (
+      b.0,
+      and_left (bit rest k) (bit ((2 ^ 64 - 1) - same) k)
+          (subst T (bit_of_and rest ((2 ^ 64 - 1) - same) k) b.1),
+    )
 
 module _ (levels : ℕ) (table : List ℕ) (n w leaves : ℕ) where
   -- the choices at the leaves of one word
@@ -204,7 +229,8 @@ module _ (levels : ℕ) (table : List ℕ) (n w leaves : ℕ) where
   pub word_start : (old : List ℕ) → Added word_choice (Done leaves leaves) old old
   word_start old = added_none word_choice (Done leaves leaves) old (λ i d. T_not (bit leaves i) d.1 d.0.1)
 
-  pub word_more : (rest i choice same : ℕ) (old mid new : List ℕ) → same < 2 ^ 64 → BitOf rest i → ((k : ℕ) → BitOf rest k → BitOf leaves k)
+  pub word_more : (rest i choice same : ℕ) (old mid new : List ℕ) → same < 2 ^ 64 → BitOf rest i
+      → ((k : ℕ) → BitOf rest k → BitOf leaves k)
       → SameAs levels table n w i rest (record { choice = choice; leaves = same })
       → Added word_choice (Done leaves rest) old mid → Added (λ c. c) (λ c. c ≡ choice) mid new
       → Added word_choice (Done leaves (bit_and rest ((2 ^ 64 - 1) - same))) old new
@@ -221,7 +247,8 @@ module _ (levels : ℕ) (table : List ℕ) (n w leaves : ℕ) where
 
       gone : (k : ℕ) → T (not (bit rest k)) ⊎ BitOf same k → T (not (bit rest' k))
       gone k (inl t) = not_T (bit rest' k) (λ u.
-          T_not (bit rest k) t (and_left (bit rest k) (bit ((2 ^ 64 - 1) - same) k) (subst T (bit_of_and rest ((2 ^ 64 - 1) - same) k) u)))
+          T_not (bit rest k) t (and_left (bit rest k) (bit ((2 ^ 64 - 1) - same) k)
+          (subst T (bit_of_and rest ((2 ^ 64 - 1) - same) k) u)))
       gone k (inr b) = not_T (bit rest' k) (λ u.
           T_not (bit same k) (and_right (bit rest k) (not (bit same k)) (subst T (is k b.0) u)) b.1)
 
@@ -230,12 +257,15 @@ module _ (levels : ℕ) (table : List ℕ) (n w leaves : ℕ) where
       part k d (inr t) = inl (d.0, t)
       part k d (inl t) = taken (passes (bit same k))
         where
-          taken : T (bit same k) ⊎ T (not (bit same k)) → Done leaves rest k ⊎ ((c : ℕ) × (c ≡ choice) × (c ≡ word_choice k))
+          taken : T (bit same k) ⊎ T (not (bit same k))
+              → Done leaves rest k ⊎ ((c : ℕ) × (c ≡ choice) × (c ≡ word_choice k))
           taken (inl u) = inr (choice, refl, S.choice ∙ sym (S.same k (d.0.0, u)))
           taken (inr u) =
-              absurd (T_not (bit rest' k) d.1 (subst T (sym (is k d.0.0)) (and_intro (bit rest k) (not (bit same k)) t u)))
+              absurd (T_not (bit rest' k) d.1
+              (subst T (sym (is k d.0.0)) (and_intro (bit rest k) (not (bit same k)) t u)))
 
-  pub word_done : (rest : ℕ) (old new : List ℕ) → rest ≡ 0 → Added word_choice (Done leaves rest) old new → Added word_choice (BitOf leaves) old new
+  pub word_done : (rest : ℕ) (old new : List ℕ) → rest ≡ 0 → Added word_choice (Done leaves rest) old new
+      → Added word_choice (BitOf leaves) old new
   word_done rest old new e =
       added_as word_choice (Done leaves rest) (BitOf leaves) old new
       (λ k b. (b, not_T (bit rest k) (λ t. subst T (ap (λ x. bit x k) e ∙ bit_zero k) t))) (λ k d. d.0)

@@ -1,8 +1,9 @@
-// Whether the rows of a solution extend to the second system: each free choice that stands at a leaf of the rows is tried once with the values that the constants
-// have there, beside all own choices, 64 at a time.
+// Whether the rows of a solution extend to the second system: each free choice that stands at a leaf of the rows is
+// tried once with the values that the constants have there, beside all own choices, 64 at a time.
 #![tactic(auto)]
 
-ghost use Rattle.std.specs.Prelude.{◌≡◌, ◌&&◌, ◌||◌, not, List, ℕ, ◌+◌, ◌*◌, ◌/◌, ◌%◌, ◌^◌, ◌≤◌, ◌<◌, ltb, eqb, length, get_or};
+ghost use Rattle.std.specs.Prelude.{◌≡◌, ◌&&◌, ◌||◌, not, List, ℕ, ◌+◌, ◌*◌, ◌/◌, ◌%◌, ◌^◌, ◌≤◌, ◌<◌, ltb, eqb, length};
+ghost use Rattle.std.specs.Prelude.{get_or};
 ghost use Rattle.std.specs.Bool.{beq};
 ghost use Rattle.shares.specs.Below.{one};
 ghost use Rattle.shares.specs.Constant.{bit, constant_levels};
@@ -12,7 +13,8 @@ ghost use Rattle.words.specs.Table.{Terms, Within};
 ghost use Rattle.steps.specs.Steps.{posed, PlacedWithin};
 ghost use Rattle.unfolded.specs.Unfolded.{row_words};
 ghost use Rattle.extending.specs.Extending.{choice_at, extends_in};
-ghost use Rattle.extending.specs.Looks.{Added, BitOf, SameAs, Alike, alike, ChoicesLooked, LeavesLooked, InWord, InWords, KeysOf};
+ghost use Rattle.extending.specs.Looks.{Added, BitOf, SameAs, Alike, alike, ChoicesLooked, LeavesLooked, InWord};
+ghost use Rattle.extending.specs.Looks.{InWords, KeysOf};
 
 use beside::Searchable;
 use unfolded::TABLE_WORDS;
@@ -82,7 +84,8 @@ fn mark_word(
     present: &mut [u64; 64],
 )
     requires { (free ≤ row_count) × (w < row_words constant_levels) }
-    ensures { Added (λ k. choice_at constant_levels table.now free (64 * w + k)) (BitOf leaves) present.old present.new }
+    ensures { Added (λ k. choice_at constant_levels table.now free (64 * w + k)) (BitOf leaves) present.old
+        present.new }
 {
     let mut rest = leaves;
     while rest != 0 {
@@ -112,7 +115,8 @@ fn mark_alike(
     present: &mut [u64; 64],
 )
     requires { (free ≤ row_count) × (b < 32) }
-    ensures { Added (choice_at constant_levels table.now free) (Alike constant_levels keys.now b) present.old present.new }
+    ensures { Added (choice_at constant_levels table.now free) (Alike constant_levels keys.now b) present.old
+        present.new }
 {
     for a in b..LEAVES {
         if keys[a] == keys[b] {
@@ -155,7 +159,9 @@ fn look_word(
     wanted: u64,
 ) -> Option<u64>
     requires { w < word_count question.now.sizes.free }
-    ensures { (values v : ℕ) → Terms question.now.sizes.free question.now.sizes.own values v terms.old → ((u : ℕ) × Terms question.now.sizes.free question.now.sizes.own values u terms.new) × ChoicesLooked (posed question.now) values (InWord w choices) wanted result }
+    ensures { (values v : ℕ) → Terms question.now.sizes.free question.now.sizes.own values v terms.old
+        → ((u : ℕ) × Terms question.now.sizes.free question.now.sizes.own values u terms.new)
+        × ChoicesLooked (posed question.now) values (InWord w choices) wanted result }
 {
     if choices == 0 {
         return Some(wanted);
@@ -179,7 +185,10 @@ fn look_words(
     present: &[u64; 64],
     wanted: u64,
 ) -> Option<u64>
-    ensures { (values v : ℕ) → Terms question.now.sizes.free question.now.sizes.own values v terms.old → ((u : ℕ) × Terms question.now.sizes.free question.now.sizes.own values u terms.new) × ChoicesLooked (posed question.now) values (InWords (word_count question.now.sizes.free) present.now) wanted result }
+    ensures { (values v : ℕ) → Terms question.now.sizes.free question.now.sizes.own values v terms.old
+        → ((u : ℕ) × Terms question.now.sizes.free question.now.sizes.own values u terms.new)
+        × ChoicesLooked (posed question.now) values (InWords (word_count question.now.sizes.free) present.now) wanted
+        result }
 {
     let mut rest = wanted;
     for w in 0..words::word_count(question.sizes.free) {
@@ -198,9 +207,13 @@ fn look_leaf(
     terms: &mut [u64; 64],
     wanted: u64,
 ) -> Option<u64>
-    requires { (b < 32) × (question.now.sizes.named < 2 ^ 32) × Within question.now.sizes.named (get_or keys.now b 0) × PlacedWithin question.now.sizes.free question.now.sizes.own question.now.sizes.named terms.old }
-    ensures placed_within { PlacedWithin question.now.sizes.free question.now.sizes.own question.now.sizes.named terms.new }
-    ensures by_index { (start : ℕ) → KeysOf (posed question.now) keys.now → LeavesLooked (posed question.now) table.now b start (Some wanted) → LeavesLooked (posed question.now) table.now (b + 1) start result }
+    requires { (b < 32) × (question.now.sizes.named < 2 ^ 32) × Within question.now.sizes.named (get_or keys.now b 0)
+        × PlacedWithin question.now.sizes.free question.now.sizes.own question.now.sizes.named terms.old }
+    ensures placed_within { PlacedWithin question.now.sizes.free question.now.sizes.own question.now.sizes.named
+        terms.new }
+    ensures by_index { (start : ℕ) → KeysOf (posed question.now) keys.now
+        → LeavesLooked (posed question.now) table.now b start (Some wanted)
+        → LeavesLooked (posed question.now) table.now (b + 1) start result }
 {
     if pass::first_like(keys, keys[b], b).is_some() {
         return Some(wanted);
@@ -214,7 +227,8 @@ fn look_leaf(
 // The values of the constants that are named, at each leaf.
 fn put_keys(constants: &[u64; 32], named: u64, keys: &mut [u32; 64])
     requires { named < 2 ^ 32 }
-    ensures { (a : ℕ) → a < 2 ^ constant_levels → get_or keys.new a 0 ≡ values_at constant_levels constants.now named constant_levels a }
+    ensures { (a : ℕ) → a < 2 ^ constant_levels
+        → get_or keys.new a 0 ≡ values_at constant_levels constants.now named constant_levels a }
 {
     for b in 0..LEAVES {
         keys[b] = words::values_at(constants, named, LEVELS, b);

@@ -4,7 +4,8 @@
 pub mod sections;
 
 ghost use Rattle.std.specs.Prelude.{◌≡◌, ◌+◌, ◌≤◌};
-ghost use Rattle.format.specs.Format.{read_at, names, variables_for, term_named, all_named, clause_fault, constant_fault};
+ghost use Rattle.format.specs.Format.{read_at, names, variables_for, term_named, all_named, clause_fault};
+ghost use Rattle.format.specs.Format.{constant_fault};
 ghost use Rattle.format.specs.Stored.{count_of, Counted};
 ghost use Rattle.format.specs.Keeping.{clause_total, foreign_to, fault_of, judged_of};
 ghost use Rattle.format.specs.Numbers.{kind_value};
@@ -148,7 +149,8 @@ pub fn read_command(
     counts: &[usize; 4],
 ) -> Result<Taken, Fault>
     requires counted { Counted counts.now }
-    ensures { step_told result ≡ judged_of (kind_value head.kind) head.free head.own constants counts.now (read_at bytes.now at) }
+    ensures { step_told result ≡ judged_of (kind_value head.kind) head.free head.own constants counts.now
+        (read_at bytes.now at) }
 {
     let taken = commands::read_at(bytes, at)?;
     fault_of(head, constants, counts, taken.command)?;

@@ -8,7 +8,8 @@ use Rattle.systems.specs.AtLeaves.{LeafReading}
 use Rattle.format.specs.declared.Question.{Question as Held}
 use Rattle.format.specs.Numbers.{kind_value}
 use Rattle.format.specs.Format.{Result, refused, accepted, read}
-use Rattle.format.specs.Stored.{kind_number, reading_from, four_at, readings_at, Stored, stored_of, Stands, refused_with, held, reading_of}
+use Rattle.format.specs.Stored.{kind_number, reading_from, four_at, readings_at, Stored, stored_of, Stands}
+use Rattle.format.specs.Stored.{refused_with, held, reading_of}
 use Rattle.format.proofs.FormatLaws.{accepted_formed}
 use Rattle.format.proofs.KeepingLaws.{readings_length}
 
@@ -64,13 +65,17 @@ module _ {k : ℕ} (x : Stored) (q : Question) (d : Stands k x q) where
 -- ---- clauses in bytes
 
 -- the reading of clause number i of n that start at an offset
-pub readings_at_lem : (l : List ℕ) (start n i : ℕ) (t : LeafReading) → i < n → get_or (readings_at l start n) i t ≡ reading_from (four_at l (start + 4 * i))
+pub readings_at_lem : (l : List ℕ) (start n i : ℕ) (t : LeafReading) → i < n
+    → get_or (readings_at l start n) i t ≡ reading_from (four_at l (start + 4 * i))
 unfolding readings_at
 readings_at_lem l start zero i t h = absurd (not-suc-le-zero h)
 readings_at_lem l start (suc n) i t h = pick (eq-or-lt_of_le (le_of_suc-le-suc h)) (readings_at_lem l start n i t)
   where
     pick : (i ≡ n) ⊎ (i < n) → (i < n → get_or (readings_at l start n) i t ≡ reading_from (four_at l (start + 4 * i)))
-        → get_or (readings_at l start n ++ (reading_from (four_at l (start + 4 * n)) ∷ [])) i t ≡ reading_from (four_at l (start + 4 * i))
+        → get_or (readings_at l start n ++ (reading_from (four_at l (start + 4 * n)) ∷ [])) i t
+        ≡ reading_from (four_at l (start + 4 * i))
     pick (inl e) ih =
-        get_or_at (readings_at l start n) (reading_from (four_at l (start + 4 * n))) [] t i (readings_length l start n ∙ sym e) ∙ ap (λ j. reading_from (four_at l (start + 4 * j))) (sym e)
-    pick (inr k) ih = get_or-append (readings_at l start n) (reading_from (four_at l (start + 4 * n)) ∷ []) t i (rw readings_length k) ∙ ih k
+        get_or_at (readings_at l start n) (reading_from (four_at l (start + 4 * n))) [] t i (readings_length l start n
+        ∙ sym e) ∙ ap (λ j. reading_from (four_at l (start + 4 * j))) (sym e)
+    pick (inr k) ih = get_or-append (readings_at l start n) (reading_from (four_at l (start + 4 * n)) ∷ []) t i
+        (rw readings_length k) ∙ ih k

@@ -1,5 +1,6 @@
 -- Reading accepts exactly the strings of questions, and refuses exactly by the first fault. Assumes nothing.
-use Rattle.std.specs.Prelude.{◌≡◌, Bool, true, false, ◌&&◌, List, [], ◌∷◌, ◌⊎◌, ◌↔◌, eqb, ltb, leb, get_or, drop, Option, Some, None}
+use Rattle.std.specs.Prelude.{◌≡◌, Bool, true, false, ◌&&◌, List, [], ◌∷◌, ◌⊎◌, ◌↔◌, eqb, ltb, leb, get_or, drop}
+use Rattle.std.specs.Prelude.{Option, Some, None}
 use Rattle.std.proofs.Math.Path.{refl, ap, subst}
 use Rattle.std.proofs.Common.{sym, ◌∙◌}
 use Rattle.std.proofs.Math.Bool.{cond}
@@ -18,7 +19,8 @@ use Rattle.format.specs.Format.{Head, Opens, Wrong, Step, Take, Refused}
 use Rattle.format.specs.Format.{Result, refused, accepted, most_variables, most_constants, entry_of, term_count}
 use Rattle.format.specs.Format.{operands, term_byte, command_of, whole_at, read_at, is_second, most_of, in_section}
 use Rattle.format.specs.Format.{term_of, names, variables_for, term_named, is_foreign, clause_fault, constant_fault}
-use Rattle.format.specs.Format.{begun, fault, judged, ended, onward, turn, following, run, head_fits, opened, head_of, after_head, read}
+use Rattle.format.specs.Format.{begun, fault, judged, ended, onward, turn, following, run, head_fits, opened, head_of}
+use Rattle.format.specs.Format.{after_head, read}
 use Rattle.format.proofs.FormatLaws.{branch, term_small, named_defined_lem, run_enough, head_fits_lem}
 use Rattle.format.specs.Faults.{Announced, after, NoHead, OutOfPlace, Unfit, ConstantTooMany, ClauseTooMany}
 use Rattle.format.specs.Faults.{NamesNothing, ForeignClause, Due, head_due, command_due, nothing_due, faults_at}
@@ -263,7 +265,13 @@ module _ (s : List ℕ) (at : ℕ) (q : Question) where
       branch Judged (eqb number 0) (whole h) (Refused number) (λ e. record {
         shape = h;
         announced = a;
-        clear = (byte_there a, (byte_known a, (not_cut a l, numbered_none (eqb-true number 0 e) (whole_faults_lem h a))));
+        clear = (
+          byte_there a,
+          (
+            byte_known a,
+            (not_cut a l, numbered_none (eqb-true number 0 e) (whole_faults_lem h a)),
+          ),
+        );
         step = refl;
         within = l;
       })
@@ -373,11 +381,13 @@ module _ (s : List ℕ) where
       rest : Head
       rest = cond (ltb (length s) 4) (Wrong 2) (cond (head_fits kind free own) (Opens kind free own) (Wrong 5))
 
-      pick : (b c : Bool) → ltb 0 (length s) ≡ b → eqb (get_or s 0 0) 0x01 ≡ c → HeadJudged (cond (b && c) rest (Wrong 1))
+      pick : (b c : Bool) → ltb 0 (length s) ≡ b → eqb (get_or s 0 0) 0x01 ≡ c
+          → HeadJudged (cond (b && c) rest (Wrong 1))
       pick true true e f =
           let l = ltb-true 0 (length s) e in
           let z = eqb-true (get_or s 0 0) 0x01 f in
-          branch HeadJudged (ltb (length s) 4) (Wrong 2) (cond (head_fits kind free own) (Opens kind free own) (Wrong 5))
+          branch HeadJudged (ltb (length s) 4) (Wrong 2)
+          (cond (head_fits kind free own) (Opens kind free own) (Wrong 5))
           (λ g. cut_head l z (ltb-true (length s) 4 g)) (λ g. whole_head l z (ltb-false (length s) 4 g))
       pick true false e f = inl (refl, inr (eqb-false (get_or s 0 0) 0x01 f))
       pick false c e f = inl (refl, inl (omega (arith, ltb-false 0 (length s) e)))
@@ -402,7 +412,8 @@ module _ (s : List ℕ) where
       then : Step → Result
       then j = following (λ q' at'. run k s at' q') (onward s at q j)
 
-      on : (h : Shape) → Announced s at h → NoneOf (faults_at s at (command_due q)) → after at h ≤ length s → RightFrom k
+      on : (h : Shape) → Announced s at h → NoneOf (faults_at s at (command_due q)) → after at h ≤ length s
+          → RightFrom k
           → Right (then (whole s at q h))
       on Shape.End a c m again =
           branch Right (eqb (at + 1 + 0) (length s)) (accepted q) (refused 10 (at + 1 + 0))
@@ -481,7 +492,8 @@ module _ (s : List ℕ) where
           (f.within, r ∙ ap (run (suc (length s)) s 4) f.question)
 
   after_command : (at : ℕ) (q : Question) (h : Shape) → Stands at (command_due q)
-      → NoneOf (faults_at s at (command_due q)) → Announced s at h → Stands (after at h) (due_after s at (command_due q) h)
+      → NoneOf (faults_at s at (command_due q)) → Announced s at h
+      → Stands (after at h) (due_after s at (command_due q) h)
   unfolding command_of
   after_command at q h w c a = let t = clear_taken at q h w.0 c a in pick h t.0 t.1
     where

@@ -1,14 +1,19 @@
 -- Laws of reading: an accepted question is well formed and within the limits, and so are the places. Assumes nothing.
-use Rattle.std.specs.Prelude.{◌≡◌, refl, Bool, true, false, cond, ◌&&◌, List, [], ◌∷◌, ◌++◌, ℕ, zero, suc, ◌+◌, ◌-◌, ◌*◌, ◌≤◌, ◌<◌, T, eqb, ltb, leb, length, get_or}
-use Rattle.std.proofs.Common.{ap, subst, ◌∙◌, zero-le, arith, lt-ltb, ltb-true, ltb-false, leb-false, eqb-true, ltb→lt, lit<, length-append}
+use Rattle.std.specs.Prelude.{◌≡◌, refl, Bool, true, false, cond, ◌&&◌, List, [], ◌∷◌, ◌++◌, ℕ, zero, suc, ◌+◌, ◌-◌}
+use Rattle.std.specs.Prelude.{◌*◌, ◌≤◌, ◌<◌, T, eqb, ltb, leb, length, get_or}
+use Rattle.std.proofs.Common.{ap, subst, ◌∙◌, zero-le, arith, lt-ltb, ltb-true, ltb-false, leb-false, eqb-true, ltb→lt}
+use Rattle.std.proofs.Common.{lit<, length-append}
 use Rattle.std.proofs.lemmas.Bool.{eqb-false}
 use Rattle.shares.specs.Constant.{constant_levels, bytes_at}
 use Rattle.shares.specs.Test.{of_true, and_left, and_right}
-use Rattle.systems.specs.Clauses.{Constants, Term, variable, constant, Atom, Clause, positive, negated, System, positives, disequations}
-use Rattle.systems.specs.Questions.{Kind, satisfiability, entailment, Question, Defined, InAtom, InSystem, Alone, WellFormed}
+use Rattle.systems.specs.Clauses.{Constants, Term, variable, constant, Atom, Clause, positive, negated, System}
+use Rattle.systems.specs.Clauses.{positives, disequations}
+use Rattle.systems.specs.Questions.{Kind, satisfiability, entailment, Question, Defined, InAtom, InSystem, Alone}
+use Rattle.systems.specs.Questions.{WellFormed}
 use Rattle.format.specs.Worked
 use Rattle.format.specs.declared.Section.{Section}
-use Rattle.format.specs.declared.Section.TheVariants.{FirstPositive, FirstDisequation, SecondPositive, SecondDisequation}
+use Rattle.format.specs.declared.Section.TheVariants.{FirstPositive, FirstDisequation, SecondPositive}
+use Rattle.format.specs.declared.Section.TheVariants.{SecondDisequation}
 use Rattle.format.specs.declared.Test.{Test}
 use Rattle.format.specs.declared.Test.TheVariants.{Join, Equality, Full, Empty, Together}
 use Rattle.format.specs.declared.Shape.{Shape}
@@ -17,7 +22,12 @@ use Rattle.format.specs.declared.Command.{Command}
 use Rattle.format.specs.Format.{Head, Opens, Wrong, Step, Take, Refused}
 use Rattle.format.specs.Limits.{Limited, longest}
 use Rattle.format.specs.SectionLaws.{both_counts, added, Alike, same, other, alike, constant_sections, clause_keeps}
-use Rattle.format.specs.Format.{Result, refused, accepted, most_variables, most_constants, entry_of, term_count, operands, command_of, whole_at, read_at, is_second, most_of, in_section, term_of, names, variables_for, term_named, all_named, atom_of, is_foreign, clause_fault, constant_fault, fault, judged, begun, with_first, with_second, with_clause, with_constant, taken, ended, Turn, go, stop, onward, turn, following, run, head_fits, opened, head_of, after_head, read}
+use Rattle.format.specs.Format.{Result, refused, accepted, most_variables, most_constants, entry_of, term_count}
+use Rattle.format.specs.Format.{operands, command_of, whole_at, read_at, is_second, most_of, in_section, term_of, names}
+use Rattle.format.specs.Format.{variables_for, term_named, all_named, atom_of, is_foreign, clause_fault, constant_fault}
+use Rattle.format.specs.Format.{fault, judged, begun, with_first, with_second, with_clause, with_constant, taken, ended}
+use Rattle.format.specs.Format.{Turn, go, stop, onward, turn, following, run, head_fits, opened, head_of, after_head}
+use Rattle.format.specs.Format.{read}
 
 -- ---- the statements
 
@@ -75,7 +85,8 @@ whole_entry s at l (Some h) =
 pub read_whole : (s : List ℕ) (at : ℕ) → Whole s at (read_at s at)
 unfolding read_at
 read_whole s at =
-    branch (Whole s at) (ltb at (length s)) _ (Refused 2) (λ l. whole_entry s at (ltb-true _ _ l) (entry_of (get_or s at 0)))
+    branch (Whole s at) (ltb at (length s)) _ (Refused 2)
+    (λ l. whole_entry s at (ltb-true _ _ l) (entry_of (get_or s at 0)))
     (λ _. (omega arith, omega arith))
 
 -- ---- a command with no fault
@@ -97,7 +108,8 @@ pub record ClauseFits (q : Question) (σ : Section) (t : Test) (a b c : ℕ) : T
   pub room : length (in_section q σ) < most_of σ
   pub named : T (all_named (variables_for q.free q.own σ) (length q.constants.numbers) t a b c)
 
-pub clause_fits : (q : Question) (σ : Section) (t : Test) (a b c : ℕ) → fault q (Command.Clause σ t a b c) ≡ 0 → ClauseFits q σ t a b c
+pub clause_fits : (q : Question) (σ : Section) (t : Test) (a b c : ℕ) → fault q (Command.Clause σ t a b c) ≡ 0
+    → ClauseFits q σ t a b c
 unfolding fault
 clause_fits q σ t a b c e =
     let named = all_named (variables_for q.free q.own σ) (length q.constants.numbers) t a b c in
@@ -136,11 +148,13 @@ fault_small q (Command.Clause σ t a b c) =
     (all_named (variables_for q.free q.own σ) (length q.constants.numbers) t a b c)
 
 -- a command that is taken was read, and has no fault
-pub judged_take : (q : Question) (r : Step) (c : Command) (next : ℕ) → judged q r ≡ Take c next → (r ≡ Take c next) × (fault q c ≡ 0)
+pub judged_take : (q : Question) (r : Step) (c : Command) (next : ℕ) → judged q r ≡ Take c next → (r ≡ Take c next)
+    × (fault q c ≡ 0)
 judged_take q (Refused n) c next e = let z : ◌≡◌ {A = ℕ} 0 1 = cc in absurd (omega arith)
 judged_take q (Take c' next') c next e = pick (eqb (fault q c') 0) refl e
   where
-    pick : (b : Bool) → eqb (fault q c') 0 ≡ b → cond b (Take c' next') (Refused (fault q c')) ≡ Take c next → (Take c' next' ≡ Take c next) × (fault q c ≡ 0)
+    pick : (b : Bool) → eqb (fault q c') 0 ≡ b → cond b (Take c' next') (Refused (fault q c')) ≡ Take c next
+        → (Take c' next' ≡ Take c next) × (fault q c ≡ 0)
     pick true f g = let h : c' ≡ c = cc in (g, rw (← h) (eqb-true (fault q c') 0 f))
     pick false f g = let z : ◌≡◌ {A = ℕ} 0 1 = cc in absurd (omega arith)
 
@@ -150,7 +164,8 @@ pub named_defined_lem : (n : ℕ) (cs : Constants) (t : ℕ) → T (names n (len
 unfolding names term_of
 named_defined_lem n cs t h = pick (ltb t 0x20) h
   where
-    pick : (b : Bool) → T (cond b (ltb t n) (ltb (t - 0x20) (length cs.numbers))) → Defined n cs (cond b (variable t) (constant (t - 0x20)))
+    pick : (b : Bool) → T (cond b (ltb t n) (ltb (t - 0x20) (length cs.numbers)))
+        → Defined n cs (cond b (variable t) (constant (t - 0x20)))
     pick true u = ltb→lt _ _ u
     pick false u = ltb→lt _ _ u
 
@@ -190,7 +205,8 @@ in_test P n k f t a b c h = go t (each_named n k t a b c h)
 pub record Sound (q : Question) (at : ℕ) : Type 0 where
   pub formed : WellFormed q
   pub limited : Limited q
-  pub reach : at ≤ 4 + (1 + bytes_at constant_levels) * length q.constants.numbers + 4 * (length q.first + length q.second)
+  pub reach : at ≤ 4 + (1 + bytes_at constant_levels) * length q.constants.numbers + 4 *
+      (length q.first + length q.second)
 
 -- so reading stands before the last byte of the longest question
 pub sound_place : (q : Question) (at : ℕ) → Sound q at → at < longest constant_levels
@@ -211,7 +227,8 @@ none_in : (P : Term → Type 0) (s : System) → length s ≡ 0 → InSystem P s
 none_in P [] e = tt
 none_in P (c ∷ s) e = absurd (omega arith)
 
-sound_constant : (q : Question) (at x : ℕ) → Sound q at → ConstantFits q → Sound (with_constant q x) (at + (1 + bytes_at constant_levels))
+sound_constant : (q : Question) (at x : ℕ) → Sound q at → ConstantFits q
+    → Sound (with_constant q x) (at + (1 + bytes_at constant_levels))
 sound_constant q at x d f = record {
   formed = record {
     alone = d.formed.alone;
@@ -227,7 +244,8 @@ sound_constant q at x d f = record {
   reach = simp length-append (omega (arith, d.reach));
 }
 
-formed_first : (q : Question) (c : Clause) → WellFormed q → InSystem (Defined q.free q.constants) (c ∷ []) → WellFormed (with_first q c)
+formed_first : (q : Question) (c : Clause) → WellFormed q → InSystem (Defined q.free q.constants) (c ∷ [])
+    → WellFormed (with_first q c)
 formed_first q c w h = record { alone = w.alone; first = in_append _ q.first (c ∷ []) w.first h; second = w.second }
 
 -- where the second system is there
@@ -235,9 +253,11 @@ alone_second : (k : Kind) (m : ℕ) (s : System) (σ : Section) → is_second σ
 alone_second satisfiability m s σ e f = let z : ◌≡◌ {A = ℕ} 0 1 = cc in absurd (omega arith)
 alone_second entailment m s σ e f = tt
 
-formed_second : (q : Question) (σ : Section) (c : Clause) → is_second σ ≡ true → is_foreign q.kind σ ≡ false → WellFormed q
+formed_second : (q : Question) (σ : Section) (c : Clause) → is_second σ ≡ true → is_foreign q.kind σ ≡ false
+    → WellFormed q
     → InSystem (Defined (q.free + q.own) q.constants) (c ∷ []) → WellFormed (with_second q c)
-formed_second q σ c e f w h = record { alone = alone_second q.kind _ _ σ e f; first = w.first; second = in_append _ q.second (c ∷ []) w.second h }
+formed_second q σ c e f w h =
+    record { alone = alone_second q.kind _ _ σ e f; first = w.first; second = in_append _ q.second (c ∷ []) w.second h }
 
 formed_clause : (q : Question) (σ : Section) (a : Atom) → is_foreign q.kind σ ≡ false → WellFormed q
     → InAtom (Defined (variables_for q.free q.own σ) q.constants) a → WellFormed (with_clause q σ a)
@@ -246,7 +266,8 @@ formed_clause q FirstDisequation a f w h = formed_first q (negated a) w (h, tt)
 formed_clause q SecondPositive a f w h = formed_second q SecondPositive (positive a) refl f w (h, tt)
 formed_clause q SecondDisequation a f w h = formed_second q SecondDisequation (negated a) refl f w (h, tt)
 
-section_limit : (q : Question) (σ τ : Section) (a : Atom) → length (in_section q σ) < most_of σ → length (in_section q τ) ≤ most_of τ
+section_limit : (q : Question) (σ τ : Section) (a : Atom) → length (in_section q σ) < most_of σ
+    → length (in_section q τ) ≤ most_of τ
     → length (in_section (with_clause q σ a) τ) ≤ most_of τ
 section_limit q σ τ a h k = pick (alike σ τ) h k
   where
@@ -268,7 +289,8 @@ sound_clause q at σ t a b c d f =
     let r = with_clause q σ (atom_of t a b c) in
     let k = clause_keeps q σ (atom_of t a b c) in
     record {
-      formed = formed_clause q σ (atom_of t a b c) f.home d.formed (in_test (Defined _ q.constants) _ _ (named_defined_lem _ q.constants) t a b c f.named);
+      formed = formed_clause q σ (atom_of t a b c) f.home d.formed
+          (in_test (Defined _ q.constants) _ _ (named_defined_lem _ q.constants) t a b c f.named);
       limited = record {
         variables = rw (k.free, k.own) d.limited.variables;
         levels = ap (λ cs. cs.levels) k.constants ∙ d.limited.levels;
@@ -285,56 +307,67 @@ abbrev pub Stay : (Question → ℕ → Type 0) → (Result → Type 0) → Turn
 Stay P R (go q at) = P q at
 Stay P R (stop r) = R r
 
-pub run_law : (P : Question → ℕ → Type 0) (R : Result → Type 0) (s : List ℕ) → ((q : Question) (at : ℕ) → P q at → Stay P R (turn s at q))
+pub run_law : (P : Question → ℕ → Type 0) (R : Result → Type 0) (s : List ℕ)
+    → ((q : Question) (at : ℕ) → P q at → Stay P R (turn s at q))
     → ((q : Question) (at : ℕ) → P q at → R (refused 2 at)) → (k at : ℕ) (q : Question) → P q at → R (run k s at q)
 unfolding run
 run_law P R s f g zero at q p = g q at p
 run_law P R s f g (suc k) at q p = pick (turn s at q) (f q at p) (run_law P R s f g k)
   where
-    pick : (t : Turn) → Stay P R t → ((at' : ℕ) (q' : Question) → P q' at' → R (run k s at' q')) → R (following (λ q' at'. run k s at' q') t)
+    pick : (t : Turn) → Stay P R t → ((at' : ℕ) (q' : Question) → P q' at' → R (run k s at' q'))
+        → R (following (λ q' at'. run k s at' q') t)
     pick (go q' at') h ih = ih at' q' h
     pick (stop r) h ih = h
 
 -- a turn that goes on passes over a byte or more, within the string
-turn_moves : (s : List ℕ) (at : ℕ) (q : Question) → Stay (λ _ next. (at < next) × (next ≤ length s)) (λ _. Unit {0}) (turn s at q)
+turn_moves : (s : List ℕ) (at : ℕ) (q : Question)
+    → Stay (λ _ next. (at < next) × (next ≤ length s)) (λ _. Unit {0}) (turn s at q)
 unfolding turn
 turn_moves s at q = judge (read_at s at) (read_whole s at)
   where
-    on : (c : Command) (next : ℕ) → Whole s at (Take c next) → Stay (λ _ next. (at < next) × (next ≤ length s)) (λ _. Unit {0}) (onward s at q (Take c next))
+    on : (c : Command) (next : ℕ) → Whole s at (Take c next)
+        → Stay (λ _ next. (at < next) × (next ≤ length s)) (λ _. Unit {0}) (onward s at q (Take c next))
     on Command.End next w = tt
     on Command.Head next w = (omega arith, w.1)
     on (Command.Constant x) next w = (omega arith, w.1)
     on (Command.Clause σ t a b c) next w = (omega arith, w.1)
 
-    judge : (r : Step) → Whole s at r → Stay (λ _ next. (at < next) × (next ≤ length s)) (λ _. Unit {0}) (onward s at q (judged q r))
+    judge : (r : Step) → Whole s at r
+        → Stay (λ _ next. (at < next) × (next ≤ length s)) (λ _. Unit {0}) (onward s at q (judged q r))
     judge (Refused n) w = tt
     judge (Take c next) w =
-        branch (λ r. Stay (λ _ next. (at < next) × (next ≤ length s)) (λ _. Unit {0}) (onward s at q r)) (eqb (fault q c) 0) (Take c next) (Refused (fault q c))
+        branch (λ r. Stay (λ _ next. (at < next) × (next ≤ length s)) (λ _. Unit {0}) (onward s at q r))
+        (eqb (fault q c) 0) (Take c next) (Refused (fault q c))
         (λ _. on c next w) (λ _. tt)
 
 -- the bound on the commands does not matter, where it is more than the bytes left
-pub run_enough : (s : List ℕ) (f g at : ℕ) (q : Question) → at ≤ length s → length s < at + f → length s < at + g → run f s at q ≡ run g s at q
+pub run_enough : (s : List ℕ) (f g at : ℕ) (q : Question) → at ≤ length s → length s < at + f → length s < at + g
+    → run f s at q ≡ run g s at q
 unfolding run
 run_enough s zero g at q w a b = absurd (omega arith)
 run_enough s (suc f) zero at q w a b = absurd (omega arith)
 run_enough s (suc f) (suc g) at q w a b = pick (turn s at q) (turn_moves s at q) (run_enough s f g)
   where
     pick : (t : Turn) → Stay (λ _ next. (at < next) × (next ≤ length s)) (λ _. Unit {0}) t
-        → ((at' : ℕ) (q' : Question) → at' ≤ length s → length s < at' + f → length s < at' + g → run f s at' q' ≡ run g s at' q')
+        → ((at' : ℕ) (q' : Question) → at' ≤ length s → length s < at' + f → length s < at' + g
+        → run f s at' q' ≡ run g s at' q')
         → following (λ q' at'. run f s at' q') t ≡ following (λ q' at'. run g s at' q') t
     pick (go q' next) m again = again next q' m.1 (omega arith) (omega arith)
     pick (stop r) m again = refl
 
-onward_kept : (s : List ℕ) (at : ℕ) (q : Question) (c : Command) (next : ℕ) → Sound q at → fault q c ≡ 0 → Whole s at (Take c next)
+onward_kept : (s : List ℕ) (at : ℕ) (q : Question) (c : Command) (next : ℕ) → Sound q at → fault q c ≡ 0
+    → Whole s at (Take c next)
     → Stay Sound (Kept s) (onward s at q (Take c next))
 unfolding fault taken ended
 onward_kept s at q Command.End next d e w =
     let p = sound_place q at d in
     branch (Kept s) (eqb next (length s)) (accepted q) (refused 10 next)
-    (λ h. (d.formed, d.limited, omega (arith, eqb-true next (length s) h))) (λ _. (omega arith, omega arith, omega arith))
+    (λ h. (d.formed, d.limited, omega (arith, eqb-true next (length s) h)))
+    (λ _. (omega arith, omega arith, omega arith))
 onward_kept s at q Command.Head next d e w = absurd (omega arith)
 onward_kept s at q (Command.Constant x) next d e w = rw w.0 (sound_constant q at x d (constant_fits q x e))
-onward_kept s at q (Command.Clause σ t a b c) next d e w = rw w.0 (sound_clause q at σ t a b c d (clause_fits q σ t a b c e))
+onward_kept s at q (Command.Clause σ t a b c) next d e w =
+    rw w.0 (sound_clause q at σ t a b c d (clause_fits q σ t a b c e))
 
 pub turn_kept : (s : List ℕ) (q : Question) (at : ℕ) → Sound q at → Stay Sound (Kept s) (turn s at q)
 unfolding turn
@@ -357,12 +390,19 @@ pub head_fits_lem : (kind n m : ℕ) → head_fits kind n m ≡ true → HeadFit
 unfolding head_fits
 head_fits_lem kind n m e = pick (ltb 1 kind) (ltb most_variables (n + m)) (eqb kind 0) refl refl refl e
   where
-    pick : (a b c : Bool) → ltb 1 kind ≡ a → ltb most_variables (n + m) ≡ b → eqb kind 0 ≡ c → cond a false (cond b false (cond c (eqb m 0) true)) ≡ true
+    pick : (a b c : Bool) → ltb 1 kind ≡ a → ltb most_variables (n + m) ≡ b → eqb kind 0 ≡ c
+        → cond a false (cond b false (cond c (eqb m 0) true)) ≡ true
         → HeadFits kind n m
     pick true b c f g h e = let z : ◌≡◌ {A = ℕ} 0 1 = cc in absurd (omega arith)
     pick false true c f g h e = let z : ◌≡◌ {A = ℕ} 0 1 = cc in absurd (omega arith)
-    pick false false true f g h e = record { kinds = ltb-false _ _ f; variables = ltb-false _ _ g; alone = λ _. eqb-true m 0 e }
-    pick false false false f g h e = record { kinds = ltb-false _ _ f; variables = ltb-false _ _ g; alone = λ y. let z : ◌≡◌ {A = ℕ} 0 1 = cc in absurd (omega arith) }
+    pick false false true f g h e =
+        record { kinds = ltb-false _ _ f; variables = ltb-false _ _ g; alone = λ _. eqb-true m 0 e }
+    pick false false false f g h e = record {
+      kinds = ltb-false _ _ f;
+      variables = ltb-false _ _ g;
+      alone =
+          λ y. let z : ◌≡◌ {A = ℕ} 0 1 = cc in absurd (omega arith);
+    }
 
 pub opened_sound : (kind n m : ℕ) → head_fits kind n m ≡ true → Sound (opened kind n m) 4
 unfolding opened positives disequations
@@ -405,7 +445,8 @@ read_kept s = pick (head_of s) (head_right s)
   where
     pick : (h : Head) → HeadRight s h → Kept s (after_head s h)
     pick (Opens kind n m) r =
-        run_law Sound (Kept s) s (turn_kept s) (λ q at d. (omega arith, omega arith, omega (arith, sound_place q at d))) (length s) 4 (opened kind n m)
+        run_law Sound (Kept s) s (turn_kept s) (λ q at d. (omega arith, omega arith, omega (arith, sound_place q at d)))
+        (length s) 4 (opened kind n m)
         (opened_sound kind n m r.1)
     pick (Wrong n) r = (r.0, r.1, omega arith)
 

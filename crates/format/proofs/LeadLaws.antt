@@ -1,7 +1,8 @@
 -- The constants that stand first: what is read there, and one more of them. Assumes nothing.
 use Rattle.std.proofs.Math.Path.{◌≡◌, refl, sym, ap, subst}
 use Rattle.std.proofs.Common.{◌∙◌}
-use Rattle.std.specs.Prelude.{Bool, cond, List, ℕ, zero, suc, ◌+◌, ◌-◌, ◌≤◌, ◌<◌, ltb, length, get_or, set, take, drop, replicate, Option, Some, None}
+use Rattle.std.specs.Prelude.{Bool, cond, List, ℕ, zero, suc, ◌+◌, ◌-◌, ◌≤◌, ◌<◌, ltb, length, get_or, set, take, drop}
+use Rattle.std.specs.Prelude.{replicate, Option, Some, None}
 use Rattle.std.proofs.Math.Bool.{true, false}
 use native.Mathlib.Omega.{arith}
 use Rattle.std.proofs.Math.ListN.{length-set}
@@ -11,7 +12,8 @@ use Rattle.shares.specs.Constant.{constant_levels, number, bytes_at}
 use Rattle.format.specs.Worked
 use Rattle.format.specs.declared.Shape.{Shape}
 use Rattle.format.specs.declared.Command.{Command}
-use Rattle.format.specs.Format.{Step, Take, Refused, most_constants, entry_of, term_count, clause_at, command_of, whole_at, read_at}
+use Rattle.format.specs.Format.{Step, Take, Refused, most_constants, entry_of, term_count, clause_at, command_of}
+use Rattle.format.specs.Format.{whole_at, read_at}
 use Rattle.format.specs.declared.Leading.{Leading}
 use Rattle.format.specs.Stored.{constant_size, leading_of, is_leading, constant_at, place_of, leading}
 use Rattle.format.specs.Keeping.{lead_into, fault_of, judged_of}
@@ -24,31 +26,39 @@ constant_number s at = number (take (bytes_at constant_levels) (drop (at + 1) s)
 
 -- it has room, and it is read
 abbrev StandsWhole : List ℕ → ℕ → Step → Type 0
-StandsWhole s at r = (at + constant_size ≤ length s) × (r ≡ Take (Command.Constant (constant_number s at)) (at + 1 + bytes_at constant_levels))
+StandsWhole s at r = (at + constant_size ≤ length s)
+    × (r ≡ Take (Command.Constant (constant_number s at)) (at + 1 + bytes_at constant_levels))
 
 -- cut short or not, what is no constant is something else
-either : (b : Bool) (c : Command) (next : ℕ) → None ≡ leading_of (Take c next) → None ≡ leading_of (cond b (Refused 2) (Take c next))
+either : (b : Bool) (c : Command) (next : ℕ) → None ≡ leading_of (Take c next)
+    → None ≡ leading_of (cond b (Refused 2) (Take c next))
 either true c next e = refl
 either false c next e = e
 
 -- where a command of another shape is announced, something else stands
-pub other_stands : (s : List ℕ) (at : ℕ) (h : Shape) → ¬ (h ≡ Shape.Constant) → None ≡ leading_of (whole_at s at (Some h))
+pub other_stands : (s : List ℕ) (at : ℕ) (h : Shape) → ¬ (h ≡ Shape.Constant)
+    → None ≡ leading_of (whole_at s at (Some h))
 unfolding whole_at command_of
 other_stands s at Shape.End n = either (ltb (length s - (at + 1)) 0) Command.End (at + 1 + 0) refl
 other_stands s at Shape.Head n = either (ltb (length s - (at + 1)) 3) Command.Head (at + 1 + 3) refl
 other_stands s at Shape.Constant n = absurd (n refl)
-other_stands s at (Shape.Clause σ t) n = either (ltb (length s - (at + 1)) (term_count t)) (clause_at s (at + 1) σ t) (at + 1 + term_count t) refl
+other_stands s at (Shape.Clause σ t) n =
+    either (ltb (length s - (at + 1)) (term_count t)) (clause_at s (at + 1) σ t) (at + 1 + term_count t) refl
 
 module _ (s : List ℕ) (at : ℕ) where
   whole : (b : Bool) → ltb (length s - (at + 1)) (bytes_at constant_levels) ≡ b → at < length s
-      → let r = cond b (Refused 2) (Take (Command.Constant (constant_number s at)) (at + 1 + bytes_at constant_levels)) in is_leading (leading_of r) ≡ true → StandsWhole s at r
+      → let r = cond b (Refused 2)
+      (Take (Command.Constant (constant_number s at)) (at + 1 + bytes_at constant_levels)) in
+      is_leading (leading_of r) ≡ true → StandsWhole s at r
   whole true e h f = absurd (of_true f)
   whole false e h f = (omega (arith, ltb-false (length s - (at + 1)) (bytes_at constant_levels) e), refl)
 
-  none : (h : Shape) → ¬ (h ≡ Shape.Constant) → is_leading (leading_of (whole_at s at (Some h))) ≡ true → StandsWhole s at (whole_at s at (Some h))
+  none : (h : Shape) → ¬ (h ≡ Shape.Constant) → is_leading (leading_of (whole_at s at (Some h))) ≡ true
+      → StandsWhole s at (whole_at s at (Some h))
   none h n f = absurd (of_true (ap is_leading (other_stands s at h n) ∙ f))
 
-  by_entry : (E : Option Shape) → at < length s → is_leading (leading_of (whole_at s at E)) ≡ true → StandsWhole s at (whole_at s at E)
+  by_entry : (E : Option Shape) → at < length s → is_leading (leading_of (whole_at s at E)) ≡ true
+      → StandsWhole s at (whole_at s at E)
   unfolding whole_at command_of
   by_entry None h f = absurd (of_true f)
   by_entry (Some Shape.Constant) h f = whole (ltb (length s - (at + 1)) (bytes_at constant_levels)) refl h f
@@ -56,7 +66,9 @@ module _ (s : List ℕ) (at : ℕ) where
   by_entry (Some Shape.Head) h f = none Shape.Head (λ e. let z : ◌≡◌ {A = ℕ} 0 1 = cc in omega arith) f
   by_entry (Some (Shape.Clause σ t)) h f = none (Shape.Clause σ t) (λ e. let z : ◌≡◌ {A = ℕ} 0 1 = cc in omega arith) f
 
-  by_room : (b : Bool) → ltb at (length s) ≡ b → let r = cond b (whole_at s at (entry_of (get_or s at 0))) (Refused 2) in is_leading (leading_of r) ≡ true → StandsWhole s at r
+  by_room : (b : Bool) → ltb at (length s) ≡ b
+      → let r = cond b (whole_at s at (entry_of (get_or s at 0))) (Refused 2) in is_leading (leading_of r) ≡ true
+      → StandsWhole s at r
   by_room true e f = by_entry (entry_of (get_or s at 0)) (ltb-true at (length s) e) f
   by_room false e f = absurd (of_true f)
 
@@ -75,7 +87,8 @@ module _ (s : List ℕ) (at : ℕ) (e : constant_at s at ≡ true) where
 
   -- without a fault, where no clause stands before it and fewer are defined than may be
   pub constant_taken : (kind free own n : ℕ) → n < most_constants
-      → Take (Command.Constant (constant_number s at)) (at + 1 + bytes_at constant_levels) ≡ judged_of kind free own n (replicate 4 0) (read_at s at)
+      → Take (Command.Constant (constant_number s at)) (at + 1 + bytes_at constant_levels)
+      ≡ judged_of kind free own n (replicate 4 0) (read_at s at)
   unfolding fault_of
   constant_taken kind free own n l = rw (constant_read, lt-leb most_constants n l) refl
 
@@ -84,7 +97,8 @@ pub leading_read : (s : List ℕ) (at : ℕ) (x : Leading) → Some x ≡ leadin
     → (constant_at s at ≡ true) × (x.number ≡ constant_number s at) × (x.next ≡ at + constant_size)
 leading_read s at x e =
     let stands : constant_at s at ≡ true = sym (ap is_leading e) in
-    let same : Some x ≡ Some (record { number = constant_number s at; next = at + 1 + bytes_at constant_levels }) = e ∙ ap leading_of (constant_read s at stands) in
+    let same : Some x ≡ Some (record { number = constant_number s at; next = at + 1 + bytes_at constant_levels }) =
+    e ∙ ap leading_of (constant_read s at stands) in
     let y : x ≡ record { number = constant_number s at; next = at + 1 + bytes_at constant_levels } = cc in
     (stands, ap (λ y. y.number) y, ap (λ y. y.next) y ∙ omega arith)
 
@@ -146,7 +160,8 @@ module _ {s l₀ l : List ℕ} {n at : ℕ} (L : Led s l₀ n at l) where
     pub led_end : None ≡ leading_of (read_at s at) → LedAll s l₀ n l
     unfolding leading lead_into
     led_end e =
-        let f : constant_at s (place_of n) ≡ false = subst (λ k. constant_at s k ≡ false) L.place (sym (ap is_leading e)) in
+        let f : constant_at s (place_of n) ≡ false =
+        subst (λ k. constant_at s k ≡ false) L.place (sym (ap is_leading e)) in
         (sym (rw f) ∙ (rw more at L.count), sym (rw f) ∙ (rw more at L.numbers))
 
     -- one constant more

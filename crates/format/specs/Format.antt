@@ -1,10 +1,13 @@
 -- A question in bytes: what reading gives for every byte string, by docs/SPEC.md, sections 3 and 7. Assumes nothing.
-use Rattle.std.specs.Prelude.{Bool, true, false, cond, ◌&&◌, List, [], ◌∷◌, ◌++◌, ℕ, zero, suc, ◌+◌, ◌-◌, eqb, ltb, leb, length, get_or, take, drop}
+use Rattle.std.specs.Prelude.{Bool, true, false, cond, ◌&&◌, List, [], ◌∷◌, ◌++◌, ℕ, zero, suc, ◌+◌, ◌-◌, eqb, ltb, leb}
+use Rattle.std.specs.Prelude.{length, get_or, take, drop}
 use Rattle.shares.specs.Constant.{constant_levels, number, bytes_at}
-use Rattle.systems.specs.Clauses.{Term, variable, constant, Atom, joined, equal, is_full, is_empty, together, Clause, positive, negated, positives, disequations}
+use Rattle.systems.specs.Clauses.{Term, variable, constant, Atom, joined, equal, is_full, is_empty, together, Clause}
+use Rattle.systems.specs.Clauses.{positive, negated, positives, disequations}
 use Rattle.systems.specs.Questions.{Kind, satisfiability, entailment, Question}
 use Rattle.format.specs.declared.Section.{Section}
-use Rattle.format.specs.declared.Section.TheVariants.{FirstPositive, FirstDisequation, SecondPositive, SecondDisequation}
+use Rattle.format.specs.declared.Section.TheVariants.{FirstPositive, FirstDisequation, SecondPositive}
+use Rattle.format.specs.declared.Section.TheVariants.{SecondDisequation}
 use Rattle.format.specs.declared.Test.{Test}
 use Rattle.format.specs.declared.Test.TheVariants.{Join, Equality, Full, Empty, Together}
 use Rattle.format.specs.declared.Shape.{Shape}
@@ -87,7 +90,8 @@ term_byte s i n k = cond (ltb k n) (get_or s (i + k) 0) 0
 
 -- a clause by its number of terms
 abbrev pub clause_at : List ℕ → ℕ → Section → Test → Command
-clause_at s i σ t = Command.Clause σ t (term_byte s i (term_count t) 0) (term_byte s i (term_count t) 1) (term_byte s i (term_count t) 2)
+clause_at s i σ t = Command.Clause σ t (term_byte s i (term_count t) 0) (term_byte s i (term_count t) 1)
+    (term_byte s i (term_count t) 2)
 
 -- the command whose operands start at an offset; a constant's leaf i is bit i of its number
 unfoldable pub command_of : List ℕ → ℕ → Shape → Command
@@ -135,7 +139,8 @@ in_section q SecondDisequation = disequations q.second
 unfoldable pub term_of : ℕ → Term
 term_of t = cond (ltb t 0x20) (variable t) (constant (t - 0x20))
 
--- it names something defined: one of n variables (at most 12, so none from 0C on) or one of k constants (at most 32, so none from 40 on)
+-- it names something defined: one of n variables (at most 12, so none from 0C on) or one of k constants (at most 32, so
+-- none from 40 on)
 unfoldable pub names : ℕ → ℕ → ℕ → Bool
 names n k t = cond (ltb t 0x20) (ltb t n) (ltb (t - 0x20) k)
 
@@ -149,7 +154,8 @@ term_named n k count i t = cond (ltb i count) (names n k t) true
 
 -- each term of a test names something defined
 abbrev pub all_named : ℕ → ℕ → Test → ℕ → ℕ → ℕ → Bool
-all_named n k t a b c = term_named n k (term_count t) 0 a && (term_named n k (term_count t) 1 b && term_named n k (term_count t) 2 c)
+all_named n k t a b c = term_named n k (term_count t) 0 a
+    && (term_named n k (term_count t) 1 b && term_named n k (term_count t) 2 c)
 
 -- what a test with its terms says
 abbrev pub atom_of : Test → ℕ → ℕ → ℕ → Atom
@@ -196,11 +202,27 @@ judged q (Take c next) = cond (eqb (fault q c) 0) (Take c next) (Refused (fault 
 
 -- a clause more, at the end of the first system
 abbrev pub with_first : Question → Clause → Question
-with_first q c = record { kind = q.kind; free = q.free; own = q.own; constants = q.constants; first = q.first ++ (c ∷ []); second = q.second }
+with_first q c = record {
+  kind = q.kind;
+  free = q.free;
+  own = q.own;
+  constants = q.constants;
+  first =
+      q.first ++ (c ∷ []);
+  second = q.second;
+}
 
 -- at the end of the second
 abbrev pub with_second : Question → Clause → Question
-with_second q c = record { kind = q.kind; free = q.free; own = q.own; constants = q.constants; first = q.first; second = q.second ++ (c ∷ []) }
+with_second q c = record {
+  kind = q.kind;
+  free = q.free;
+  own = q.own;
+  constants = q.constants;
+  first = q.first;
+  second =
+      q.second ++ (c ∷ []);
+}
 
 -- in the system and of the polarity that its section says
 abbrev pub with_clause : Question → Section → Atom → Question
@@ -255,7 +277,8 @@ abbrev pub following : (Question → ℕ → Result) → Turn → Result
 following f (go q at) = f q at
 following f (stop r) = r
 
--- command by command; the first number bounds how many, and a string's length is enough, since each takes a byte or more
+-- command by command; the first number bounds how many, and a string's length is enough, since each takes a byte or
+-- more
 unfoldable pub run : ℕ → List ℕ → ℕ → Question → Result
 run zero s at q = refused 2 at
 run (suc k) s at q = following (λ q' at'. run k s at' q') (turn s at q)
@@ -264,7 +287,8 @@ run (suc k) s at q = following (λ q' at'. run k s at' q') (turn s at q)
 
 -- kind at most 1, n + m at most 12, and m is 0 for kind 0
 unfoldable pub head_fits : ℕ → ℕ → ℕ → Bool
-head_fits kind n m = cond (ltb 1 kind) false (cond (ltb most_variables (n + m)) false (cond (eqb kind 0) (eqb m 0) true))
+head_fits kind n m = cond (ltb 1 kind) false
+    (cond (ltb most_variables (n + m)) false (cond (eqb kind 0) (eqb m 0) true))
 
 -- the kind's number
 abbrev pub kind_from : ℕ → Kind
@@ -286,7 +310,8 @@ unfoldable pub head_of : List ℕ → Head
 head_of s =
     cond (ltb 0 (length s) && eqb (get_or s 0 0) 0x01)
     (cond (ltb (length s) 4) (Wrong 2)
-    (cond (head_fits (get_or s 1 0) (get_or s 2 0) (get_or s 3 0)) (Opens (get_or s 1 0) (get_or s 2 0) (get_or s 3 0)) (Wrong 5)))
+    (cond (head_fits (get_or s 1 0) (get_or s 2 0) (get_or s 3 0)) (Opens (get_or s 1 0) (get_or s 2 0) (get_or s 3 0))
+    (Wrong 5)))
     (Wrong 1)
 
 -- the commands after a head that fits start at offset 4

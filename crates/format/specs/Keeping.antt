@@ -1,11 +1,13 @@
 -- What the reader keeps from command to command, and how it judges a command by it. Assumes nothing.
-use Rattle.std.specs.Prelude.{Bool, true, false, cond, ◌&&◌, ◌||◌, List, ℕ, zero, suc, ◌+◌, ◌*◌, ◌≤◌, ◌<◌, eqb, ltb, leb, get_or, set, take, drop}
+use Rattle.std.specs.Prelude.{Bool, true, false, cond, ◌&&◌, ◌||◌, List, ℕ, zero, suc, ◌+◌, ◌*◌, ◌≤◌, ◌<◌, eqb, ltb}
+use Rattle.std.specs.Prelude.{leb, get_or, set, take, drop}
 use Rattle.std.specs.Int.Bits.{bit_or}
 use Rattle.shares.specs.Constant.{constant_levels, number_of, number, bytes_at}
 use Rattle.format.specs.declared.Section.{Section}
 use Rattle.format.specs.declared.LeafJoin.{LeafJoin}
 use Rattle.format.specs.declared.Command.{Command}
-use Rattle.format.specs.Format.{Step, Take, Refused, most_constants, is_second, most_of, all_named, variables_for, clause_fault, constant_fault}
+use Rattle.format.specs.Format.{Step, Take, Refused, most_constants, is_second, most_of, all_named, variables_for}
+use Rattle.format.specs.Format.{clause_fault, constant_fault}
 use Rattle.format.specs.Numbers.{section_number}
 use Rattle.format.specs.Stored.{constant_at, place_of, join_for, clause_bytes, section_start, count_of, clause_written}
 
@@ -41,7 +43,8 @@ clause_counts counts (Command.Clause σ t a b c) = set counts (section_number σ
 
 -- the word with bit i set for each constant among the parts of a join
 unfoldable pub constants_in : LeafJoin → ℕ
-constants_in j = number_of most_constants (λ i. eqb (0x20 + i) j.first || (eqb (0x20 + i) j.second || eqb (0x20 + i) j.sum))
+constants_in j = number_of most_constants (λ i. eqb (0x20 + i) j.first
+    || (eqb (0x20 + i) j.second || eqb (0x20 + i) j.sum))
 
 -- which constants are named, with one command more
 abbrev pub kept_names : ℕ → Command → ℕ
@@ -73,7 +76,8 @@ Slot counts (Command.Clause σ t a b c) = next_slot counts σ + 4 ≤ clause_byt
 -- after n of them: the list with the numbers of those that follow, if there are at most k more
 unfoldable pub lead_into : ℕ → List ℕ → ℕ → List ℕ → List ℕ
 lead_into zero s n l = l
-lead_into (suc k) s n l = cond (constant_at s (place_of n)) (lead_into k s (n + 1) (set l n (number (take (bytes_at constant_levels) (drop (place_of n + 1) s))))) l
+lead_into (suc k) s n l = cond (constant_at s (place_of n))
+    (lead_into k s (n + 1) (set l n (number (take (bytes_at constant_levels) (drop (place_of n + 1) s))))) l
 
 -- ---- what is wrong with a command, by the counts that are kept
 
@@ -86,9 +90,11 @@ foreign_to kind σ = eqb kind 0 && is_second σ
 unfoldable pub fault_of : ℕ → ℕ → ℕ → ℕ → List ℕ → Command → ℕ
 fault_of kind free own n counts Command.End = 0
 fault_of kind free own n counts Command.Head = 4
-fault_of kind free own n counts (Command.Constant x) = constant_fault (ltb 0 (clause_total counts)) (leb most_constants n)
+fault_of kind free own n counts (Command.Constant x) =
+    constant_fault (ltb 0 (clause_total counts)) (leb most_constants n)
 fault_of kind free own n counts (Command.Clause σ t a b c) =
-    clause_fault (foreign_to kind σ) (leb (most_of σ) (count_of counts σ)) (all_named (variables_for free own σ) n t a b c)
+    clause_fault (foreign_to kind σ) (leb (most_of σ) (count_of counts σ))
+    (all_named (variables_for free own σ) n t a b c)
 
 abbrev pub judged_of : ℕ → ℕ → ℕ → ℕ → List ℕ → Step → Step
 judged_of kind free own n counts (Refused f) = Refused f

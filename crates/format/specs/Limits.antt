@@ -12,6 +12,7 @@ pub record Limited (q : Question) : Type 0 where
   pub constants : length q.constants.numbers ≤ most_constants
   pub sections : (σ : Section) → length (in_section q σ) ≤ most_of σ
 
--- the longest accepted question, with constants of so many levels: a head, all constants, all clauses with three terms, the end; 925 bytes at 5 levels
+-- the longest accepted question, with constants of so many levels: a head, all constants, all clauses with three terms,
+-- the end; 925 bytes at 5 levels
 abbrev pub longest : ℕ → ℕ
 longest levels = 4 + (1 + bytes_at levels) * most_constants + 4 * (2 * (most_positive + most_disequations)) + 1

@@ -13,12 +13,14 @@ use Rattle.shares.specs.BitLaws.{bit_of_or, bits_same, number_lt, bit_number}
 use Rattle.shares.specs.BitParts.{bit_shift}
 use Rattle.shares.specs.Shifts.{power_bit}
 use Rattle.shares.specs.Parts.{empty_part, full_part}
-use Rattle.systems.specs.Clauses.{Term, variable, constant, Atom, joined, equal, is_full, is_empty, together, Clause, positive, negated}
+use Rattle.systems.specs.Clauses.{Term, variable, constant, Atom, joined, equal, is_full, is_empty, together, Clause}
+use Rattle.systems.specs.Clauses.{positive, negated}
 use Rattle.systems.specs.Questions.{Question, InAtom, terms_of, clause_terms, named_in, named_by, is_among}
 use Rattle.systems.specs.AtLeaves.{of, read_as}
 use Rattle.systems.specs.NamedLaws.{among_append, among_more}
 use Rattle.format.specs.declared.Section.{Section}
-use Rattle.format.specs.declared.Section.TheVariants.{FirstPositive, FirstDisequation, SecondPositive, SecondDisequation}
+use Rattle.format.specs.declared.Section.TheVariants.{FirstPositive, FirstDisequation, SecondPositive}
+use Rattle.format.specs.declared.Section.TheVariants.{SecondDisequation}
 use Rattle.format.specs.declared.LeafJoin.{LeafJoin}
 use Rattle.format.specs.Format.{most_constants, term_of, with_first, with_second, with_clause}
 use Rattle.format.specs.Stored.{part_byte, four_of, named_word}
@@ -66,13 +68,16 @@ module _ (i : ℕ) where
   -- the constants of an atom are those of its reading
   atom_bytes : (a : Atom) → InAtom LowTerm a → has (four_of (read_as a)) ≡ is_among i (terms_of a)
   atom_bytes (joined a b c) g =
-      ap₂ ◌||◌ (term_byte_lem a g.0) (ap₂ ◌||◌ (term_byte_lem b g.1) (term_byte_lem c g.2) ∙ sym (among_append i (b ∷ []) (c ∷ [])))
+      ap₂ ◌||◌ (term_byte_lem a g.0) (ap₂ ◌||◌ (term_byte_lem b g.1) (term_byte_lem c g.2)
+      ∙ sym (among_append i (b ∷ []) (c ∷ [])))
       ∙ sym (among_append i (a ∷ []) (b ∷ c ∷ []))
-  atom_bytes (equal a b) g = rw at_empty (ap₂ ◌||◌ (term_byte_lem a g.0) (term_byte_lem b g.1) ∙ sym (among_append i (a ∷ []) (b ∷ [])))
+  atom_bytes (equal a b) g = rw at_empty (ap₂ ◌||◌ (term_byte_lem a g.0) (term_byte_lem b g.1)
+      ∙ sym (among_append i (a ∷ []) (b ∷ [])))
   atom_bytes (is_full a) g = rw (at_empty, at_full) (or-false (at (part_byte (of a))) ∙ term_byte_lem a g)
   atom_bytes (is_empty a) g = rw at_empty (or-false (at (part_byte (of a))) ∙ term_byte_lem a g)
   atom_bytes (together a b) g =
-      rw at_empty (ap₂ ◌||◌ (term_byte_lem a g.0) (or-false (at (part_byte (of b))) ∙ term_byte_lem b g.1) ∙ sym (among_append i (a ∷ []) (b ∷ [])))
+      rw at_empty (ap₂ ◌||◌ (term_byte_lem a g.0) (or-false (at (part_byte (of b))) ∙ term_byte_lem b g.1)
+      ∙ sym (among_append i (a ∷ []) (b ∷ [])))
 
   -- ---- one clause more
 
@@ -83,28 +88,32 @@ module _ (i : ℕ) where
   later false false true = refl
   later false false false = refl
 
-  first_more : (q : Question) (c : Clause) → is_among i (named_by (with_first q c)) ≡ (is_among i (named_by q) || is_among i (clause_terms c))
+  first_more : (q : Question) (c : Clause)
+      → is_among i (named_by (with_first q c)) ≡ (is_among i (named_by q) || is_among i (clause_terms c))
   first_more q c =
       among_append i (named_in (q.first ++ (c ∷ []))) (named_in q.second)
       ∙ ap (λ b. b || is_among i (named_in q.second)) (among_more i q.first c)
       ∙ later (is_among i (named_in q.first)) (is_among i (clause_terms c)) (is_among i (named_in q.second))
       ∙ ap (λ b. b || is_among i (clause_terms c)) (sym (among_append i (named_in q.first) (named_in q.second)))
 
-  second_more : (q : Question) (c : Clause) → is_among i (named_by (with_second q c)) ≡ (is_among i (named_by q) || is_among i (clause_terms c))
+  second_more : (q : Question) (c : Clause)
+      → is_among i (named_by (with_second q c)) ≡ (is_among i (named_by q) || is_among i (clause_terms c))
   second_more q c =
       among_append i (named_in q.first) (named_in (q.second ++ (c ∷ [])))
       ∙ ap (◌||◌ (is_among i (named_in q.first))) (among_more i q.second c)
       ∙ sym (or_assoc (is_among i (named_in q.first)) (is_among i (named_in q.second)) (is_among i (clause_terms c)))
       ∙ ap (λ b. b || is_among i (clause_terms c)) (sym (among_append i (named_in q.first) (named_in q.second)))
 
-  pub among_clause : (q : Question) (σ : Section) (a : Atom) → is_among i (named_by (with_clause q σ a)) ≡ (is_among i (named_by q) || is_among i (terms_of a))
+  pub among_clause : (q : Question) (σ : Section) (a : Atom)
+      → is_among i (named_by (with_clause q σ a)) ≡ (is_among i (named_by q) || is_among i (terms_of a))
   among_clause q FirstPositive a = first_more q (positive a)
   among_clause q FirstDisequation a = first_more q (negated a)
   among_clause q SecondPositive a = second_more q (positive a)
   among_clause q SecondDisequation a = second_more q (negated a)
 
 -- the word with it
-pub named_more : (q : Question) (σ : Section) (a : Atom) → InAtom LowTerm a → bit_or (named_word q) (constants_in (four_of (read_as a))) ≡ named_word (with_clause q σ a)
+pub named_more : (q : Question) (σ : Section) (a : Atom) → InAtom LowTerm a
+    → bit_or (named_word q) (constants_in (four_of (read_as a))) ≡ named_word (with_clause q σ a)
 unfolding named_word constants_in
 named_more q σ a g =
     let n = most_constants in
@@ -116,10 +125,16 @@ named_more q σ a g =
 
 -- ---- the constants among the parts of a join, as three bits and a shift give them
 
-pub constants_are : (j : LeafJoin) → PartsSmall j → bit_or (bit_or (2 ^ j.first) (2 ^ j.second)) (2 ^ j.sum) / 2 ^ 32 ≡ constants_in j
+pub constants_are : (j : LeafJoin) → PartsSmall j → bit_or (bit_or (2 ^ j.first) (2 ^ j.second)) (2 ^ j.sum) / 2 ^ 32
+    ≡ constants_in j
 unfolding constants_in
 constants_are j (l, m, n) =
-    bits_same most_constants _ _ (omega (arith, or_lt 64 (bit_or a b) c (or_lt 64 a b (pow-lt {j = 64} l) (pow-lt {j = 64} m)) (pow-lt {j = 64} n))) (number_lt most_constants _) (λ i k.
+    bits_same most_constants _ _
+    (omega (
+      arith,
+      or_lt 64 (bit_or a b) c (or_lt 64 a b (pow-lt {j = 64} l) (pow-lt {j = 64} m))
+          (pow-lt {j = 64} n),
+    )) (number_lt most_constants _) (λ i k.
     bit_shift _ 32 i
     ∙ bit_of_or (bit_or a b) c (32 + i)
     ∙ ap (λ x. x || bit c (32 + i)) (bit_of_or a b (32 + i))

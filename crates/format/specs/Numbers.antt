@@ -1,9 +1,12 @@
 -- The numbers of the code's cases. Assumes nothing.
 use Rattle.std.specs.Prelude.{ℕ}
 use Rattle.format.specs.declared.Fault.{Fault}
-use Rattle.format.specs.declared.Fault.TheVariants.{NoHead, CutShort, UnknownCommand, OutOfPlace, UnfitHead, ConstantTooMany, ClauseTooMany, NamesNothing, ForeignClause, BytesAfter}
+use Rattle.format.specs.declared.Fault.TheVariants.{NoHead, CutShort, UnknownCommand, OutOfPlace, UnfitHead}
+use Rattle.format.specs.declared.Fault.TheVariants.{ConstantTooMany, ClauseTooMany, NamesNothing, ForeignClause}
+use Rattle.format.specs.declared.Fault.TheVariants.{BytesAfter}
 use Rattle.format.specs.declared.Section.{Section}
-use Rattle.format.specs.declared.Section.TheVariants.{FirstPositive, FirstDisequation, SecondPositive, SecondDisequation}
+use Rattle.format.specs.declared.Section.TheVariants.{FirstPositive, FirstDisequation, SecondPositive}
+use Rattle.format.specs.declared.Section.TheVariants.{SecondDisequation}
 use Rattle.format.specs.declared.Kind.{Kind}
 use Rattle.format.specs.declared.Kind.TheVariants.{Satisfiability, Entailment}
 

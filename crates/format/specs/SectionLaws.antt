@@ -5,7 +5,8 @@ use Rattle.systems.specs.Clauses.{Atom, positive, negated, System, positives, di
 use Rattle.systems.specs.Questions.{Question}
 use Rattle.format.specs.Worked
 use Rattle.format.specs.declared.Section.{Section}
-use Rattle.format.specs.declared.Section.TheVariants.{FirstPositive, FirstDisequation, SecondPositive, SecondDisequation}
+use Rattle.format.specs.declared.Section.TheVariants.{FirstPositive, FirstDisequation, SecondPositive}
+use Rattle.format.specs.declared.Section.TheVariants.{SecondDisequation}
 use Rattle.format.specs.Format.{most_of, in_section, variables_for, with_clause, with_constant}
 use Rattle.format.specs.Numbers.{section_number}
 use Rattle.format.specs.Stored.{clause_bytes, section_start, count_of}
@@ -60,26 +61,38 @@ pub data Alike : Section → Section → Type 0 where
   same : {σ : Section} → Alike σ σ
   other : {σ τ : Section} → Apart σ τ → Alike σ τ
 
-apart : (σ τ : Section) → ((q : Question) (a : Atom) → in_section (with_clause q σ a) τ ≡ in_section q τ) → section_number τ ≢ section_number σ
-    → (section_start τ + 4 * most_of τ ≤ section_start σ) ⊎ (section_start σ + 4 * most_of σ ≤ section_start τ) → Alike σ τ
+apart : (σ τ : Section) → ((q : Question) (a : Atom) → in_section (with_clause q σ a) τ ≡ in_section q τ)
+    → section_number τ ≢ section_number σ
+    → (section_start τ + 4 * most_of τ ≤ section_start σ) ⊎ (section_start σ + 4 * most_of σ ≤ section_start τ)
+    → Alike σ τ
 apart σ τ k n c = other (record { kept = k; number = n; clear = c })
 
 pub alike : (σ τ : Section) → Alike σ τ
 alike FirstPositive FirstPositive = same
-alike FirstPositive FirstDisequation = apart FirstPositive FirstDisequation (λ q a. disequations_kept q.first a) (omega arith) (inr (omega arith))
+alike FirstPositive FirstDisequation =
+    apart FirstPositive FirstDisequation (λ q a. disequations_kept q.first a) (omega arith) (inr (omega arith))
 alike FirstPositive SecondPositive = apart FirstPositive SecondPositive (λ q a. refl) (omega arith) (inr (omega arith))
-alike FirstPositive SecondDisequation = apart FirstPositive SecondDisequation (λ q a. refl) (omega arith) (inr (omega arith))
-alike FirstDisequation FirstPositive = apart FirstDisequation FirstPositive (λ q a. positives_kept q.first a) (omega arith) (inl (omega arith))
+alike FirstPositive SecondDisequation =
+    apart FirstPositive SecondDisequation (λ q a. refl) (omega arith) (inr (omega arith))
+alike FirstDisequation FirstPositive =
+    apart FirstDisequation FirstPositive (λ q a. positives_kept q.first a) (omega arith) (inl (omega arith))
 alike FirstDisequation FirstDisequation = same
-alike FirstDisequation SecondPositive = apart FirstDisequation SecondPositive (λ q a. refl) (omega arith) (inr (omega arith))
-alike FirstDisequation SecondDisequation = apart FirstDisequation SecondDisequation (λ q a. refl) (omega arith) (inr (omega arith))
+alike FirstDisequation SecondPositive =
+    apart FirstDisequation SecondPositive (λ q a. refl) (omega arith) (inr (omega arith))
+alike FirstDisequation SecondDisequation =
+    apart FirstDisequation SecondDisequation (λ q a. refl) (omega arith) (inr (omega arith))
 alike SecondPositive FirstPositive = apart SecondPositive FirstPositive (λ q a. refl) (omega arith) (inl (omega arith))
-alike SecondPositive FirstDisequation = apart SecondPositive FirstDisequation (λ q a. refl) (omega arith) (inl (omega arith))
+alike SecondPositive FirstDisequation =
+    apart SecondPositive FirstDisequation (λ q a. refl) (omega arith) (inl (omega arith))
 alike SecondPositive SecondPositive = same
-alike SecondPositive SecondDisequation = apart SecondPositive SecondDisequation (λ q a. disequations_kept q.second a) (omega arith) (inr (omega arith))
-alike SecondDisequation FirstPositive = apart SecondDisequation FirstPositive (λ q a. refl) (omega arith) (inl (omega arith))
-alike SecondDisequation FirstDisequation = apart SecondDisequation FirstDisequation (λ q a. refl) (omega arith) (inl (omega arith))
-alike SecondDisequation SecondPositive = apart SecondDisequation SecondPositive (λ q a. positives_kept q.second a) (omega arith) (inl (omega arith))
+alike SecondPositive SecondDisequation =
+    apart SecondPositive SecondDisequation (λ q a. disequations_kept q.second a) (omega arith) (inr (omega arith))
+alike SecondDisequation FirstPositive =
+    apart SecondDisequation FirstPositive (λ q a. refl) (omega arith) (inl (omega arith))
+alike SecondDisequation FirstDisequation =
+    apart SecondDisequation FirstDisequation (λ q a. refl) (omega arith) (inl (omega arith))
+alike SecondDisequation SecondPositive =
+    apart SecondDisequation SecondPositive (λ q a. positives_kept q.second a) (omega arith) (inl (omega arith))
 alike SecondDisequation SecondDisequation = same
 
 -- ---- a constant or a clause more, and what stays
@@ -99,10 +112,14 @@ pub record Keeps (q r : Question) : Type 0 where
   pub clauses : length r.first + length r.second ≡ suc (length q.first + length q.second)
 
 pub clause_keeps : (q : Question) (σ : Section) (a : Atom) → Keeps q (with_clause q σ a)
-clause_keeps q FirstPositive a = record { kind = refl; free = refl; own = refl; constants = refl; clauses = simp length-append (omega arith) }
-clause_keeps q FirstDisequation a = record { kind = refl; free = refl; own = refl; constants = refl; clauses = simp length-append (omega arith) }
-clause_keeps q SecondPositive a = record { kind = refl; free = refl; own = refl; constants = refl; clauses = simp length-append (omega arith) }
-clause_keeps q SecondDisequation a = record { kind = refl; free = refl; own = refl; constants = refl; clauses = simp length-append (omega arith) }
+clause_keeps q FirstPositive a =
+    record { kind = refl; free = refl; own = refl; constants = refl; clauses = simp length-append (omega arith) }
+clause_keeps q FirstDisequation a =
+    record { kind = refl; free = refl; own = refl; constants = refl; clauses = simp length-append (omega arith) }
+clause_keeps q SecondPositive a =
+    record { kind = refl; free = refl; own = refl; constants = refl; clauses = simp length-append (omega arith) }
+clause_keeps q SecondDisequation a =
+    record { kind = refl; free = refl; own = refl; constants = refl; clauses = simp length-append (omega arith) }
 
 -- ---- where sections lie
 

@@ -1,6 +1,7 @@
--- A question as it is stored once it is read: the fields of a struct and the clauses' bytes, and when they stand for a question of the
--- model. Assumes nothing.
-use Rattle.std.specs.Prelude.{◌≡◌, Bool, true, false, cond, ◌||◌, List, [], ◌∷◌, ◌++◌, map, ℕ, zero, suc, ◌+◌, ◌-◌, ◌*◌, ◌^◌, ◌≤◌, ◌<◌, T, eqb, length, get_or, set, take, replicate}
+-- A question as it is stored once it is read: the fields of a struct and the clauses' bytes, and when they stand for a
+-- question of the model. Assumes nothing.
+use Rattle.std.specs.Prelude.{◌≡◌, Bool, true, false, cond, ◌||◌, List, [], ◌∷◌, ◌++◌, map, ℕ, zero, suc, ◌+◌, ◌-◌, ◌*◌}
+use Rattle.std.specs.Prelude.{◌^◌, ◌≤◌, ◌<◌, T, eqb, length, get_or, set, take, replicate}
 use Rattle.shares.specs.Constant.{constant_levels, number_of, bytes_at}
 use Rattle.shares.specs.Parts.{empty_part, full_part}
 use Rattle.systems.specs.Clauses.{variable, constant}
@@ -11,7 +12,8 @@ use Rattle.std.specs.Prelude as code
 use Rattle.format.specs.declared.Kind.{Kind as HeldKind}
 use Rattle.format.specs.declared.Kind.TheVariants.{Satisfiability, Entailment}
 use Rattle.format.specs.declared.Section.{Section}
-use Rattle.format.specs.declared.Section.TheVariants.{FirstPositive, FirstDisequation, SecondPositive, SecondDisequation}
+use Rattle.format.specs.declared.Section.TheVariants.{FirstPositive, FirstDisequation, SecondPositive}
+use Rattle.format.specs.declared.Section.TheVariants.{SecondDisequation}
 use Rattle.format.specs.declared.Test.{Test}
 use Rattle.format.specs.declared.LeafJoin.{LeafJoin}
 use Rattle.format.specs.declared.Command.{Command}
@@ -20,7 +22,8 @@ use Rattle.format.specs.Format.{Step, Take, Refused, Head, Opens, Wrong}
 use Rattle.format.specs.declared.Leading.{Leading}
 use Rattle.format.specs.declared.Question.{Question}
 use Rattle.format.specs.declared.Refused.{Refused as RefusedAt}
-use Rattle.format.specs.Format.{Result, refused, accepted, most_variables, most_constants, most_of, in_section, term_of, names, variables_for, atom_of, read_at, judged, taken, opened, head_of}
+use Rattle.format.specs.Format.{Result, refused, accepted, most_variables, most_constants, most_of, in_section, term_of}
+use Rattle.format.specs.Format.{names, variables_for, atom_of, read_at, judged, taken, opened, head_of}
 
 -- ---- the numbers of the cases
 
@@ -35,7 +38,8 @@ kind_held entailment = Entailment
 
 -- ---- a clause in four bytes: how it reads as a join at one leaf
 
--- its form, its two parts and their sum; form 0: "the first part join the second is the sum"; form 1: the two do not overlap, and no sum is asked
+-- its form, its two parts and their sum; form 0: "the first part join the second is the sum"; form 1: the two do not
+-- overlap, and no sum is asked
 abbrev pub four : ℕ → ℕ → ℕ → ℕ → LeafJoin
 four f p q r = record { form = f; first = p; second = q; sum = r }
 
@@ -61,7 +65,8 @@ part_of t = cond (eqb t empty_part) (always false) (cond (eqb t full_part) (alwa
 
 -- the reading that four bytes stand for
 unfoldable pub reading_from : LeafJoin → LeafReading
-reading_from j = cond (eqb j.form 0) (joins_to (part_of j.first) (part_of j.second) (part_of j.sum)) (apart (part_of j.first) (part_of j.second))
+reading_from j = cond (eqb j.form 0) (joins_to (part_of j.first) (part_of j.second) (part_of j.sum))
+    (apart (part_of j.first) (part_of j.second))
 
 -- ---- the clauses' bytes, section after section
 
@@ -86,8 +91,8 @@ readings_at l start (suc n) = readings_at l start n ++ (reading_from (four_at l 
 
 -- ---- what is stored of a question
 
--- the clauses' bytes and how many clauses each section has, the constants, their number of levels and which of them some
--- clause names, and how many variables there are
+-- the clauses' bytes and how many clauses each section has, the constants, their number of levels and which of them
+-- some clause names, and how many variables there are
 pub record Stored : Type 0 where
   pub clauses : List ℕ
   pub counts : List ℕ
@@ -100,7 +105,16 @@ pub record Stored : Type 0 where
 -- from its parts, as the code keeps them: constants of `constant_levels` levels
 abbrev pub stored : List ℕ → List ℕ → List ℕ → ℕ → ℕ → ℕ → Stored
 stored clauses counts constants named free own =
-    record { clauses = clauses; counts = counts; constants = constants; levels = constant_levels; named = named; free = free; own = own }
+    record {
+      clauses = clauses;
+      counts = counts;
+      constants = constants;
+      levels = constant_levels;
+      named = named;
+      free =
+          free;
+      own = own;
+    }
 
 -- from the struct and the clauses' bytes
 abbrev pub stored_of : Question → List ℕ → Stored
@@ -145,7 +159,8 @@ pub record Stands (k : ℕ) (x : Stored) (q : Asked) : Type 0 where
   pub constants : q.constants ≡ record { levels = x.levels; numbers = take (defined_by q) x.constants }
   pub named : x.named ≡ named_word q
   pub named_defined : (i : ℕ) → T (is_among i (named_by q)) → i < defined_by q
-  pub sections : (σ : Section) → readings_at x.clauses (section_start σ) (count_of x.counts σ) ≡ map read_as (in_section q σ)
+  pub sections : (σ : Section) → readings_at x.clauses (section_start σ) (count_of x.counts σ)
+      ≡ map read_as (in_section q σ)
   pub variables : x.free + x.own ≤ most_variables
   pub counted : Counted x.counts
   pub constant_counted : defined_by q ≤ most_constants
@@ -155,7 +170,8 @@ pub record Stands (k : ℕ) (x : Stored) (q : Asked) : Type 0 where
 
 -- ---- what reading hands over
 
--- the struct of a question: its constants, then 0, how many there are, which of them some clause names, and its number of clauses in each section
+-- the struct of a question: its constants, then 0, how many there are, which of them some clause names, and its number
+-- of clauses in each section
 abbrev pub held_as : Asked → Question
 held_as q = record {
   kind = kind_held q.kind;
@@ -190,12 +206,14 @@ reading_told (code.Err r) = refused_with (fault_number r.fault) r.place
 abbrev pub clause_written : List ℕ → ℕ → LeafJoin → List ℕ
 clause_written l i j = set (set (set (set l i j.form) (i + 1) j.first) (i + 2) j.second) (i + 3) j.sum
 
--- the clauses' bytes with one command more, after q was read before it: a clause takes the next four bytes of its section
+-- the clauses' bytes with one command more, after q was read before it: a clause takes the next four bytes of its
+-- section
 abbrev pub command_written : Asked → List ℕ → Command → List ℕ
 command_written q l Command.End = l
 command_written q l Command.Head = l
 command_written q l (Command.Constant x) = l
-command_written q l (Command.Clause σ t a b c) = clause_written l (section_start σ + 4 * length (in_section q σ)) (join_for t a b c)
+command_written q l (Command.Clause σ t a b c) =
+    clause_written l (section_start σ + 4 * length (in_section q σ)) (join_for t a b c)
 
 -- a refusal and the end leave them; any other command goes on
 abbrev pub written_onward : (Command → ℕ → List ℕ) → List ℕ → Step → List ℕ
@@ -208,13 +226,15 @@ written_onward f l (Take (Command.Clause σ t a b c) next) = f (Command.Clause �
 -- command by command, as `run` reads them
 unfoldable pub written_by : ℕ → List ℕ → ℕ → Asked → List ℕ → List ℕ
 written_by zero s at q l = l
-written_by (suc k) s at q l = written_onward (λ c next. written_by k s next (taken q c) (command_written q l c)) l (judged q (read_at s at))
+written_by (suc k) s at q l =
+    written_onward (λ c next. written_by k s next (taken q c) (command_written q l c)) l (judged q (read_at s at))
 
 abbrev pub written_after_head : List ℕ → List ℕ → Head → List ℕ
 written_after_head s l (Opens kind n m) = written_by (length s) s 4 (opened kind n m) l
 written_after_head s l (Wrong n) = l
 
--- what the clauses' bytes hold once a byte string is read, refused or not: each clause before the end or the first fault is written
+-- what the clauses' bytes hold once a byte string is read, refused or not: each clause before the end or the first
+-- fault is written
 unfoldable pub clauses_after : List ℕ → List ℕ → List ℕ
 clauses_after s l = written_after_head s l (head_of s)
 

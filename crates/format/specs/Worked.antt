@@ -1,13 +1,18 @@
--- Worked byte strings: each refusal, each order of two faults at one command, and the limits, computed. Assumes nothing.
+-- Worked byte strings: each refusal, each order of two faults at one command, and the limits, computed. Assumes
+-- nothing.
 use Rattle.std.specs.Prelude.{◌≡◌, refl, List, [], ◌∷◌, ◌++◌, map, ℕ, zero, suc, replicate, Some, None}
 use Rattle.shares.specs.Constant.{constant_levels, number_of, number}
-use Rattle.systems.specs.Clauses.{variable, constant, joined, equal, is_full, is_empty, together, positive, negated, positives, disequations}
+use Rattle.systems.specs.Clauses.{variable, constant, joined, equal, is_full, is_empty, together, positive, negated}
+use Rattle.systems.specs.Clauses.{positives, disequations}
 use Rattle.systems.specs.Questions.{Question, satisfiability, entailment, named_in, is_among}
 use Rattle.format.specs.declared.Kind.TheVariants.{Entailment}
-use Rattle.format.specs.declared.Section.TheVariants.{FirstPositive, FirstDisequation, SecondPositive, SecondDisequation}
+use Rattle.format.specs.declared.Section.TheVariants.{FirstPositive, FirstDisequation, SecondPositive}
+use Rattle.format.specs.declared.Section.TheVariants.{SecondDisequation}
 use Rattle.format.specs.declared.Shape.{Shape}
-use Rattle.format.specs.Format.{Result, refused, accepted, most_of, entry_of, command_of, whole_at, read_at, term_of, names, fault, taken, ended, turn, run, head_fits, opened, head_of, read}
-use Rattle.format.specs.Stored.{clause_bytes, named_word, Reading, refused_with, held, reading_of, written_by, clauses_after}
+use Rattle.format.specs.Format.{Result, refused, accepted, most_of, entry_of, command_of, whole_at, read_at, term_of}
+use Rattle.format.specs.Format.{names, fault, taken, ended, turn, run, head_fits, opened, head_of, read}
+use Rattle.format.specs.Stored.{clause_bytes, named_word, Reading, refused_with, held, reading_of, written_by}
+use Rattle.format.specs.Stored.{clauses_after}
 
 pub record Worked : Type 0 where
   pub bytes : List ℕ
@@ -35,10 +40,12 @@ unfolding entry_of
 announced = refl
 
 -- how many clauses each section may have
-rooms : map most_of (FirstPositive ∷ FirstDisequation ∷ SecondPositive ∷ SecondDisequation ∷ []) ≡ 64 ∷ 31 ∷ 64 ∷ 31 ∷ []
+rooms : map most_of (FirstPositive ∷ FirstDisequation ∷ SecondPositive ∷ SecondDisequation ∷ []) ≡ 64 ∷ 31 ∷ 64 ∷ 31
+    ∷ []
 rooms = refl
 
--- no first byte; no byte where a command is due, at the length; an unknown byte with nothing behind it; a byte after the end
+-- no first byte; no byte where a command is due, at the length; an unknown byte with nothing behind it; a byte after
+-- the end
 places : (read [] ≡ refused 1 0) × (read alone ≡ refused 2 4) × (read (alone ++ (0x02 ∷ [])) ≡ refused 3 4)
     × (read (alone ++ (0x00 ∷ 0x99 ∷ [])) ≡ refused 10 5)
 unfolding read head_of head_fits opened run turn ended fault read_at whole_at command_of entry_of
@@ -48,7 +55,8 @@ places = (refl, refl, refl, refl)
 
 -- the printing program's example, and its question: v0 join the left half is full
 abbrev example : List ℕ
-example = 0x01 ∷ 0x00 ∷ 0x01 ∷ 0x00 ∷ 0x03 ∷ 0xFF ∷ 0xFF ∷ 0x00 ∷ 0x00 ∷ 0x03 ∷ 0xFF ∷ 0xFF ∷ 0xFF ∷ 0xFF ∷ 0x10 ∷ 0x00 ∷ 0x20 ∷ 0x21 ∷ 0x00 ∷ []
+example = 0x01 ∷ 0x00 ∷ 0x01 ∷ 0x00 ∷ 0x03 ∷ 0xFF ∷ 0xFF ∷ 0x00 ∷ 0x00 ∷ 0x03 ∷ 0xFF ∷ 0xFF ∷ 0xFF ∷ 0xFF ∷ 0x10 ∷ 0x00
+    ∷ 0x20 ∷ 0x21 ∷ 0x00 ∷ []
 
 abbrev example_question : Question
 example_question = record {
@@ -62,7 +70,8 @@ example_question = record {
 
 -- v0 is not c0 entails: own v1 is v0, and not (v0 join v1 is c0); the two systems alternate
 abbrev entails : List ℕ
-entails = both ++ (0x03 ∷ 0x01 ∷ 0x00 ∷ 0x00 ∷ 0x80 ∷ 0x22 ∷ 0x01 ∷ 0x00 ∷ 0x13 ∷ 0x00 ∷ 0x20 ∷ 0x21 ∷ 0x00 ∷ 0x01 ∷ 0x20 ∷ 0x00 ∷ [])
+entails = both ++ (0x03 ∷ 0x01 ∷ 0x00 ∷ 0x00 ∷ 0x80 ∷ 0x22 ∷ 0x01 ∷ 0x00 ∷ 0x13 ∷ 0x00 ∷ 0x20 ∷ 0x21 ∷ 0x00 ∷ 0x01
+    ∷ 0x20 ∷ 0x00 ∷ [])
 
 abbrev entails_question : Question
 entails_question = record {
@@ -76,7 +85,8 @@ entails_question = record {
 
 -- a writer, a reader, and the two held together, in each system
 abbrev policies : List ℕ
-policies = both ++ (0x30 ∷ 0x00 ∷ 0x31 ∷ 0x00 ∷ 0x32 ∷ 0x00 ∷ 0x00 ∷ 0x38 ∷ 0x01 ∷ 0x39 ∷ 0x00 ∷ 0x3A ∷ 0x00 ∷ 0x01 ∷ 0x00 ∷ [])
+policies = both ++ (0x30 ∷ 0x00 ∷ 0x31 ∷ 0x00 ∷ 0x32 ∷ 0x00 ∷ 0x00 ∷ 0x38 ∷ 0x01 ∷ 0x39 ∷ 0x00 ∷ 0x3A ∷ 0x00 ∷ 0x01
+    ∷ 0x00 ∷ [])
 
 abbrev policies_question : Question
 policies_question = record {
@@ -84,8 +94,10 @@ policies_question = record {
   free = 1;
   own = 1;
   constants = record { levels = constant_levels; numbers = [] };
-  first = positive (is_full (variable 0)) ∷ negated (is_empty (variable 0)) ∷ positive (together (variable 0) (variable 0)) ∷ [];
-  second = positive (is_full (variable 1)) ∷ negated (is_empty (variable 0)) ∷ positive (together (variable 0) (variable 1)) ∷ [];
+  first = positive (is_full (variable 0)) ∷ negated (is_empty (variable 0))
+      ∷ positive (together (variable 0) (variable 0)) ∷ [];
+  second = positive (is_full (variable 1)) ∷ negated (is_empty (variable 0))
+      ∷ positive (together (variable 0) (variable 1)) ∷ [];
 }
 
 pub table : List Worked
@@ -201,10 +213,12 @@ limits =
 -- the two tables, as one claim: each refusal from 1 to 10, each order of two faults at one command, and each limit
 pub worked_right : (map (λ w. read w.bytes) table ≡ map (λ w. w.result) table)
     × (map (λ s. refusal_in (read s)) limits
-    ≡ [] ∷ [] ∷ (5 ∷ 0 ∷ []) ∷ (5 ∷ 0 ∷ []) ∷ [] ∷ (6 ∷ 164 ∷ []) ∷ (4 ∷ 167 ∷ []) ∷ [] ∷ (7 ∷ 196 ∷ []) ∷ (7 ∷ 97 ∷ []) ∷ (7 ∷ 196 ∷ []) ∷ (7 ∷ 97 ∷ [])
+    ≡ [] ∷ [] ∷ (5 ∷ 0 ∷ []) ∷ (5 ∷ 0 ∷ []) ∷ [] ∷ (6 ∷ 164 ∷ []) ∷ (4 ∷ 167 ∷ []) ∷ [] ∷ (7 ∷ 196 ∷ []) ∷ (7 ∷ 97 ∷ [])
+    ∷ (7 ∷ 196 ∷ []) ∷ (7 ∷ 97 ∷ [])
     ∷ (7 ∷ 196 ∷ []) ∷ (7 ∷ 97 ∷ [])
     ∷ (2 ∷ 164 ∷ []) ∷ (2 ∷ 196 ∷ []) ∷ (7 ∷ 97 ∷ []) ∷ [] ∷ [])
-unfolding table limits times read head_of head_fits opened run turn ended taken fault names term_of read_at whole_at command_of entry_of number positives disequations
+unfolding table limits times read head_of head_fits opened run turn ended taken fault names term_of read_at whole_at
+    command_of entry_of number positives disequations
 worked_right = (refl, refl)
 
 -- ---- what is stored
@@ -222,20 +236,34 @@ abbrev names_held : Reading → ℕ
 names_held (refused_with n place) = 0
 names_held (held x) = x.named
 
--- the struct of a question, and a refusal; the clauses' bytes after a question, after a string that is refused at its second clause, and after
--- one whose head is refused; and after one with policies in both systems. Of 32 constants the longest question names the first and the last
+-- the struct of a question, and a refusal; the clauses' bytes after a question, after a string that is refused at its
+-- second clause, and after one whose head is refused; and after one with policies in both systems. Of 32 constants the
+-- longest question names the first and the last
 pub stored_right : (reading_of (read entails)
-    ≡ held (record { kind = Entailment; free = 1; own = 1; constants = 0x80000001 ∷ replicate 31 0; defined = 1; named = 1; counts = 0 ∷ 1 ∷ 1 ∷ 1 ∷ [] }))
+    ≡ held (record {
+      kind = Entailment;
+      free = 1;
+      own = 1;
+      constants = 0x80000001 ∷ replicate 31 0;
+      defined = 1;
+      named =
+          1;
+      counts = 0 ∷ 1 ∷ 1 ∷ 1 ∷ [];
+    }))
     × (reading_of (read second) ≡ refused_with 8 7)
     × (map (λ s. clauses_after s nines) (entails ∷ second ∷ (0x01 ∷ 0x02 ∷ []) ∷ policies ∷ [])
-    ≡ (replicate 256 9 ++ (0x00 ∷ 0x00 ∷ 0x0C ∷ 0x20 ∷ replicate 124 9) ++ (0x00 ∷ 0x01 ∷ 0x0C ∷ 0x00 ∷ replicate 252 9) ++ (0x00 ∷ 0x00 ∷ 0x01 ∷ 0x20 ∷ replicate 124 9))
+    ≡ (replicate 256 9 ++ (0x00 ∷ 0x00 ∷ 0x0C ∷ 0x20 ∷ replicate 124 9) ++ (0x00 ∷ 0x01 ∷ 0x0C ∷ 0x00 ∷ replicate 252 9)
+    ++ (0x00 ∷ 0x00 ∷ 0x01 ∷ 0x20 ∷ replicate 124 9))
     ∷ (0x00 ∷ 0x00 ∷ 0x0C ∷ 0x00 ∷ replicate 764 9)
     ∷ nines
     ∷ (
-    (0x00 ∷ 0x00 ∷ 0x0C ∷ 0x0D ∷ 0x01 ∷ 0x00 ∷ 0x00 ∷ 0x0C ∷ replicate 248 9) ++ (0x00 ∷ 0x00 ∷ 0x0C ∷ 0x0C ∷ replicate 124 9)
-    ++ (0x00 ∷ 0x01 ∷ 0x0C ∷ 0x0D ∷ 0x01 ∷ 0x00 ∷ 0x01 ∷ 0x0C ∷ replicate 248 9) ++ (0x00 ∷ 0x00 ∷ 0x0C ∷ 0x0C ∷ replicate 124 9)
+    (0x00 ∷ 0x00 ∷ 0x0C ∷ 0x0D ∷ 0x01 ∷ 0x00 ∷ 0x00 ∷ 0x0C ∷ replicate 248 9)
+    ++ (0x00 ∷ 0x00 ∷ 0x0C ∷ 0x0C ∷ replicate 124 9)
+    ++ (0x00 ∷ 0x01 ∷ 0x0C ∷ 0x0D ∷ 0x01 ∷ 0x00 ∷ 0x01 ∷ 0x0C ∷ replicate 248 9)
+    ++ (0x00 ∷ 0x00 ∷ 0x0C ∷ 0x0C ∷ replicate 124 9)
     )
     ∷ [])
     × (names_held (reading_of (read (full ++ (0x00 ∷ [])))) ≡ 0x80000001)
-unfolding times read head_of head_fits opened run turn ended taken fault names term_of read_at whole_at command_of entry_of number positives disequations written_by clauses_after named_word number_of is_among named_in
+unfolding times read head_of head_fits opened run turn ended taken fault names term_of read_at whole_at command_of
+    entry_of number positives disequations written_by clauses_after named_word number_of is_among named_in
 stored_right = (refl, refl, refl, refl)

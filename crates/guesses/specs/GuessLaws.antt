@@ -1,6 +1,9 @@
 -- Laws of guesses: the bits of a range of choices, and what one guess more fixes. Assumes nothing.
-use Rattle.std.specs.Prelude.{◌≡◌, refl, true, false, not, List, ℕ, zero, suc, ◌+◌, ◌-◌, ◌*◌, ◌/◌, ◌%◌, ◌^◌, ◌≤◌, ◌<◌, ltb, eqb, length, replicate, get_or, set}
-use Rattle.std.proofs.Common.{sym, ap, ap₂, ◌∙◌, add-mul, zero-mul, mul_assoc, mul_comm, mod-lt, add-one, arith, T_not, length-set, pow_pos, pow_mono, get_or-set_same, get_or-set_other, lt-ltb, le-ltb, eq-eqb, ne_eqb}
+use Rattle.std.specs.Prelude.{◌≡◌, refl, true, false, not, List, ℕ, zero, suc, ◌+◌, ◌-◌, ◌*◌, ◌/◌, ◌%◌, ◌^◌, ◌≤◌, ◌<◌}
+use Rattle.std.specs.Prelude.{ltb, eqb, length, replicate, get_or, set}
+use Rattle.std.proofs.Common.{sym, ap, ap₂, ◌∙◌, add-mul, zero-mul, mul_assoc, mul_comm, mod-lt, add-one, arith, T_not}
+use Rattle.std.proofs.Common.{length-set, pow_pos, pow_mono, get_or-set_same, get_or-set_other, lt-ltb, le-ltb, eq-eqb}
+use Rattle.std.proofs.Common.{ne_eqb}
 use Rattle.std.proofs.Math.Nat.{two-pow-succ}
 use Rattle.std.proofs.Math.Decide.{dec_lt}
 use Rattle.std.specs.Int.Bits.{bit_and}
@@ -29,14 +32,16 @@ low_bits x k h = go (dec_lt (lowest_in x) k)
         rw (
           lt-ltb f k l,
           ne_eqb (x % 2 ^ k) 0
-              (λ e. T_not (bit x f) (of_false (sym (bit_mod x k f l) ∙ ap (λ n. bit n f) e ∙ bit_zero f)) (first_below_lem 63 (bit x) (omega arith))),
+              (λ e. T_not (bit x f) (of_false (sym (bit_mod x k f l) ∙ ap (λ n. bit n f) e ∙ bit_zero f))
+              (first_below_lem 63 (bit x) (omega arith))),
         )
     go (no g) =
         let f = lowest_in x in
         rw (
           le-ltb f k (omega arith),
           eq-eqb (x % 2 ^ k) 0
-              (bits_zero k (x % 2 ^ k) (mod-lt x (pow_pos k)) (λ i l. bit_mod x k i l ∙ is_false (bit x i) (first_least 63 (bit x) i (omega arith)))),
+              (bits_zero k (x % 2 ^ k) (mod-lt x (pow_pos k)) (λ i l. bit_mod x k i l
+              ∙ is_false (bit x i) (first_least 63 (bit x) i (omega arith)))),
         )
 
 ltb_shifted : (start f end : ℕ) → start ≤ end → ltb f (end - start) ≡ ltb (start + f) end
@@ -46,7 +51,8 @@ ltb_shifted start f end h = go (dec_lt f (end - start))
     go (yes l) = rw (lt-ltb f (end - start) l, lt-ltb (start + f) end (omega arith))
     go (no g) = rw (le-ltb f (end - start) (omega arith), le-ltb (start + f) end (omega arith))
 
--- whether the least choice lies below `end`, where the first choice of its word has the number `start`: `end` lies before the word, behind it or within
+-- whether the least choice lies below `end`, where the first choice of its word has the number `start`: `end` lies
+-- before the word, behind it or within
 pub passes_before : (x start end : ℕ) → end ≤ start → false ≡ ltb (start + lowest_in x) end
 passes_before x start end h = sym (le-ltb (start + lowest_in x) end (omega arith))
 
@@ -56,7 +62,8 @@ passes_behind x start end h = sym (lt-ltb (start + lowest_in x) end (omega (arit
 pub passes_within : (x start end : ℕ) → start ≤ end → end - start < 64
     → not (eqb (bit_and x ((1 * 2 ^ (end - start)) % 2 ^ 64 - 1)) 0) ≡ ltb (start + lowest_in x) end
 passes_within x start end h l =
-    ap (λ m. not (eqb (bit_and x (m - 1)) 0)) (power_shift (end - start) l) ∙ ap (λ m. not (eqb m 0)) (and_mask x (end - start))
+    ap (λ m. not (eqb (bit_and x (m - 1)) 0)) (power_shift (end - start) l)
+    ∙ ap (λ m. not (eqb m 0)) (and_mask x (end - start))
     ∙ low_bits x (end - start) l ∙ ltb_shifted start (lowest_in x) end h
 
 -- the mask of the bits below `end` is no 0
@@ -77,7 +84,8 @@ unfolding choice_number
 number_lt zero values h = pow_pos 0
 number_lt (suc v) values h = omega (arith, number_lt v values h, two-pow-succ v, h v)
 
-pub number_more : (v : ℕ) (values : List ℕ) → 2 * choice_number v values + get_or values v 0 ≡ choice_number (v + 1) values
+pub number_more : (v : ℕ) (values : List ℕ) → 2 * choice_number v values + get_or values v 0
+    ≡ choice_number (v + 1) values
 unfolding choice_number
 number_more v values = rw (add-one v)
 
@@ -87,8 +95,8 @@ few h = pow_mono h
 
 -- ---- a guess more
 
--- the values of all variables but the last `left` are guessed, and those are full: the least choice is one of the 2 ^ left choices from `low` on, which
--- are those with the guessed values
+-- the values of all variables but the last `left` are guessed, and those are full: the least choice is one of the 2 ^
+-- left choices from `low` on, which are those with the guessed values
 pub record Guessed (least free left : ℕ) (values : List ℕ) (low span : ℕ) : Type 0 where
   pub within : left ≤ free
   pub range : span ≡ 2 ^ left
@@ -124,14 +132,16 @@ guess_none least free h =
       upper = omega arith;
     }
 
-module _ (least free left : ℕ) (values : List ℕ) (low span : ℕ) (g : Guessed least free left values low span) (h : 0 < left) where
+module _ (least free left : ℕ) (values : List ℕ) (low span : ℕ) (g : Guessed least free left values low span)
+    (h : 0 < left) where
   half_range : span / 2 ≡ 2 ^ (left - 1)
   half_range = omega (arith, g.range, halved left h)
 
   two_halves : 2 * (span / 2) ≡ span
   two_halves = omega (arith, g.range, halved left h)
 
-  next_start : (new : List ℕ) (d : ℕ) → choice_number (free - left) new ≡ choice_number (free - left) values → get_or new (free - left) 0 ≡ d
+  next_start : (new : List ℕ) (d : ℕ) → choice_number (free - left) new ≡ choice_number (free - left) values
+      → get_or new (free - left) 0 ≡ d
       → low + d * (span / 2) ≡ choice_number (free - (left - 1)) new * (span / 2)
   next_start new d before here =
       let next : free - (left - 1) ≡ free - left + 1 = omega (arith, g.within) in
@@ -142,7 +152,8 @@ module _ (least free left : ℕ) (values : List ℕ) (low span : ℕ) (g : Guess
       ∙ ap (λ n. n + d * (span / 2)) (ap (λ n. choice_number (free - left) values * n) two_halves ∙ sym g.start))
 
   -- the least choice is in the lower span of the range: the next variable is empty
-  pub guess_empty : free ≤ 12 → least < low + span / 2 → Guessed least free (left - 1) (set values (free - left) 0) low (span / 2)
+  pub guess_empty : free ≤ 12 → least < low + span / 2
+      → Guessed least free (left - 1) (set values (free - left) 0) low (span / 2)
   guess_empty f l =
       let inside : free - left < length values = omega (arith, g.size, g.within) in
       let e : low + 0 * (span / 2) ≡ low = omega arith in
@@ -155,7 +166,8 @@ module _ (least free left : ℕ) (values : List ℕ) (low span : ℕ) (g : Guess
             (get_or-set_same values (free - left) 0 0 inside);
         size = simp length-set g.size;
         digits = store_law (λ j x. x < 2) values (free - left) 0 inside (λ j n. g.digits j) (omega arith);
-        later = λ v k m. get_or-set_other values (free - left) v 0 0 (λ q. omega (arith, g.within)) ∙ g.later v (omega (arith, g.within)) m;
+        later = λ v k m. get_or-set_other values (free - left) v 0 0 (λ q. omega (arith, g.within))
+            ∙ g.later v (omega (arith, g.within)) m;
         lower = g.lower;
         upper = l;
       }
@@ -176,7 +188,8 @@ module _ (least free left : ℕ) (values : List ℕ) (low span : ℕ) (g : Guess
       }
 
 -- no variable is left
-pub guess_all : (least free left : ℕ) (values : List ℕ) (low span : ℕ) → Guessed least free left values low span → left ≡ 0
+pub guess_all : (least free left : ℕ) (values : List ℕ) (low span : ℕ) → Guessed least free left values low span
+    → left ≡ 0
     → choice_number free values ≡ least
 guess_all least free left values low span g e =
     let one : span ≡ 1 = g.range ∙ ap (λ k. 2 ^ k) e in

@@ -1,5 +1,5 @@
-// The least choice that passes, of up to 12 variables, found by guesses: a choice is a number whose highest digit is variable 0, and a guess fixes the
-// value of one variable more, empty (0) before full (1).
+// The least choice that passes, of up to 12 variables, found by guesses: a choice is a number whose highest digit is
+// variable 0, and a guess fixes the value of one variable more, empty (0) before full (1).
 #![tactic(auto)]
 
 ghost use Rattle.std.specs.Prelude.{◌≡◌, ◌^◌, ◌<◌, ◌≤◌, ltb};

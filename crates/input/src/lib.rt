@@ -6,7 +6,8 @@ ghost use Rattle.std.specs.Io.KnownBytes.{Consumes, IsAtEnd};
 
 use std::io::Read;
 
-// Reads until the buffer is full, the input ends or a read fails, and gives how many bytes it put at the buffer's start.
+// Reads until the buffer is full, the input ends or a read fails, and gives how many bytes it put at the buffer's
+// start.
 // Where it is known what the input has left, these are its next bytes. How much a read brings is not known before, so
 // the loop counts no index by ones.
 pub fn read_full<R: Read>(input: &mut R, buffer: &mut [u8]) -> usize
@@ -27,7 +28,8 @@ pub fn read_full<R: Read>(input: &mut R, buffer: &mut [u8]) -> usize
     done
 }
 
-// Whether the bytes that were read are all that the input has, or as many as there is room for. At its end one more read gives 0;
+// Whether the bytes that were read are all that the input has, or as many as there is room for. At its end one more
+// read gives 0;
 // after a read that failed it fails, or gives bytes that were not read.
 pub fn is_all<R: Read>(input: &mut R, read: usize, room: usize) -> bool
     ensures { IsTrue result → (read ≡ room) ⊎ IsAtEnd (R.remaining input.new) }

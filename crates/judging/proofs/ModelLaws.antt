@@ -1,5 +1,6 @@
 -- Judging by leaves is right of the trees of the rows, for every number of levels. Assumes nothing.
-use Rattle.std.specs.Prelude.{◌≡◌, refl, Bool, true, false, not, List, [], ◌∷◌, ◌↔◌, ℕ, zero, suc, ◌^◌, ◌≤◌, ◌<◌, T, length, get_or}
+use Rattle.std.specs.Prelude.{◌≡◌, refl, Bool, true, false, not, List, [], ◌∷◌, ◌↔◌, ℕ, zero, suc, ◌^◌, ◌≤◌, ◌<◌, T}
+use Rattle.std.specs.Prelude.{length, get_or}
 use Rattle.std.proofs.Math.Path.{sym}
 use Rattle.std.proofs.Common.{ap, ap₂, ◌∙◌, subst, le_refl, not-suc-le-zero, le_of_suc-le-suc, arith}
 use Rattle.std.proofs.Math.Bool.{true≢false}
@@ -18,7 +19,8 @@ use Rattle.leaves.specs.Heights.{any_height}
 use Rattle.leaves.specs.Choices.{at, least}
 use Rattle.leaves.specs.ChoiceLaws.{at_table}
 use Rattle.leaves.proofs.SecondLaws.{extension_solvable}
-use Rattle.systems.specs.Clauses.{Term, Constants, Assignment, Atom, Clause, positive, negated, System, Holds, ClauseHolds, SystemHolds}
+use Rattle.systems.specs.Clauses.{Term, Constants, Assignment, Atom, Clause, positive, negated, System, Holds}
+use Rattle.systems.specs.Clauses.{ClauseHolds, SystemHolds}
 use Rattle.systems.specs.Questions.{Kind, satisfiability, entailment, Question, Defined, InAtom, InSystem, WellFormed}
 use Rattle.systems.specs.Bounds.{Within}
 use Rattle.systems.specs.Solutions.{SolvesFirst, Extends}
@@ -30,7 +32,8 @@ use Rattle.systems.proofs.Link.{read_any, extension_iff}
 use Rattle.rows.specs.Rows.{row_levels, row_leaf, row_part}
 use Rattle.asking.specs.Demand3.{row_shares}
 use Rattle.judging.specs.Worked
-use Rattle.judging.specs.Judging.{judged, row_at, row_way, everywhere, failing_leaf, clause_met, no_clause, clause_of, lowest_broken, choices, extends_at, broken_as, unbroken, judgement_of}
+use Rattle.judging.specs.Judging.{judged, row_at, row_way, everywhere, failing_leaf, clause_met, no_clause, clause_of}
+use Rattle.judging.specs.Judging.{lowest_broken, choices, extends_at, broken_as, unbroken, judgement_of}
 use Rattle.judging.specs.Exactly.{FailsAt, SaidOf, BrokenAt, ExtendsToo, Exactly}
 use Rattle.judging.specs.Judging.{Judgement, Refused, Accepted, Broken, Extending}
 
@@ -41,7 +44,8 @@ abbrev pub InClause : (Term → Type 0) → Clause → Type 0
 InClause P (positive a) = InAtom P a
 InClause P (negated a) = InAtom P a
 
-pub in_clause : (P : Term → Type 0) (s : System) (d : Clause) → InSystem P s → (k : ℕ) → k < length s → InClause P (get_or s k d)
+pub in_clause : (P : Term → Type 0) (s : System) (d : Clause) → InSystem P s → (k : ℕ) → k < length s
+    → InClause P (get_or s k d)
 in_clause P [] d h k l = absurd (not-suc-le-zero l)
 in_clause P (positive a ∷ s) d h zero l = h.0
 in_clause P (negated a ∷ s) d h zero l = h.0
@@ -49,12 +53,14 @@ in_clause P (positive a ∷ s) d h (suc k) l = in_clause P s d h.1 k (le_of_suc-
 in_clause P (negated a ∷ s) d h (suc k) l = in_clause P s d h.1 k (le_of_suc-le-suc l)
 
 -- a system holds exactly if each of its clauses does
-system_each : (cs : Constants) (σ : Assignment) (s : System) (d : Clause) → SystemHolds cs σ s → (k : ℕ) → k < length s → ClauseHolds cs σ (get_or s k d)
+system_each : (cs : Constants) (σ : Assignment) (s : System) (d : Clause) → SystemHolds cs σ s → (k : ℕ) → k < length s
+    → ClauseHolds cs σ (get_or s k d)
 system_each cs σ [] d h k l = absurd (not-suc-le-zero l)
 system_each cs σ (c ∷ s) d h zero l = h.0
 system_each cs σ (c ∷ s) d h (suc k) l = system_each cs σ s d h.1 k (le_of_suc-le-suc l)
 
-system_all : (cs : Constants) (σ : Assignment) (s : System) (d : Clause) → ((k : ℕ) → k < length s → ClauseHolds cs σ (get_or s k d)) → SystemHolds cs σ s
+system_all : (cs : Constants) (σ : Assignment) (s : System) (d : Clause)
+    → ((k : ℕ) → k < length s → ClauseHolds cs σ (get_or s k d)) → SystemHolds cs σ s
 system_all cs σ [] d f = tt
 system_all cs σ (c ∷ s) d f = (f zero (omega arith), system_all cs σ s d (λ k l. f (suc k) (omega arith)))
 
@@ -89,24 +95,32 @@ module _ (q : Question) (F : WellFormed q) (rows : List ℕ) where
 
   -- each has the leaves of its row
   rows_read : (n : ℕ) → Reads n height shares (row_at levels rows)
-  rows_read n = record { low = λ v l. tree_of_height height _; bits = λ i l v m. sym (leaf_at_tree_of height (row_leaf (row_part height rows v)) i l) }
+  rows_read n = record {
+    low = λ v l. tree_of_height height _;
+    bits =
+        λ i l v m. sym (leaf_at_tree_of height (row_leaf (row_part height rows v)) i l);
+  }
 
   tall : levels ≤ height
   tall = omega arith
 
   -- ---- the first system
 
-  atom_met : (a : Atom) → InAtom (Good q.free levels q.constants) a → T (everywhere q.constants rows a) ↔ Holds q.constants shares a
+  atom_met : (a : Atom) → InAtom (Good q.free levels q.constants) a
+      → T (everywhere q.constants rows a) ↔ Holds q.constants shares a
   unfolding everywhere
   atom_met a g =
-      let E = atom_iff q.free levels q.constants (le_refl levels) height tall shares (row_at levels rows) (rows_read q.free) a g in (
+      let E = atom_iff q.free levels q.constants (le_refl levels) height tall shares (row_at levels rows)
+      (rows_read q.free) a g in (
         λ t. E.1 (every_at _ _ t),
         λ h. every_intro _ _ (E.0 h),
       )
 
   -- an atom comes out at a leaf of the rows as it does at that leaf of their shares
-  row_way_lem : (a : Atom) → InAtom (Good q.free levels q.constants) a → (i : ℕ) → i < 2 ^ height → row_way q.constants rows a i ≡ tree_way height q.constants shares a i
-  row_way_lem a g = atom_way_lem q.free levels q.constants (le_refl levels) height tall shares (row_at levels rows) (rows_read q.free) a g
+  row_way_lem : (a : Atom) → InAtom (Good q.free levels q.constants) a → (i : ℕ) → i < 2 ^ height
+      → row_way q.constants rows a i ≡ tree_way height q.constants shares a i
+  row_way_lem a g = atom_way_lem q.free levels q.constants (le_refl levels) height tall shares (row_at levels rows)
+      (rows_read q.free) a g
 
   -- the lowest leaf at which it does not hold, and how it comes out there
   abbrev failing : Atom → ℕ
@@ -121,16 +135,23 @@ module _ (q : Question) (F : WellFormed q) (rows : List ℕ) where
   fails_found a g e = record {
     there = l;
     says = sym (row_way_lem a g (failing a) l);
-    fails = λ h. T_not (is_way way.Holds (row_way q.constants rows a (failing a))) (first_below_lem (2 ^ height) (fails a) l) ((is_way_iff way.Holds _).1 h);
-    lowest = λ j m. sym (row_way_lem a g j (omega (arith, l))) ∙ (is_way_iff way.Holds _).0 (holds (is_way way.Holds (row_way q.constants rows a j)) (λ t. T_not (fails a j) (first_least (2 ^ height) (fails a) j m) t));
+    fails = λ h. T_not (is_way way.Holds (row_way q.constants rows a (failing a)))
+        (first_below_lem (2 ^ height) (fails a) l) ((is_way_iff way.Holds _).1 h);
+    lowest = λ j m. sym (row_way_lem a g j (omega (arith, l)))
+        ∙ (is_way_iff way.Holds _).0
+        (holds (is_way way.Holds (row_way q.constants rows a j))
+        (λ t. T_not (fails a j) (first_least (2 ^ height) (fails a) j m) t));
   }
     where
       l : failing a < 2 ^ height
       l =
-          let n : ¬ (failing a ≡ 2 ^ height) = λ h. true≢false (sym (every_first (2 ^ height) (λ i. is_way way.Holds (row_way q.constants rows a i)) ∙ eq-eqb _ _ h) ∙ e) in
+          let n : ¬ (failing a ≡ 2 ^ height) =
+          λ h. true≢false (sym (every_first (2 ^ height) (λ i. is_way way.Holds (row_way q.constants rows a i))
+          ∙ eq-eqb _ _ h) ∙ e) in
           lt_of_le-ne (first_le (2 ^ height) (fails a)) n
 
-  fails_only : (a : Atom) → InAtom (Good q.free levels q.constants) a → (w : Way) (i : ℕ) → FailsAt height q.constants shares a w i
+  fails_only : (a : Atom) → InAtom (Good q.free levels q.constants) a → (w : Way) (i : ℕ)
+      → FailsAt height q.constants shares a w i
       → (row_way q.constants rows a (failing a) ≡ w) × (failing a ≡ i)
   unfolding failing_leaf
   fails_only a g w i F = (ap (row_way q.constants rows a) here ∙ says, here)
@@ -141,25 +162,34 @@ module _ (q : Question) (F : WellFormed q) (rows : List ℕ) where
       here : failing a ≡ i
       here =
           first_is (2 ^ height) (fails a) i F.there
-          (λ j m. ap not (is_true (is_way way.Holds (row_way q.constants rows a j)) ((is_way_iff way.Holds _).1 (row_way_lem a g j (omega (arith, F.there)) ∙ F.lowest j m))))
-          (is_true (fails a i) (not_T (is_way way.Holds (row_way q.constants rows a i)) (λ t. F.fails (sym says ∙ (is_way_iff way.Holds _).0 t))))
+          (λ j m. ap not (is_true (is_way way.Holds (row_way q.constants rows a j))
+          ((is_way_iff way.Holds _).1 (row_way_lem a g j (omega (arith, F.there)) ∙ F.lowest j m))))
+          (is_true (fails a i) (not_T (is_way way.Holds (row_way q.constants rows a i))
+          (λ t. F.fails (sym says ∙ (is_way_iff way.Holds _).0 t))))
 
   -- what is said of a clause that is broken
   broken_parts : {k n : ℕ} {w v : Way} {i j : ℕ} → Broken k w i ≡ Broken n v j → (k ≡ n) × (w ≡ v) × (i ≡ j)
   broken_parts e = (cc, cc, cc)
 
-  said_iff : (c : Clause) → InClause (Good q.free levels q.constants) c → clause_met q.constants rows c ≡ false → (n k : ℕ) (w : Way) (i : ℕ)
+  said_iff : (c : Clause) → InClause (Good q.free levels q.constants) c → clause_met q.constants rows c ≡ false
+      → (n k : ℕ) (w : Way) (i : ℕ)
       → (broken_as q.constants rows n c ≡ Broken k w i) ↔ ((n ≡ k) × SaidOf height q.constants shares c w i)
   said_iff (positive a) g b n k w i = (
-    λ e. let (p, r, s) = broken_parts e in (p, subst (λ j. FailsAt height q.constants shares a w j) s (subst (λ v. FailsAt height q.constants shares a v (failing a)) r (fails_found a g b))),
-    λ (p, F). let (r, s) = fails_only a g w i F in ap (λ k. Broken k (row_way q.constants rows a (failing a)) (failing a)) p ∙ ap₂ (Broken k) r s,
+    λ e. let (p, r, s) = broken_parts e in (
+      p,
+      subst (λ j. FailsAt height q.constants shares a w j) s
+          (subst (λ v. FailsAt height q.constants shares a v (failing a)) r (fails_found a g b)),
+    ),
+    λ (p, F). let (r, s) = fails_only a g w i F in
+        ap (λ k. Broken k (row_way q.constants rows a (failing a)) (failing a)) p ∙ ap₂ (Broken k) r s,
   )
   said_iff (negated a) g b n k w i = (
     λ e. let (p, r, s) = broken_parts e in (p, (sym r, sym s)),
     λ (p, (r, s)). ap (λ k. Broken k way.Holds 0) p ∙ ap₂ (Broken k) (sym r) (sym s),
   )
 
-  clause_met_lem : (c : Clause) → InClause (Good q.free levels q.constants) c → T (clause_met q.constants rows c) ↔ ClauseHolds q.constants shares c
+  clause_met_lem : (c : Clause) → InClause (Good q.free levels q.constants) c
+      → T (clause_met q.constants rows c) ↔ ClauseHolds q.constants shares c
   clause_met_lem (positive a) g = atom_met a g
   clause_met_lem (negated a) g =
       let E = atom_met a g in (
@@ -173,7 +203,8 @@ module _ (q : Question) (F : WellFormed q) (rows : List ℕ) where
     where
       good : InSystem (Good q.free levels q.constants) q.first
       good =
-          in_system (Defined q.free q.constants) (Within levels q.constants) _ (λ t d w. (d, w)) q.first F.first (levels_bounds q F).first
+          in_system (Defined q.free q.constants) (Within levels q.constants) _ (λ t d w. (d, w)) q.first F.first
+          (levels_bounds q F).first
 
   number_met : (k : ℕ) → k < length q.first
       → T (clause_met q.constants rows (clause_of q.first k)) ↔ ClauseHolds q.constants shares (clause_of q.first k)
@@ -184,23 +215,30 @@ module _ (q : Question) (F : WellFormed q) (rows : List ℕ) where
   breaks k = not (clause_met q.constants rows (clause_of q.first k))
 
   -- a clause below the lowest that is broken holds
-  below_holds : (k : ℕ) → k < length q.first → k < lowest_broken q rows → ClauseHolds q.constants shares (clause_of q.first k)
+  below_holds : (k : ℕ) → k < length q.first → k < lowest_broken q rows
+      → ClauseHolds q.constants shares (clause_of q.first k)
   below_holds k l m =
-      (number_met k l).0 (holds (clause_met q.constants rows (clause_of q.first k)) (λ t. T_not (breaks k) (first_least (length q.first) breaks k m) t))
+      (number_met k l).0 (holds (clause_met q.constants rows (clause_of q.first k))
+      (λ t. T_not (breaks k) (first_least (length q.first) breaks k m) t))
 
   -- what is given where one is broken
   abbrev given : Judgement
   given = broken_as q.constants rows (lowest_broken q rows) (clause_of q.first (lowest_broken q rows))
 
-  not_holds : (l : lowest_broken q rows < length q.first) → ¬ ClauseHolds q.constants shares (clause_of q.first (lowest_broken q rows))
-  not_holds l h = T_not (clause_met q.constants rows (clause_of q.first (lowest_broken q rows))) (first_below_lem (length q.first) breaks l) ((number_met _ l).1 h)
+  not_holds : (l : lowest_broken q rows < length q.first)
+      → ¬ ClauseHolds q.constants shares (clause_of q.first (lowest_broken q rows))
+  not_holds l h = T_not (clause_met q.constants rows (clause_of q.first (lowest_broken q rows)))
+      (first_below_lem (length q.first) breaks l) ((number_met _ l).1 h)
 
   broken_said : (l : lowest_broken q rows < length q.first) (k : ℕ) (w : Way) (i : ℕ)
-      → (given ≡ Broken k w i) ↔ ((lowest_broken q rows ≡ k) × SaidOf height q.constants shares (clause_of q.first (lowest_broken q rows)) w i)
+      → (given ≡ Broken k w i) ↔ ((lowest_broken q rows ≡ k)
+      × SaidOf height q.constants shares (clause_of q.first (lowest_broken q rows)) w i)
   broken_said l k w i =
-      said_iff (clause_of q.first (lowest_broken q rows)) (number_good _ l) (is_false _ (first_below_lem (length q.first) breaks l)) (lowest_broken q rows) k w i
+      said_iff (clause_of q.first (lowest_broken q rows)) (number_good _ l)
+      (is_false _ (first_below_lem (length q.first) breaks l)) (lowest_broken q rows) k w i
 
-  broken_found : lowest_broken q rows < length q.first → (k : ℕ) (w : Way) (i : ℕ) → given ≡ Broken k w i → BrokenAt q shares k w i
+  broken_found : lowest_broken q rows < length q.first → (k : ℕ) (w : Way) (i : ℕ) → given ≡ Broken k w i
+      → BrokenAt q shares k w i
   broken_found l k w i e =
       let (f, s) = (broken_said l k w i).0 e in
       rw (← f) (record { there = l; broken = not_holds l; lowest = λ j m. below_holds j (omega arith) m; said = s })
@@ -208,8 +246,11 @@ module _ (q : Question) (F : WellFormed q) (rows : List ℕ) where
   broken_only : (k : ℕ) (w : Way) (i : ℕ) → BrokenAt q shares k w i → lowest_broken q rows ≡ k
   broken_only k w i B =
       first_is (length q.first) breaks k B.there
-      (λ i l. is_false (breaks i) (not_T (breaks i) (λ t. T_not (clause_met q.constants rows (clause_of q.first i)) t ((number_met i (omega (arith, B.there))).1 (B.lowest i l)))))
-      (is_true (breaks k) (not_T (clause_met q.constants rows (clause_of q.first k)) (λ t. B.broken ((number_met k B.there).0 t))))
+      (λ i l. is_false (breaks i) (not_T (breaks i)
+      (λ t. T_not (clause_met q.constants rows (clause_of q.first i)) t
+      ((number_met i (omega (arith, B.there))).1 (B.lowest i l)))))
+      (is_true (breaks k) (not_T (clause_met q.constants rows (clause_of q.first k))
+      (λ t. B.broken ((number_met k B.there).0 t))))
 
   -- none is
   solves_found : length q.first ≤ lowest_broken q rows → SolvesFirst q shares
@@ -234,7 +275,8 @@ module _ (q : Question) (F : WellFormed q) (rows : List ℕ) where
   -- the rows extend exactly if their shares do
   extends_iff : T (extends_at q rows) ↔ Extends q shares
   extends_iff =
-      let E = extension_iff levels q F (levels_bounds q F) height tall shares (choices q rows) choices_read any_height any_height (read_any height) in
+      let E = extension_iff levels q F (levels_bounds q F) height tall shares (choices q rows) choices_read any_height
+      any_height (read_any height) in
       let S = extension_solvable (least q.own) levels (second_at levels q) height (choices q rows) tall in
       (λ t. E.1 (S.1 t), λ e. S.0 (E.0 e))
 
@@ -249,7 +291,8 @@ module _ (q : Question) (F : WellFormed q) (rows : List ℕ) where
   given_broken : lowest_broken q rows < length q.first → judgement_of (judged q) rows ≡ given
   given_broken l = rw (lt-ltb (lowest_broken q rows) (length q.first) l)
 
-  given_unbroken : length q.first ≤ lowest_broken q rows → judgement_of (judged q) rows ≡ unbroken q.kind (extends_at q rows)
+  given_unbroken : length q.first ≤ lowest_broken q rows
+      → judgement_of (judged q) rows ≡ unbroken q.kind (extends_at q rows)
   given_unbroken g = rw (le-ltb (lowest_broken q rows) (length q.first) g)
 
   -- where none is broken: accepted or extending

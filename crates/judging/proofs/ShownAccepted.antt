@@ -6,7 +6,8 @@ use Rattle.std.proofs.Math.ListN.{length}
 use Rattle.shares.specs.Test.{is_true}
 use Rattle.systems.specs.Clauses.{Assignment}
 use Rattle.systems.specs.Questions.{Question, WellFormed, question_height}
-use Rattle.systems.specs.Answers.{Answer, satisfied, unsatisfied, vacuous, entailed, unmet, missed, kind_of, shows, Fails}
+use Rattle.systems.specs.Answers.{Answer, satisfied, unsatisfied, vacuous, entailed, unmet, missed, kind_of, shows}
+use Rattle.systems.specs.Answers.{Fails}
 use Rattle.systems.specs.Decide.{decide}
 use Rattle.systems.proofs.Exact.{decide_kind_lem}
 use Rattle.systems.proofs.Heights.{exact}
@@ -32,7 +33,8 @@ not_extending q σ entailed t f e = t
 not_extending q σ unmet t f e = f.0 e
 not_extending q σ (missed j) t f e = f.0 e
 
-module _ (s answer work : List ℕ) (q : Question) (e : asked_with s answer work ≡ answered q) (t : T (shows (decide q))) where
+module _ (s answer work : List ℕ) (q : Question) (e : asked_with s answer work ≡ answered q)
+    (t : T (shows (decide q))) where
   G : Granted s (length answer) (length work) q
   G = granted s (length answer) (length work) q e
 
@@ -48,7 +50,8 @@ module _ (s answer work : List ℕ) (q : Question) (e : asked_with s answer work
 
   first_bytes : rows ≡ answer_after (answered q) (take bytes answer)
   unfolding answer_after
-  first_bytes = rw (is_true (shows (decide q)) t) (filled_first (row_levels q.constants.levels) q.free (shown_trees q) answer G.answer)
+  first_bytes = rw (is_true (shows (decide q)) t)
+      (filled_first (row_levels q.constants.levels) q.free (shown_trees q) answer G.answer)
 
   -- are what a buffer of that length is left with
   short : length (take bytes answer) ≡ bytes
@@ -56,14 +59,18 @@ module _ (s answer work : List ℕ) (q : Question) (e : asked_with s answer work
 
   shown : RowsShow q (decide q) rows
   shown =
-      let again : asked_with s (take bytes answer) work ≡ answered q = asked_answered s _ (length work) q G.taken (omega (arith, short)) G.work in
-      rw first_bytes ((demand_3 s (take bytes answer) work q again).shown (decide q) ((exact q formed (decide q)).1 refl) t)
+      let again : asked_with s (take bytes answer) work ≡ answered q =
+      asked_answered s _ (length work) q G.taken (omega (arith, short)) G.work in
+      rw first_bytes ((demand_3 s (take bytes answer) work q again).shown (decide q)
+      ((exact q formed (decide q)).1 refl) t)
 
   long : length rows ≡ bytes
   unfolding answer_after
   long =
       ap length first_bytes
-      ∙ rw (is_true (shows (decide q)) t) (filled_length (row_levels q.constants.levels) q.free (shown_trees q) (take bytes answer) (omega (arith, short)) ∙ short)
+      ∙ rw (is_true (shows (decide q)) t)
+      (filled_length (row_levels q.constants.levels) q.free (shown_trees q) (take bytes answer) (omega (arith, short))
+      ∙ short)
 
   pub shown_accepted : judgement_of (judged_with s rows) rows ≡ Accepted
   shown_accepted =
@@ -73,9 +80,11 @@ module _ (s answer work : List ℕ) (q : Question) (e : asked_with s answer work
       others : is_zero (drop (q.free * row_bytes q.constants.levels) rows) ≡ true
       others =
           zero_part _ (λ i l. get_or-drop (q.free * row_bytes q.constants.levels) rows i 0
-          ∙ others_zero (row_levels q.constants.levels) q.free rows (omega arith) (sym long) shown.others _ (omega arith))
+          ∙ others_zero (row_levels q.constants.levels) q.free rows (omega arith) (sym long) shown.others _
+          (omega arith))
 
       right : ¬ ExtendsToo q.kind q (row_shares q.constants.levels rows)
       right =
-          subst (λ k. ¬ ExtendsToo k q (row_shares q.constants.levels rows)) (decide_kind_lem (question_height q) q q.kind)
+          subst (λ k. ¬ ExtendsToo k q (row_shares q.constants.levels rows))
+          (decide_kind_lem (question_height q) q q.kind)
           (not_extending q _ (decide q) t shown.solution.fails)

@@ -1,6 +1,7 @@
 -- Going over the commands of an accepted question meets the clauses of its first system one by one. Assumes nothing.
 use Rattle.std.proofs.Math.Path.{◌≡◌, refl, ap}
-use Rattle.std.proofs.Common.{sym, ◌∙◌, subst, true≢false, inl, inr, eq-or-lt_of_le, le_of_suc-le-suc, not-suc-le-zero, arith, length-append}
+use Rattle.std.proofs.Common.{sym, ◌∙◌, subst, true≢false, inl, inr, eq-or-lt_of_le, le_of_suc-le-suc, not-suc-le-zero}
+use Rattle.std.proofs.Common.{arith, length-append}
 use Rattle.std.specs.Prelude.{Bool, not, cond, ◌⊎◌, Some, None, ◌-◌, eqb, ltb, get_or, take}
 use Rattle.std.proofs.Math.Bool.{true, false, not-not}
 use mathlib.Core.List.{List, [], ◌∷◌, ◌++◌, append-nil, append_assoc}
@@ -19,11 +20,13 @@ use Rattle.systems.specs.Questions.{Question, Defined, InAtom, InSystem, WellFor
 use Rattle.systems.specs.AtLeaves.{read_as}
 use Rattle.systems.specs.SystemLaws.{in_system}
 use Rattle.format.specs.declared.Section.{Section}
-use Rattle.format.specs.declared.Section.TheVariants.{FirstPositive, FirstDisequation, SecondPositive, SecondDisequation}
+use Rattle.format.specs.declared.Section.TheVariants.{FirstPositive, FirstDisequation, SecondPositive}
+use Rattle.format.specs.declared.Section.TheVariants.{SecondDisequation}
 use Rattle.format.specs.declared.Command.{Command}
 use Rattle.format.specs.Format.{Take, Refused}
 use Rattle.format.specs.declared.Shape.{Shape}
-use Rattle.format.specs.Format.{most_positive, most_disequations, accepted, read, read_at, whole_at, entry_of, operands, command_of, atom_of}
+use Rattle.format.specs.Format.{most_positive, most_disequations, accepted, read, read_at, whole_at, entry_of, operands}
+use Rattle.format.specs.Format.{command_of, atom_of}
 use Rattle.format.specs.SectionLaws.{both_counts}
 use Rattle.format.specs.Limits.{Limited}
 use Rattle.format.proofs.FormatLaws.{size_some, Whole, read_whole, accepted_formed, accepted_limited}
@@ -35,8 +38,10 @@ use Rattle.encoding.specs.Order.{read_on, commands_from, first_said, first_claus
 use Rattle.encoding.proofs.OrderLaws.{in_order}
 use Rattle.rows.specs.Rows.{row_levels, row_count}
 use Rattle.unfolded.specs.Unfolded.{join_failing}
-use Rattle.judging.specs.Judging.{row_way, everywhere, failing_leaf, clause_met, no_clause, clause_of, lowest_broken, broken_as}
-use Rattle.judging.specs.Walk.{breaks_in, said_in, command_breaks, command_said, CommandFits, says_first, Laid, first_judged, First, Walk, HeldBelow, Gone}
+use Rattle.judging.specs.Judging.{row_way, everywhere, failing_leaf, clause_met, no_clause, clause_of, lowest_broken}
+use Rattle.judging.specs.Judging.{broken_as}
+use Rattle.judging.specs.Walk.{breaks_in, said_in, command_breaks, command_said, CommandFits, says_first, Laid}
+use Rattle.judging.specs.Walk.{first_judged, First, Walk, HeldBelow, Gone}
 use Rattle.judging.proofs.ModelLaws.{InClause, in_clause}
 use Rattle.judging.specs.TableLaws.{DefinedKept, join_way_lem, join_failing_lem, parts_in}
 use Rattle.judging.specs.Judging.{Accepted, Broken}
@@ -58,7 +63,8 @@ module _ (s : List ℕ) (at : ℕ) where
       unfolding read_at whole_at
       read_short m = rw (lt-ltb at (length s) l, e, lt-ltb (length s - (at + 1)) (operands h) m) refl
 
-      pub read_take : operands h ≤ length s - (at + 1) → read_at s at ≡ Take (command_of s (at + 1) h) (at + 1 + operands h)
+      pub read_take : operands h ≤ length s - (at + 1)
+          → read_at s at ≡ Take (command_of s (at + 1) h) (at + 1 + operands h)
       unfolding read_at whole_at
       read_take m = rw (lt-ltb at (length s) l, e, le-ltb (length s - (at + 1)) (operands h) m) refl
 
@@ -102,7 +108,8 @@ not_end (Command.Constant x) n = refl
 not_end (Command.Clause σ t x y z) n = refl
 
 -- a command passes over a byte or more, within the string
-pub moves : (s : List ℕ) (at : ℕ) {c : Command} {next : ℕ} → read_at s at ≡ Take c next → (at < next) × (next ≤ length s)
+pub moves : (s : List ℕ) (at : ℕ) {c : Command} {next : ℕ} → read_at s at ≡ Take c next → (at < next)
+    × (next ≤ length s)
 moves s at {c} e = let h = subst (Whole s at) e (read_whole s at) in (omega (arith, h.0, size_some c), h.1)
 
 -- ---- what a command says to the first system
@@ -149,20 +156,34 @@ module _ (s : List ℕ) (q : Question) where
 
       module _ (d : is_end c ≡ false) where
         -- what it says comes next
-        onward : (k : ℕ) × (length s < next + k) × (q.first ≡ w.met ++ (first_clause c ++ first_clauses (commands_from k s next)))
+        onward : (k : ℕ) × (length s < next + k)
+            × (q.first ≡ w.met ++ (first_clause c ++ first_clauses (commands_from k s next)))
         unfolding first_clauses
         onward = go w.bound w.enough w.rest
           where
             go : (k : ℕ) → length s < at + k → q.first ≡ w.met ++ first_clauses (commands_from k s at)
-                → (k : ℕ) × (length s < next + k) × (q.first ≡ w.met ++ (first_clause c ++ first_clauses (commands_from k s next)))
+                → (k : ℕ) × (length s < next + k)
+                × (q.first ≡ w.met ++ (first_clause c ++ first_clauses (commands_from k s next)))
             go zero l r = absurd (omega (arith, (moves s at e).0, (moves s at e).1))
-            go (suc k) l r = (k, omega (arith, (moves s at e).0), r ∙ ap (λ l. w.met ++ first_clauses l) (commands_more s at c next e d k))
+            go (suc k) l r = (
+              k,
+              omega (arith, (moves s at e).0),
+              r
+                  ∙ ap (λ l. w.met ++ first_clauses l) (commands_more s at c next e d k),
+            )
 
         -- no clause of the first system
         walk_other : says_first c ≡ false → Walk s q next n
         walk_other f =
             let (k, l, r) = onward in
-            record { bound = k; enough = l; met = w.met; count = w.count; rest = r ∙ ap (λ x. w.met ++ (x ++ first_clauses (commands_from k s next))) (said_nothing c f) }
+            record {
+              bound = k;
+              enough = l;
+              met = w.met;
+              count = w.count;
+              rest =
+                  r ∙ ap (λ x. w.met ++ (x ++ first_clauses (commands_from k s next))) (said_nothing c f);
+            }
 
         -- one: it is the one with that number
         module _ (f : says_first c ≡ true) where
@@ -175,17 +196,20 @@ module _ (s : List ℕ) (q : Question) where
                 enough = l;
                 met = w.met ++ (x ∷ []);
                 count = length-append w.met (x ∷ []) ∙ ap (λ m. m + 1) w.count;
-                rest = r ∙ ap (λ y. w.met ++ (y ++ first_clauses (commands_from k s next))) g ∙ sym (append_assoc w.met (x ∷ []) (first_clauses (commands_from k s next)));
+                rest = r ∙ ap (λ y. w.met ++ (y ++ first_clauses (commands_from k s next))) g
+                    ∙ sym (append_assoc w.met (x ∷ []) (first_clauses (commands_from k s next)));
               }
 
           walk_clause : (n < length q.first) × (first_clause c ≡ clause_of q.first n ∷ [])
           walk_clause =
               let (k, l, r) = onward in
               let (x, g) = said_first c f in
-              let whole : q.first ≡ w.met ++ (x ∷ first_clauses (commands_from k s next)) = r ∙ ap (λ y. w.met ++ (y ++ first_clauses (commands_from k s next))) g in
+              let whole : q.first ≡ w.met ++ (x ∷ first_clauses (commands_from k s next)) =
+              r ∙ ap (λ y. w.met ++ (y ++ first_clauses (commands_from k s next))) g in
               let long = ap length whole ∙ length-append w.met (x ∷ first_clauses (commands_from k s next)) in (
                 omega (arith, long, w.count),
-                g ∙ ap (λ y. y ∷ []) (sym (ap (λ l. clause_of l n) whole ∙ get_or_at w.met x (first_clauses (commands_from k s next)) _ n w.count)),
+                g ∙ ap (λ y. y ∷ []) (sym (ap (λ l. clause_of l n) whole
+                    ∙ get_or_at w.met x (first_clauses (commands_from k s next)) _ n w.count)),
               )
 
 -- ---- a clause and the rows of a table
@@ -207,14 +231,16 @@ in_command P x d (Command.Clause SecondPositive t a b c) e = let z : ◌≡◌ {
 in_command P x d (Command.Clause SecondDisequation t a b c) e = let z : ◌≡◌ {A = ℕ} 0 1 = cc in absurd (omega arith)
 
 -- its parts have a place in the table
-command_fits : (n : ℕ) (cs : Constants) → n ≤ row_count → length cs.numbers ≤ 32 → (c : Command) → InCommand (Defined n cs) c → CommandFits c
+command_fits : (n : ℕ) (cs : Constants) → n ≤ row_count → length cs.numbers ≤ 32 → (c : Command)
+    → InCommand (Defined n cs) c → CommandFits c
 command_fits n cs few some Command.End d = tt
 command_fits n cs few some Command.Head d = tt
 command_fits n cs few some (Command.Constant x) d = tt
 command_fits n cs few some (Command.Clause σ t a b c) d = parts_in n cs few some (atom_of t a b c) d
 
 -- an atom holds at every leaf exactly if none is the lowest at which it does not
-everywhere_first : (cs : Constants) (rows : List ℕ) (a : Atom) → everywhere cs rows a ≡ eqb (failing_leaf cs rows a) (2 ^ row_levels cs.levels)
+everywhere_first : (cs : Constants) (rows : List ℕ) (a : Atom)
+    → everywhere cs rows a ≡ eqb (failing_leaf cs rows a) (2 ^ row_levels cs.levels)
 unfolding everywhere failing_leaf
 everywhere_first cs rows a = every_first (2 ^ row_levels cs.levels) (λ i. is_way Holds (row_way cs rows a i))
 
@@ -223,14 +249,16 @@ unfolding failing_leaf
 failing_le cs rows a = first_le (2 ^ row_levels cs.levels) (λ i. not (is_way Holds (row_way cs rows a i)))
 
 -- a clause is broken exactly if it is not met
-breaks_same : (cs : Constants) (rows : List ℕ) (x : Clause) (σ : Section) (a : Atom) → first_said σ a ≡ x ∷ [] → breaks_in σ (everywhere cs rows a) ≡ not (clause_met cs rows x)
+breaks_same : (cs : Constants) (rows : List ℕ) (x : Clause) (σ : Section) (a : Atom) → first_said σ a ≡ x ∷ []
+    → breaks_in σ (everywhere cs rows a) ≡ not (clause_met cs rows x)
 breaks_same cs rows x FirstPositive a e = let f : x ≡ positive a = cc in rw f refl
 breaks_same cs rows x FirstDisequation a e = let f : x ≡ negated a = cc in rw f (sym (not-not (everywhere cs rows a)))
 breaks_same cs rows x SecondPositive a e = let z : ◌≡◌ {A = ℕ} 0 1 = cc in absurd (omega arith)
 breaks_same cs rows x SecondDisequation a e = let z : ◌≡◌ {A = ℕ} 0 1 = cc in absurd (omega arith)
 
 -- and what is said of it is the judgement
-said_same : (cs : Constants) (rows : List ℕ) (k : ℕ) (x : Clause) (σ : Section) (a : Atom) → first_said σ a ≡ x ∷ [] → said_in σ (row_way cs rows a) (failing_leaf cs rows a) k ≡ broken_as cs rows k x
+said_same : (cs : Constants) (rows : List ℕ) (k : ℕ) (x : Clause) (σ : Section) (a : Atom) → first_said σ a ≡ x ∷ []
+    → said_in σ (row_way cs rows a) (failing_leaf cs rows a) k ≡ broken_as cs rows k x
 said_same cs rows k x FirstPositive a e = let f : x ≡ positive a = cc in rw f refl
 said_same cs rows k x FirstDisequation a e = let f : x ≡ negated a = cc in rw f refl
 said_same cs rows k x SecondPositive a e = let z : ◌≡◌ {A = ℕ} 0 1 = cc in absurd (omega arith)
@@ -241,7 +269,8 @@ pub leaf_lt : (leaf n : ℕ) → leaf ≤ n → not (eqb leaf n) ≡ true → le
 leaf_lt leaf n l b = lt_of_le-ne l (λ e. true≢false (sym b ∙ ap not (eq-eqb leaf n e)))
 
 -- only what stands at the leaves counts for that
-said_ext : (σ : Section) (n k : ℕ) (v w : ℕ → Way) (i j : ℕ) → i ≡ j → j ≤ n → breaks_in σ (eqb j n) ≡ true → ((i : ℕ) → i < n → v i ≡ w i) → said_in σ v i k ≡ said_in σ w j k
+said_ext : (σ : Section) (n k : ℕ) (v w : ℕ → Way) (i j : ℕ) → i ≡ j → j ≤ n → breaks_in σ (eqb j n) ≡ true
+    → ((i : ℕ) → i < n → v i ≡ w i) → said_in σ v i k ≡ said_in σ w j k
 said_ext FirstPositive n k v w i j e l b f = rw e (ap (λ x. Broken k x j) (f j (leaf_lt j n l b)))
 said_ext FirstDisequation n k v w i j e l b f = refl
 said_ext SecondPositive n k v w i j e l b f = refl
@@ -260,7 +289,8 @@ module _ (s : List ℕ) (q : Question) (e : read s ≡ accepted q) where
     its_terms P g = in_command P (clause_of q.first n) (in_clause P q.first no_clause g n l) c f
 
     clause_fits : CommandFits c
-    clause_fits = command_fits q.free q.constants (omega (arith, L.variables)) L.constants c (its_terms (Defined q.free q.constants) F.first)
+    clause_fits = command_fits q.free q.constants (omega (arith, L.variables)) L.constants c
+        (its_terms (Defined q.free q.constants) F.first)
 
     module _ (levels : ℕ) (rows constants : List ℕ) (named : ℕ) (table : List ℕ)
         (laid : Laid levels q rows constants named table) where
@@ -274,7 +304,8 @@ module _ (s : List ℕ) (q : Question) (e : read s ≡ accepted q) where
       kept : InCommand (DefinedKept q.free cs named) c
       kept =
           subst (λ cs. InCommand (DefinedKept q.free cs named) c) laid.constants_are
-          (its_terms _ (in_system (Defined q.free q.constants) (Kept named) (DefinedKept q.free q.constants named) (λ t d k. (d, k)) q.first F.first laid.kept))
+          (its_terms _ (in_system (Defined q.free q.constants) (Kept named) (DefinedKept q.free q.constants named)
+          (λ t d k. (d, k)) q.first F.first laid.kept))
 
       -- the lowest leaf at which an atom does not hold, of the table and of the rows
       failing_same : (a : Atom) → InAtom (DefinedKept q.free cs named) a
@@ -291,7 +322,8 @@ module _ (s : List ℕ) (q : Question) (e : read s ≡ accepted q) where
           go Command.Head g d = let z : ◌≡◌ {A = ℕ} 0 1 = cc in absurd (omega arith)
           go (Command.Constant x) g d = let z : ◌≡◌ {A = ℕ} 0 1 = cc in absurd (omega arith)
           go (Command.Clause σ t a b c) g d =
-              ap (λ l. breaks_in σ (eqb l (2 ^ row_levels levels))) (failing_same (atom_of t a b c) d) ∙ ap (breaks_in σ) (sym (everywhere_first cs rows (atom_of t a b c)))
+              ap (λ l. breaks_in σ (eqb l (2 ^ row_levels levels))) (failing_same (atom_of t a b c) d)
+              ∙ ap (breaks_in σ) (sym (everywhere_first cs rows (atom_of t a b c)))
               ∙ breaks_same cs rows (clause_of q.first n) σ (atom_of t a b c) g
 
       -- and what is said of it is the judgement
@@ -300,14 +332,16 @@ module _ (s : List ℕ) (q : Question) (e : read s ≡ accepted q) where
       clause_said = rw laid.constants_are (go c f kept)
         where
           go : (c : Command) → first_clause c ≡ clause_of q.first n ∷ [] → InCommand (DefinedKept q.free cs named) c
-              → command_breaks levels table c ≡ true → command_said levels table c n ≡ broken_as cs rows n (clause_of q.first n)
+              → command_breaks levels table c ≡ true
+              → command_said levels table c n ≡ broken_as cs rows n (clause_of q.first n)
           go Command.End g d e = let z : ◌≡◌ {A = ℕ} 0 1 = cc in absurd (omega arith)
           go Command.Head g d e = let z : ◌≡◌ {A = ℕ} 0 1 = cc in absurd (omega arith)
           go (Command.Constant x) g d e = let z : ◌≡◌ {A = ℕ} 0 1 = cc in absurd (omega arith)
           go (Command.Clause σ t a b c) g d e =
               let atom = atom_of t a b c in
               let same = failing_same atom d in
-              said_ext σ (2 ^ row_levels levels) n _ (row_way cs rows atom) _ (failing_leaf cs rows atom) same (failing_le cs rows atom)
+              said_ext σ (2 ^ row_levels levels) n _ (row_way cs rows atom) _ (failing_leaf cs rows atom) same
+              (failing_le cs rows atom)
               (ap (λ l. breaks_in σ (eqb l (2 ^ row_levels levels))) (sym same) ∙ e)
               (join_way_lem levels rows constants named table laid.unfolded (defined_by q) q.free few atom d)
               ∙ said_same cs rows n (clause_of q.first n) σ atom g
@@ -318,10 +352,12 @@ lowest_there : (q : Question) (rows : List ℕ) (n : ℕ) → HeldBelow q rows n
     → not (clause_met q.constants rows (clause_of q.first n)) ≡ true → lowest_broken q rows ≡ n
 lowest_there q rows n held l broken = first_is (length q.first) _ n l held broken
 
-lowest_none : (q : Question) (rows : List ℕ) (n : ℕ) → HeldBelow q rows n → length q.first ≡ n → lowest_broken q rows ≡ n
+lowest_none : (q : Question) (rows : List ℕ) (n : ℕ) → HeldBelow q rows n → length q.first ≡ n
+    → lowest_broken q rows ≡ n
 lowest_none q rows n held e = first_none (length q.first) _ (λ k l. held k (omega arith)) ∙ e
 
-held_more : (q : Question) (rows : List ℕ) (n : ℕ) → HeldBelow q rows n → not (clause_met q.constants rows (clause_of q.first n)) ≡ false → HeldBelow q rows (n + 1)
+held_more : (q : Question) (rows : List ℕ) (n : ℕ) → HeldBelow q rows n
+    → not (clause_met q.constants rows (clause_of q.first n)) ≡ false → HeldBelow q rows (n + 1)
 held_more q rows n held e k l = go (eq-or-lt_of_le (le_of_suc-le-suc (omega arith)))
   where
     go : (k ≡ n) ⊎ (k < n) → not (clause_met q.constants rows (clause_of q.first k)) ≡ false
@@ -331,14 +367,17 @@ held_more q rows n held e k l = go (eq-or-lt_of_le (le_of_suc-le-suc (omega arit
 -- ---- the judgement of the first system
 
 -- no clause is broken
-first_none_broken : (q : Question) (rows : List ℕ) (n : ℕ) → HeldBelow q rows n → length q.first ≡ n → Accepted ≡ first_judged q rows
+first_none_broken : (q : Question) (rows : List ℕ) (n : ℕ) → HeldBelow q rows n → length q.first ≡ n
+    → Accepted ≡ first_judged q rows
 first_none_broken q rows n held e =
-    let none : ltb (lowest_broken q rows) (length q.first) ≡ false = le-ltb (lowest_broken q rows) (length q.first) (omega (arith, lowest_none q rows n held e)) in
+    let none : ltb (lowest_broken q rows) (length q.first) ≡ false =
+    le-ltb (lowest_broken q rows) (length q.first) (omega (arith, lowest_none q rows n held e)) in
     rw none refl
 
 -- clause n is, and none below it
 first_is_broken : (q : Question) (rows : List ℕ) (n : ℕ) → HeldBelow q rows n → n < length q.first
-    → not (clause_met q.constants rows (clause_of q.first n)) ≡ true → broken_as q.constants rows n (clause_of q.first n) ≡ first_judged q rows
+    → not (clause_met q.constants rows (clause_of q.first n)) ≡ true
+    → broken_as q.constants rows n (clause_of q.first n) ≡ first_judged q rows
 first_is_broken q rows n held l broken = rw (lowest_there q rows n held l broken, lt-ltb n (length q.first) l) refl
 
 -- the number of "accepted" among the judgements is that of no other
@@ -355,11 +394,13 @@ module _ (levels : ℕ) (s table : List ℕ) where
 
   module _ {at n : ℕ} (g : Gone levels s table at n) where
     pub first_refused : (m : ℕ) → read_at s at ≡ Refused m → First levels s table Accepted
-    first_refused m r q rows constants named e laid = first_none_broken q rows n ((g q e).1 rows constants named laid) (walk_none s q (g q e).0 m r)
+    first_refused m r q rows constants named e laid =
+        first_none_broken q rows n ((g q e).1 rows constants named laid) (walk_none s q (g q e).0 m r)
 
     module _ {c : Command} {next : ℕ} (r : read_at s at ≡ Take c next) where
       pub first_end : is_end c ≡ true → First levels s table Accepted
-      first_end d q rows constants named e laid = first_none_broken q rows n ((g q e).1 rows constants named laid) (walk_end s q (g q e).0 c next r d)
+      first_end d q rows constants named e laid =
+          first_none_broken q rows n ((g q e).1 rows constants named laid) (walk_end s q (g q e).0 c next r d)
 
       module _ (d : is_end c ≡ false) where
         pub gone_other : says_first c ≡ false → Gone levels s table next n
@@ -370,7 +411,8 @@ module _ (levels : ℕ) (s table : List ℕ) where
           gone_fits q e = let w = walk_clause s q (g q e).0 c next r d f in (clause_fits s q e n c w.0 w.1, w.0)
 
           breaks : (q : Question) (rows constants : List ℕ) (named : ℕ) → read s ≡ accepted q
-              → Laid levels q rows constants named table → command_breaks levels table c ≡ not (clause_met q.constants rows (clause_of q.first n))
+              → Laid levels q rows constants named table
+              → command_breaks levels table c ≡ not (clause_met q.constants rows (clause_of q.first n))
           breaks q rows constants named e laid =
               let w = walk_clause s q (g q e).0 c next r d f in
               clause_breaks s q e n c w.0 w.1 levels rows constants named table laid
@@ -379,12 +421,14 @@ module _ (levels : ℕ) (s table : List ℕ) where
           first_broken b q rows constants named e laid =
               let w = walk_clause s q (g q e).0 c next r d f in
               clause_said s q e n c w.0 w.1 levels rows constants named table laid b
-              ∙ first_is_broken q rows n ((g q e).1 rows constants named laid) w.0 (sym (breaks q rows constants named e laid) ∙ b)
+              ∙ first_is_broken q rows n ((g q e).1 rows constants named laid) w.0
+              (sym (breaks q rows constants named e laid) ∙ b)
 
           pub gone_first : command_breaks levels table c ≡ false → Gone levels s table next (n + 1)
           gone_first b q e = (
             walk_first s q (g q e).0 c next r d f,
-            λ rows constants named laid. held_more q rows n ((g q e).1 rows constants named laid) (sym (breaks q rows constants named e laid) ∙ b),
+            λ rows constants named laid. held_more q rows n ((g q e).1 rows constants named laid)
+                (sym (breaks q rows constants named e laid) ∙ b),
           )
 
 -- a constant says nothing to the first system

@@ -1,4 +1,5 @@
--- Exactness of what judging gives: the model's statement, over the trees of the rows and own trees of every height. Assumes nothing.
+-- Exactness of what judging gives: the model's statement, over the trees of the rows and own trees of every height.
+-- Assumes nothing.
 use Rattle.std.specs.Prelude.{◌≡◌, List, ◌↔◌, ℕ, ◌^◌, ◌<◌, T, length, take}
 use Rattle.shares.specs.declared.Way.{Way}
 use Rattle.shares.specs.declared.Way.TheVariants.{Holds}
@@ -44,7 +45,8 @@ pub record Exactly (q : Question) (σ : Assignment) (Gives : Judgement → Type 
   pub extending : Gives Extending ↔ (SolvesFirst q σ × ExtendsToo q.kind q σ)
   pub not_refused : (n place : ℕ) → ¬ Gives (Refused n place)
 
--- the rows are those of a solution that asking shows, with buffers that are long enough: the first bytes of the answer buffer, 1,536 at 5 levels
+-- the rows are those of a solution that asking shows, with buffers that are long enough: the first bytes of the answer
+-- buffer, 1,536 at 5 levels
 pub record AskingShows (s rows : List ℕ) : Type 0 where
   pub answer : List ℕ
   pub work : List ℕ

@@ -73,7 +73,8 @@ module _ {kind : ℕ} (x : Stored) (q : Question) (St : Stands kind x q) (rows c
   at_levels =
       ap₂ ◌&&◌ (every_ext (2 ^ height) _ _ meets_same)
       (every_ext (get_or x.counts 3 0) _ _ (λ j m. some_ext (2 ^ height) _ _ (differs_same j m))
-      ∙ ap (λ n. every_below n (λ j. some_below (2 ^ height) (differs j))) (sym (section_count x q St SecondDisequation)))
+      ∙ ap (λ n. every_below n (λ j. some_below (2 ^ height) (differs j)))
+      (sym (section_count x q St SecondDisequation)))
 
   -- where constants have so many levels
   abbrev extends_with : ℕ → Bool

@@ -26,7 +26,8 @@ unfoldable pub is_zero : List ℕ → Bool
 is_zero [] = true
 is_zero (b ∷ part) = eqb b 0 && is_zero part
 
--- what was read, with these rows: the reader's refusal, then 18 (the rows have another length), then 19 (a row of no free variable has a bit set)
+-- what was read, with these rows: the reader's refusal, then 18 (the rows have another length), then 19 (a row of no
+-- free variable has a bit set)
 abbrev pub handed_to : Result → List ℕ → Judged
 handed_to (refused n place) rows = turned_away n place
 handed_to (accepted q) rows =
@@ -65,7 +66,8 @@ abbrev pub clause_met : Constants → List ℕ → Clause → Bool
 clause_met cs rows (positive a) = everywhere cs rows a
 clause_met cs rows (negated a) = not (everywhere cs rows a)
 
--- clause number k of a system, from 0, positive clauses and disequations together (past the last: a clause that nothing rests on)
+-- clause number k of a system, from 0, positive clauses and disequations together (past the last: a clause that nothing
+-- rests on)
 abbrev pub clause_of : System → ℕ → Clause
 clause_of s k = get_or s k no_clause
 
@@ -77,7 +79,8 @@ lowest_broken q rows = first_below (length q.first) (λ k. not (clause_met q.con
 abbrev pub choices : (q : Question) → List ℕ → ℕ → Row Bool q.free
 choices q rows i = table q.free (row_at q.constants.levels rows i)
 
--- the rows extend: at every leaf some own choice meets the second system's positive clauses, and each of its disequations beside them at some leaf
+-- the rows extend: at every leaf some own choice meets the second system's positive clauses, and each of its
+-- disequations beside them at some leaf
 abbrev pub extends_at : Question → List ℕ → Bool
 extends_at q rows =
     solvable (least q.own) (row_levels q.constants.levels)
@@ -94,7 +97,8 @@ pub data Judgement : Type 0 where
   Broken : ℕ → Way → ℕ → Judgement
   Extending : Judgement
 
--- clause k is broken: of a positive one, how it comes out at the lowest leaf at which it does not hold, and that leaf; of a disequation neither
+-- clause k is broken: of a positive one, how it comes out at the lowest leaf at which it does not hold, and that leaf;
+-- of a disequation neither
 abbrev pub broken_as : Constants → List ℕ → ℕ → Clause → Judgement
 broken_as cs rows k (positive a) = Broken k (row_way cs rows a (failing_leaf cs rows a)) (failing_leaf cs rows a)
 broken_as cs rows k (negated a) = Broken k Holds 0

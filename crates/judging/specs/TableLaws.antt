@@ -12,7 +12,8 @@ use Rattle.shares.specs.Tree.{is_way}
 use Rattle.shares.specs.declared.Way.TheVariants.{Holds}
 use Rattle.systems.specs.Clauses.{Term, variable, constant, Constants, Atom}
 use Rattle.systems.specs.Questions.{Defined, InAtom}
-use Rattle.systems.specs.AtLeaves.{Part, of, always, LeafReading, joins_to, apart, read_as, reading_way, term_at, part_at}
+use Rattle.systems.specs.AtLeaves.{Part, of, always, LeafReading, joins_to, apart, read_as, reading_way, term_at}
+use Rattle.systems.specs.AtLeaves.{part_at}
 use Rattle.systems.proofs.AtomLaws.{InPart, InReading, in_reading}
 use Rattle.format.specs.Stored.{part_byte, four_of}
 use Rattle.words.specs.Clause.{test_way}
@@ -25,7 +26,8 @@ use Rattle.judging.specs.Judging.{row_at, row_way, failing_leaf}
 abbrev pub DefinedKept : ℕ → Constants → ℕ → Term → Type 0
 DefinedKept n cs named t = Defined n cs t × Kept named t
 
-module _ (levels : ℕ) (rows constants : List ℕ) (named : ℕ) (table : List ℕ) (U : Unfolded levels rows constants named table) (count : ℕ) where
+module _ (levels : ℕ) (rows constants : List ℕ) (named : ℕ) (table : List ℕ)
+    (U : Unfolded levels rows constants named table) (count : ℕ) where
   -- the constants as the model has them
   abbrev cs : Constants
   cs = record { levels = levels; numbers = take count constants }
@@ -34,32 +36,40 @@ module _ (levels : ℕ) (rows constants : List ℕ) (named : ℕ) (table : List 
     module _ (i : ℕ) (l : i < 2 ^ row_levels levels) where
       -- a part at a leaf
       part_leaf : (p : Part) → InPart (DefinedKept n cs named) p
-          → leaf_of (row_words levels) table (part_byte p) i ≡ part_at levels cs (block_of levels (row_levels levels) i) (row_at levels rows i) p
+          → leaf_of (row_words levels) table (part_byte p) i
+          ≡ part_at levels cs (block_of levels (row_levels levels) i) (row_at levels rows i) p
       unfolding part_at term_at
       part_leaf (of (variable v)) d = U.variable v i (omega (arith, d.0)) l
       part_leaf (of (constant c)) d =
           let m : c < count = omega (arith, d.0, length-take count constants) in
           let same : levels - levels ≡ 0 = omega arith in
-          U.constant c i d.1 l ∙ rw (get_or-take count constants c 0 m, same, mul-one (block_of levels (row_levels levels) i)) refl
+          U.constant c i d.1 l ∙ rw (
+            get_or-take count constants c 0 m,
+            same,
+            mul-one (block_of levels (row_levels levels) i),
+          ) refl
       part_leaf (always false) d = U.empty i l
       part_leaf (always true) d = U.full i l
 
       -- a join there
       join_leaf_lem : (t : LeafReading) → InReading (DefinedKept n cs named) t
-          → join_way (row_words levels) table (four_of t) i ≡ reading_way (part_at levels cs (block_of levels (row_levels levels) i) (row_at levels rows i)) t
+          → join_way (row_words levels) table (four_of t) i
+          ≡ reading_way (part_at levels cs (block_of levels (row_levels levels) i) (row_at levels rows i)) t
       unfolding test_way reading_way
       join_leaf_lem (joins_to u v w) d = rw (part_leaf u d.0, part_leaf v d.1, part_leaf w d.2) refl
       join_leaf_lem (apart u v) d = rw (part_leaf u d.0, part_leaf v d.1) refl
 
     module _ (a : Atom) (d : InAtom (DefinedKept n cs named) a) where
       -- an atom there
-      pub join_way_lem : (i : ℕ) → i < 2 ^ row_levels levels → join_way (row_words levels) table (four_of (read_as a)) i ≡ row_way cs rows a i
+      pub join_way_lem : (i : ℕ) → i < 2 ^ row_levels levels → join_way (row_words levels) table (four_of (read_as a)) i
+          ≡ row_way cs rows a i
       join_way_lem i l = join_leaf_lem i l (read_as a) (in_reading (DefinedKept n cs named) a d)
 
       -- the lowest leaf at which it does not hold
       pub join_failing_lem : join_failing levels table (four_of (read_as a)) ≡ failing_leaf cs rows a
       unfolding failing_leaf
-      join_failing_lem = first_ext (2 ^ row_levels levels) _ _ (λ i l. ap (λ w. not (is_way Holds w)) (join_way_lem i l))
+      join_failing_lem = first_ext (2 ^ row_levels levels) _ _
+          (λ i l. ap (λ w. not (is_way Holds w)) (join_way_lem i l))
 
 -- ---- the parts of an atom have a place in the table
 

@@ -1,11 +1,13 @@
 -- Going over a question's commands with the rows in a table: definitions for the code. Assumes nothing.
-use Rattle.std.specs.Prelude.{◌≡◌, Bool, true, false, not, cond, Option, Some, None, MatchOption, List, ◌++◌, ℕ, ◌+◌, ◌^◌, ◌<◌, eqb, ltb, length, take}
+use Rattle.std.specs.Prelude.{◌≡◌, Bool, true, false, not, cond, Option, Some, None, MatchOption, List, ◌++◌, ℕ, ◌+◌}
+use Rattle.std.specs.Prelude.{◌^◌, ◌<◌, eqb, ltb, length, take}
 use Rattle.shares.specs.declared.Way.{Way}
 use Rattle.shares.specs.declared.Way.TheVariants.{Holds}
 use Rattle.systems.specs.Clauses.{System}
 use Rattle.systems.specs.Questions.{Question, InSystem}
 use Rattle.format.specs.declared.Section.{Section}
-use Rattle.format.specs.declared.Section.TheVariants.{FirstPositive, FirstDisequation, SecondPositive, SecondDisequation}
+use Rattle.format.specs.declared.Section.TheVariants.{FirstPositive, FirstDisequation, SecondPositive}
+use Rattle.format.specs.declared.Section.TheVariants.{SecondDisequation}
 use Rattle.format.specs.declared.LeafJoin.{LeafJoin}
 use Rattle.format.specs.declared.Command.{Command}
 use Rattle.format.specs.Format.{accepted, is_second, read}
@@ -30,7 +32,8 @@ breaks_in FirstDisequation holds = holds
 breaks_in SecondPositive holds = false
 breaks_in SecondDisequation holds = false
 
--- what is said of clause k of a section, which is broken, where its atom comes out so at each leaf and fails first at one
+-- what is said of clause k of a section, which is broken, where its atom comes out so at each leaf and fails first at
+-- one
 abbrev pub said_in : Section → (ℕ → Way) → ℕ → ℕ → Judgement
 said_in FirstPositive way leaf k = Broken k (way leaf) leaf
 said_in FirstDisequation way leaf k = Broken k Holds 0
@@ -60,11 +63,13 @@ command_said levels table (Command.Clause σ t a b c) k = join_said levels table
 -- r is what is said of clause k that reads so if it is broken, and nothing if it is not; the same of a command's clause
 abbrev pub JoinBroken : ℕ → List ℕ → Section → LeafJoin → ℕ → Option BrokenClause → Type 0
 JoinBroken levels table σ j k r =
-    MatchOption r (join_breaks levels table σ j ≡ false) (λ b. (join_breaks levels table σ j ≡ true) × (broken_told b ≡ join_said levels table σ j k))
+    MatchOption r (join_breaks levels table σ j ≡ false) (λ b. (join_breaks levels table σ j ≡ true)
+    × (broken_told b ≡ join_said levels table σ j k))
 
 abbrev pub CommandBroken : ℕ → List ℕ → Command → ℕ → Option BrokenClause → Type 0
 CommandBroken levels table c k r =
-    MatchOption r (command_breaks levels table c ≡ false) (λ b. (command_breaks levels table c ≡ true) × (broken_told b ≡ command_said levels table c k))
+    MatchOption r (command_breaks levels table c ≡ false) (λ b. (command_breaks levels table c ≡ true)
+    × (broken_told b ≡ command_said levels table c k))
 
 -- its parts have a place in the table
 abbrev pub CommandFits : Command → Type 0
@@ -89,15 +94,18 @@ pub record Laid (levels : ℕ) (q : Question) (rows constants : List ℕ) (named
 -- the judgement of the first system alone: its lowest clause that is broken, or accepted
 abbrev pub first_judged : Question → List ℕ → Judgement
 first_judged q rows =
-    cond (ltb (lowest_broken q rows) (length q.first)) (broken_as q.constants rows (lowest_broken q rows) (clause_of q.first (lowest_broken q rows))) Accepted
+    cond (ltb (lowest_broken q rows) (length q.first))
+    (broken_as q.constants rows (lowest_broken q rows) (clause_of q.first (lowest_broken q rows))) Accepted
 
 -- r is that of the first system of a question in bytes and the rows of a table
 abbrev pub First : ℕ → List ℕ → List ℕ → Judgement → Type 0
 First levels s table r =
-    (q : Question) (rows constants : List ℕ) (named : ℕ) → read s ≡ accepted q → Laid levels q rows constants named table
+    (q : Question) (rows constants : List ℕ) (named : ℕ) → read s ≡ accepted q
+    → Laid levels q rows constants named table
     → r ≡ first_judged q rows
 
--- at an offset of the question q, n clauses of its first system have been met: the commands from there on say the others
+-- at an offset of the question q, n clauses of its first system have been met: the commands from there on say the
+-- others
 pub record Walk (s : List ℕ) (q : Question) (at n : ℕ) : Type 0 where
   pub bound : ℕ
   pub enough : length s < at + bound

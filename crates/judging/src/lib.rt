@@ -1,4 +1,5 @@
-// Judging: whether the rows that someone hands over solve a question's first system and, for an entailment, do not extend to the second.
+// Judging: whether the rows that someone hands over solve a question's first system and, for an entailment, do not
+// extend to the second.
 #![tactic(auto)]
 
 ghost use Rattle.std.specs.Prelude.{◌≡◌, ℕ, length};
@@ -174,7 +175,8 @@ fn broken_by(leaves: &[u64; TABLE_WORDS], command: Command, number: usize) -> Op
 // gone over once more from behind its constants, for what was stored of it is apart by sections. Commands differ in
 // width, so the loop goes from offset to offset.
 fn judge_first(bytes: &[u8], from: usize, leaves: &[u64; TABLE_WORDS]) -> Option<BrokenClause>
-    requires { ((q : model.Question) × (read bytes.now ≡ accepted q)) × (from ≡ place_of (leading most_constants bytes.now 0)) }
+    requires { ((q : model.Question) × (read bytes.now ≡ accepted q))
+        × (from ≡ place_of (leading most_constants bytes.now 0)) }
     ensures { First constant_levels bytes.now leaves.now (first_told result) }
 {
     let mut count: usize = 0;
@@ -202,9 +204,12 @@ fn judge_rows(
     rows: &[u8],
 ) -> Verdict
     requires rows_len { length rows.now ≡ answer_bytes constant_levels }
-    requires bytes_value { (q : model.Question) × (read bytes.now ≡ accepted q) × Stands (kind_value question.kind) (stored_of question clauses.now) q }
+    requires bytes_value { (q : model.Question) × (read bytes.now ≡ accepted q)
+        × Stands (kind_value question.kind) (stored_of question clauses.now) q }
     requires defined_value { question.defined ≡ leading most_constants bytes.now 0 }
-    ensures { (q : model.Question) → read bytes.now ≡ accepted q → Stands (kind_value question.kind) (stored_of question clauses.now) q → verdict_told result ≡ judgement_of (judged q) rows.now }
+    ensures { (q : model.Question) → read bytes.now ≡ accepted q
+        → Stands (kind_value question.kind) (stored_of question clauses.now) q
+        → verdict_told result ≡ judgement_of (judged q) rows.now }
 {
     let mut leaves = [0u64; TABLE_WORDS];
     unfolded::unfold(rows, &question.constants, question.named, &mut leaves);
@@ -224,7 +229,8 @@ fn judge_rows(
 // Reads a question and judges rows for it. Every byte string may be handed over, as either.
 pub fn judge(question: &[u8], rows: &[u8]) -> Result<Verdict, Refusal>
     ensures result { told result ≡ judgement_of (judged_with question.now rows.now) rows.now }
-    ensures model { (q : model.Question) → judged_with question.now rows.now ≡ judged q → Exactly q (row_shares q.constants.levels rows.now) (λ j. told result ≡ j) }
+    ensures model { (q : model.Question) → judged_with question.now rows.now ≡ judged q
+        → Exactly q (row_shares q.constants.levels rows.now) (λ j. told result ≡ j) }
     ensures shown { AskingShows question.now rows.now → told result ≡ given.Accepted }
 {
     let mut clauses = [0u8; CLAUSE_BYTES];

@@ -1,6 +1,9 @@
--- The words hold of the fixed solution, and they leave nothing undecided: choices of which they hold are the same. Assumes nothing.
-use Rattle.std.specs.Prelude.{◌≡◌, refl, ◌⊎◌, ◌↔◌, Bool, true, false, not, ◌&&◌, ℕ, zero, suc, ◌+◌, ◌-◌, ◌*◌, ◌/◌, ◌%◌, ◌^◌, ◌≤◌, ◌<◌, T, ltb}
-use Rattle.std.proofs.Common.{sym, ◌∙◌, subst, inl, inr, true≢false, suc-le-suc, zero-le, le_of_suc-le-suc, not-suc-le-zero, mod-lt, arith, ltb→lt, lt→ltb, pow_pos}
+-- The words hold of the fixed solution, and they leave nothing undecided: choices of which they hold are the same.
+-- Assumes nothing.
+use Rattle.std.specs.Prelude.{◌≡◌, refl, ◌⊎◌, ◌↔◌, Bool, true, false, not, ◌&&◌, ℕ, zero, suc, ◌+◌, ◌-◌, ◌*◌, ◌/◌, ◌%◌}
+use Rattle.std.specs.Prelude.{◌^◌, ◌≤◌, ◌<◌, T, ltb}
+use Rattle.std.proofs.Common.{sym, ◌∙◌, subst, inl, inr, true≢false, suc-le-suc, zero-le, le_of_suc-le-suc}
+use Rattle.std.proofs.Common.{not-suc-le-zero, mod-lt, arith, ltb→lt, lt→ltb, pow_pos}
 use Rattle.std.proofs.Math.Path.{ap}
 use Rattle.std.specs.Bool.{beq}
 use Rattle.std.proofs.Math.Decide.{dec_lt}
@@ -38,14 +41,17 @@ less_once {x = x} {y = y} L M = go (dec_lt L.variable M.variable) (dec_lt M.vari
     go : Dec (L.variable < M.variable) → Dec (M.variable < L.variable) → ⊥
     go (yes l) m = true≢false (sym L.full ∙ M.same L.variable l ∙ L.empty)
     go (no l) (yes m) = true≢false (sym M.full ∙ L.same M.variable m ∙ M.empty)
-    go (no l) (no m) = let e : L.variable ≡ M.variable = omega arith in true≢false (sym L.full ∙ ap (at false y) e ∙ M.empty)
+    go (no l) (no m) = let e : L.variable ≡ M.variable =
+        omega arith in true≢false (sym L.full ∙ ap (at false y) e ∙ M.empty)
 
 least_one : {n : ℕ} {M : Row Bool n → Type 0} {x y : Row Bool n} → Least M x → Least M y → x ≡ y
 least_one {n} {x = x} {y = y} X Y =
-    row_path false n x y (λ v _. (beq_iff (at false x v) (at false y v)).0 (holds (beq (at false x v) (at false y v)) (λ t. differ (apart v t))))
+    row_path false n x y (λ v _. (beq_iff (at false x v) (at false y v)).0
+    (holds (beq (at false x v) (at false y v)) (λ t. differ (apart v t))))
   where
     apart : (v : ℕ) → T (not (beq (at false x v) (at false y v))) → ¬ (x ≡ y)
-    apart v t e = T_not (beq (at false x v) (at false y v)) t ((beq_iff (at false x v) (at false y v)).1 (ap (λ r. at false r v) e))
+    apart v t e = T_not (beq (at false x v) (at false y v)) t
+        ((beq_iff (at false x v) (at false y v)).1 (ap (λ r. at false r v) e))
 
     differ : ¬ (x ≡ y) → ⊥
     differ ne = less_once (X.least y Y.passes (λ e. ne (sym e))) (Y.least x X.passes ne)
@@ -67,26 +73,44 @@ least_same {x = x} e L = record { passes = (e x).0 L.passes; least = λ y t. L.l
 
 less_first : {n : ℕ} (x y : Row Bool n) → Less (cons false x) (cons true y)
 unfolding at
-less_first x y = record { variable = 0; within = suc-le-suc zero-le; same = λ v l. absurd (not-suc-le-zero l); empty = refl; full = refl }
+less_first x y = record {
+  variable = 0;
+  within = suc-le-suc zero-le;
+  same = λ v l. absurd (not-suc-le-zero l);
+  empty =
+      refl;
+  full = refl;
+}
 
 less_cons : {n : ℕ} (b : Bool) {x y : Row Bool n} → Less x y → Less (cons b x) (cons b y)
 unfolding at
-less_cons b {x} {y} L = record { variable = suc L.variable; within = suc-le-suc L.within; same = same; empty = L.empty; full = L.full }
+less_cons b {x} {y} L = record {
+  variable = suc L.variable;
+  within = suc-le-suc L.within;
+  same = same;
+  empty =
+      L.empty;
+  full = L.full;
+}
   where
     same : (v : ℕ) → v < suc L.variable → at false (cons b x) v ≡ at false (cons b y) v
     same zero l = refl
     same (suc v) l = L.same v (le_of_suc-le-suc l)
 
-picked_less : (n : ℕ) (p : Row Bool n → Bool) (y : Row Bool n) → T (p y) → ¬ (y ≡ (least n).pick p) → Less ((least n).pick p) y
+picked_less : (n : ℕ) (p : Row Bool n → Bool) (y : Row Bool n) → T (p y) → ¬ (y ≡ (least n).pick p)
+    → Less ((least n).pick p) y
 unfolding pick_row
 picked_less zero p nil t ne = absurd (ne refl)
-picked_less (suc n) p (cons b y) t ne = go (p (cons false (rest false))) refl b t ne (λ x. picked_less n (λ w. p (cons x w)) y)
+picked_less (suc n) p (cons b y) t ne =
+    go (p (cons false (rest false))) refl b t ne (λ x. picked_less n (λ w. p (cons x w)) y)
   where
     rest : Bool → Row Bool n
     rest x = (least n).pick (λ w. p (cons x w))
 
-    go : (c : Bool) → p (cons false (rest false)) ≡ c → (b : Bool) → T (p (cons b y)) → ¬ (cons b y ≡ cons (not c) (rest (not c)))
-        → ((x : Bool) → T (p (cons x y)) → ¬ (y ≡ rest x) → Less (rest x) y) → Less (cons (not c) (rest (not c))) (cons b y)
+    go : (c : Bool) → p (cons false (rest false)) ≡ c → (b : Bool) → T (p (cons b y))
+        → ¬ (cons b y ≡ cons (not c) (rest (not c)))
+        → ((x : Bool) → T (p (cons x y)) → ¬ (y ≡ rest x) → Less (rest x) y)
+        → Less (cons (not c) (rest (not c))) (cons b y)
     go true e true u ne ih = less_first (rest false) y
     go true e false u ne ih = less_cons false (ih false u (λ e. ne (ap (cons false) e)))
     go false e true u ne ih = less_cons true (ih true u (λ e. ne (ap (cons true) e)))
@@ -98,7 +122,8 @@ least_picked n p y t = record { passes = (least n).picked p y t; least = picked_
 -- ---- the words hold of the fixed solution
 
 -- of the numbers that pass, so many stand before each: 0, 1, ..
-count_reaches : (n : ℕ) (p : ℕ → Bool) (r : ℕ) → r < count_below n p → (i : ℕ) × (i < n) × T (p i) × (count_below i p ≡ r)
+count_reaches : (n : ℕ) (p : ℕ → Bool) (r : ℕ) → r < count_below n p → (i : ℕ) × (i < n) × T (p i)
+    × (count_below i p ≡ r)
 unfolding count_below
 count_reaches zero p r l = absurd (not-suc-le-zero l)
 count_reaches (suc n) p r l = go (dec_lt r (count_below n p)) (count_reaches n p r)
@@ -127,13 +152,15 @@ module _ {n : ℕ} (h : ℕ) (P : Problem (Row Bool n)) where
       (i, m, s, ap (λ b. count_below i (λ k. eqb (its_leaf k) b)) s ∙ e)
 
   -- a sub-leaf that holds no disequation
-  holds_none : (b r : ℕ) → ((j : ℕ) → j < P.count → its_leaf j ≡ b → ¬ (its_rank j ≡ r)) → T (not (ltb (held_at (least n) h P b r) P.count))
+  holds_none : (b r : ℕ) → ((j : ℕ) → j < P.count → its_leaf j ≡ b → ¬ (its_rank j ≡ r))
+      → T (not (ltb (held_at (least n) h P b r) P.count))
   holds_none b r none = not_T (ltb (held_at (least n) h P b r) P.count) (λ u.
       let l = ltb→lt (held_at (least n) h P b r) P.count u in
       let (e, f) = held_there (least n) h P b r l in
       none (held_at (least n) h P b r) l e f)
 
-  fixed_at_lem : (W b r : ℕ) → r < 2 ^ (W - h) → fixed_at (least n) h P W (b * 2 ^ (W - h) + r) ≡ carried_at (least n) h P b r
+  fixed_at_lem : (W b r : ℕ) → r < 2 ^ (W - h) → fixed_at (least n) h P W (b * 2 ^ (W - h) + r)
+      ≡ carried_at (least n) h P b r
   unfolding fixed_at
   fixed_at_lem W b r l = rw (high b (W - h) l, low b (W - h) l)
 
@@ -146,7 +173,8 @@ module _ {n : ℕ} (h : ℕ) (P : Problem (Row Bool n)) where
         record {
           within = within;
           found = (x, (p, d));
-          none_left = λ a m x (p, d). T_not (special_at (least n) P j a) (first_least (2 ^ h) (special_at (least n) P j) a m)
+          none_left = λ a m x (p, d). T_not (special_at (least n) P j a)
+              (first_least (2 ^ h) (special_at (least n) P j) a m)
               (both_intro (least n) (P.pos a) (P.dis j a) x p d);
         }
 
@@ -191,8 +219,14 @@ module _ {n : ℕ} (h : ℕ) (P : Problem (Row Bool n)) (W : ℕ) (counts : ℕ 
       p j = eqb (A.leaf j) b && eqb (A.rank j) r
 
       go : Below P.count p ⊎ ((j : ℕ) → j < P.count → T (not (p j))) → Held A b r ⊎ Idle A b r
-      go (inl (j, l, v)) = inl (j, l, eqb→eq (A.leaf j) b (and_left (eqb (A.leaf j) b) _ v), eqb→eq (A.rank j) r (and_right (eqb (A.leaf j) b) _ v))
-      go (inr none) = inr (λ j l e f. T_not (p j) (none j l) (and_intro (eqb (A.leaf j) b) _ (rw e (eqb_refl b)) (rw f (eqb_refl r))))
+      go (inl (j, l, v)) = inl (
+        j,
+        l,
+        eqb→eq (A.leaf j) b (and_left (eqb (A.leaf j) b) _ v),
+        eqb→eq (A.rank j) r (and_right (eqb (A.leaf j) b) _ v),
+      )
+      go (inr none) = inr (λ j l e f.
+          T_not (p j) (none j l) (and_intro (eqb (A.leaf j) b) _ (rw e (eqb_refl b)) (rw f (eqb_refl r))))
 
   pub words_count : {s : ℕ → Row Bool n} → Words h P W s counts none_before → h ≤ W → (i : ℕ) → i < 2 ^ W
       → counts (block_of h W i) (s i)

@@ -1,5 +1,6 @@
--- A solution of a problem at the leaves is cut into what each leaf has, and one is glued together from that: there is a solution exactly if
--- the test passes, and then the fixed one solves the problem. The examples are named so that they are checked first. Assumes nothing.
+-- A solution of a problem at the leaves is cut into what each leaf has, and one is glued together from that: there is a
+-- solution exactly if the test passes, and then the fixed one solves the problem. The examples are named so that they
+-- are checked first. Assumes nothing.
 use Rattle.std.specs.Prelude.{◌≡◌, ◌⊎◌, not, ◌&&◌, ltb}
 use Rattle.std.proofs.Math.Path.{ap}
 use Rattle.std.proofs.Common.{inl, inr, le-add_right, eq-or-lt_of_le, ltb→lt, lt→ltb, shr_lt}
@@ -11,7 +12,8 @@ use Rattle.std.proofs.Math.Dec.{T, eqb, eqb→eq, eqb_refl}
 use Rattle.std.proofs.Math.Pow.{high, low}
 use Rattle.shares.specs.Test.{passes, and_intro, and_left, and_right, cond_passed, cond_failed}
 use Rattle.shares.specs.Below.{every_below, some_below}
-use Rattle.shares.specs.BelowLaws.{every_at, every_intro, some_intro, some_found, first_passes, first_below_lem, first_min, count_le, count_lt}
+use Rattle.shares.specs.BelowLaws.{every_at, every_intro, some_intro, some_found, first_passes, first_below_lem}
+use Rattle.shares.specs.BelowLaws.{first_min, count_le, count_lt}
 use Rattle.shares.specs.Blocks.{block_of, first_of}
 use Rattle.shares.specs.BlockLaws.{block_lt, first_lt, block_first, block_split, leaf_lt}
 use Rattle.leaves.specs.FixedExamples
@@ -46,12 +48,15 @@ module _ {X : Type 0} (C : Picker X) (h : ℕ) (P : Problem X) where
   cut_solvable w s S = solvable_intro (cut h P w s S)
 
   -- the disequation that a sub-leaf holds goes to its leaf, and has its rank there
-  pub held_there : (b r : ℕ) → held_at C h P b r < P.count → (leaf_of C h P (held_at C h P b r) ≡ b) × (rank_of C h P (held_at C h P b r) ≡ r)
+  pub held_there : (b r : ℕ) → held_at C h P b r < P.count → (leaf_of C h P (held_at C h P b r) ≡ b)
+      × (rank_of C h P (held_at C h P b r) ≡ r)
   unfolding held_at
   held_there b r l =
       let j = held_at C h P b r in
-      let v = first_below_lem P.count (λ j. eqb (leaf_of C h P j) b && eqb (rank_of C h P j) r) l in
-      (eqb→eq (leaf_of C h P j) b (and_left (eqb (leaf_of C h P j) b) _ v), eqb→eq (rank_of C h P j) r (and_right (eqb (leaf_of C h P j) b) _ v))
+      let v = first_below_lem P.count (λ j. eqb (leaf_of C h P j) b && eqb (rank_of C h P j) r) l in (
+        eqb→eq (leaf_of C h P j) b (and_left (eqb (leaf_of C h P j) b) _ v),
+        eqb→eq (rank_of C h P j) r (and_right (eqb (leaf_of C h P j) b) _ v),
+      )
 
   -- ---- glue: one choice for each leaf, and one sub-leaf for each disequation
 
@@ -64,11 +69,13 @@ module _ {X : Type 0} (C : Picker X) (h : ℕ) (P : Problem X) where
     unfolding solvable leaf_of
     leaf_passes j l =
         let (b, u, v) = some_found (2 ^ h) (special_at C P j)
-        (every_at P.count (λ j. some_below (2 ^ h) (special_at C P j)) (and_right (every_below (2 ^ h) (plain_at C P)) _ t) j l) in
+        (every_at P.count (λ j. some_below (2 ^ h) (special_at C P j))
+        (and_right (every_below (2 ^ h) (plain_at C P)) _ t) j l) in
         first_passes (2 ^ h) (special_at C P j) b u v
 
     -- a sub-leaf that holds a disequation meets it, beside the positive clauses
-    special_meets : (b r : ℕ) → held_at C h P b r < P.count → T (P.pos b (carried_at C h P b r)) × T (P.dis (held_at C h P b r) b (carried_at C h P b r))
+    special_meets : (b r : ℕ) → held_at C h P b r < P.count → T (P.pos b (carried_at C h P b r))
+        × T (P.dis (held_at C h P b r) b (carried_at C h P b r))
     unfolding carried_at special_at
     special_meets b r l =
         let j = held_at C h P b r in
@@ -94,7 +101,8 @@ module _ {X : Type 0} (C : Picker X) (h : ℕ) (P : Problem X) where
   -- the disequations of a leaf stand in question order
   pub ranks_in_order : (i j : ℕ) → i < j → leaf_of C h P i ≡ leaf_of C h P j → rank_of C h P i < rank_of C h P j
   unfolding rank_of
-  ranks_in_order i j l p = rw p (count_lt j (λ i. eqb (leaf_of C h P i) (leaf_of C h P j)) i l (rw p (eqb_refl (leaf_of C h P j))))
+  ranks_in_order i j l p = rw p
+      (count_lt j (λ i. eqb (leaf_of C h P i) (leaf_of C h P j)) i l (rw p (eqb_refl (leaf_of C h P j))))
 
   -- the disequation that stands where j stands is j
   pub at_rank : (j : ℕ) → j < P.count → held_at C h P (leaf_of C h P j) (rank_of C h P j) ≡ j
@@ -119,7 +127,11 @@ module _ {X : Type 0} (C : Picker X) (h : ℕ) (P : Problem X) where
           let i = held_at C h P b r in
           let v : T (p i) = (first_passes P.count p j l own).1 in
           let e : rank_of C h P i ≡ r = eqb→eq (rank_of C h P i) r (and_right (eqb (leaf_of C h P i) b) _ v) in
-          absurd (omega (arith, ranks_in_order i j m (eqb→eq (leaf_of C h P i) b (and_left (eqb (leaf_of C h P i) b) _ v))))
+          absurd (omega (
+            arith,
+            ranks_in_order i j m
+                (eqb→eq (leaf_of C h P i) b (and_left (eqb (leaf_of C h P i) b) _ v)),
+          ))
 
   pub rank_lt : (k j : ℕ) → P.count ≤ 2 ^ k → j < P.count → rank_of C h P j < 2 ^ k
   unfolding rank_of
@@ -140,7 +152,12 @@ module _ {X : Type 0} (C : Picker X) (h : ℕ) (P : Problem X) where
         let g = at_rank j l in (
           leaf_of C h P j * 2 ^ k + rank_of C h P j,
           leaf_lt h k (leaf_passes t j l).0 f,
-          rw (block_split, fixed_split k (leaf_of C h P j * 2 ^ k + rank_of C h P j), high (leaf_of C h P j) k f, low (leaf_of C h P j) k f)
+          rw (
+            block_split,
+            fixed_split k (leaf_of C h P j * 2 ^ k + rank_of C h P j),
+            high (leaf_of C h P j) k f,
+            low (leaf_of C h P j) k f,
+          )
               (rw g at (special_meets t (leaf_of C h P j) (rank_of C h P j) (rw g l)).1),
         );
   }

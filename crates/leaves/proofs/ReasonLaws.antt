@@ -1,7 +1,9 @@
 -- The words for reasons 2 and 3 are the plain words of a problem with one disequation more, and with one test more.
 -- Assumes nothing.
-use Rattle.std.specs.Prelude.{◌≡◌, refl, ◌↔◌, Bool, true, false, not, ◌&&◌, ℕ, zero, suc, ◌+◌, ◌-◌, ◌*◌, ◌^◌, ◌≤◌, ◌<◌, T, eqb}
-use Rattle.std.proofs.Common.{sym, subst, suc-le-suc, zero-le, le_of_suc-le-suc, not-suc-le-zero, add-zero, arith, T_not, eqb→eq, pow_pos}
+use Rattle.std.specs.Prelude.{◌≡◌, refl, ◌↔◌, Bool, true, false, not, ◌&&◌, ℕ, zero, suc, ◌+◌, ◌-◌, ◌*◌, ◌^◌, ◌≤◌, ◌<◌}
+use Rattle.std.specs.Prelude.{T, eqb}
+use Rattle.std.proofs.Common.{sym, subst, suc-le-suc, zero-le, le_of_suc-le-suc, not-suc-le-zero, add-zero, arith}
+use Rattle.std.proofs.Common.{T_not, eqb→eq, pow_pos}
 use Rattle.std.proofs.Math.Decide.{dec_le}
 use Rattle.std.proofs.Math.Dec.{not_T, eqb_refl}
 use Rattle.shares.specs.Test.{and_intro, and_left, and_right}

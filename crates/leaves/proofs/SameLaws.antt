@@ -27,7 +27,8 @@ module _ {X : Type 0} (C : Picker X) (h : ℕ) (P Q : Problem X) (count : P.coun
   solvable_same =
       ap₂ ◌&&◌
       (every_ext (2 ^ h) _ _ plain_same)
-      (every_ext P.count _ _ (λ j m. some_ext (2 ^ h) _ _ (special_same j m)) ∙ ap (λ k. every_below k (λ j. some_below (2 ^ h) (special_at C Q j))) count)
+      (every_ext P.count _ _ (λ j m. some_ext (2 ^ h) _ _ (special_same j m))
+      ∙ ap (λ k. every_below k (λ j. some_below (2 ^ h) (special_at C Q j))) count)
 
   pub leaf_same : (j : ℕ) → j < P.count → leaf_of C h P j ≡ leaf_of C h Q j
   unfolding leaf_of
@@ -54,13 +55,17 @@ module _ {X : Type 0} (C : Picker X) (h : ℕ) (P Q : Problem X) (count : P.coun
       tests = ap₂ ltb same_at count
 
       go : (v : Bool) → ltb (held_at C h P b r) P.count ≡ v
-          → cond (ltb (held_at C h P b r) P.count) (C.pick (λ x. P.pos b x && P.dis (held_at C h P b r) b x)) (C.pick (P.pos b))
-          ≡ cond (ltb (held_at C h Q b r) Q.count) (C.pick (λ x. Q.pos b x && Q.dis (held_at C h Q b r) b x)) (C.pick (Q.pos b))
+          → cond (ltb (held_at C h P b r) P.count) (C.pick (λ x. P.pos b x && P.dis (held_at C h P b r) b x))
+          (C.pick (P.pos b))
+          ≡ cond (ltb (held_at C h Q b r) Q.count) (C.pick (λ x. Q.pos b x && Q.dis (held_at C h Q b r) b x))
+          (C.pick (Q.pos b))
       go true e =
           let m = ltb→lt (held_at C h P b r) P.count (rw e tt) in
           rw (← tests, e)
-          (ap C.pick (fun_ext (λ x. ap₂ ◌&&◌ (pos b l x) (dis (held_at C h P b r) m b l x ∙ ap (λ j. Q.dis j b x) same_at))))
+          (ap C.pick (fun_ext (λ x. ap₂ ◌&&◌ (pos b l x) (dis (held_at C h P b r) m b l x
+          ∙ ap (λ j. Q.dis j b x) same_at))))
       go false e = rw (← tests, e) (ap C.pick (fun_ext (pos b l)))
 
   pub fixed_same : (k s : ℕ) → s < 2 ^ (h + k) → fixed_at C h P (h + k) s ≡ fixed_at C h Q (h + k) s
-  fixed_same k s l = fixed_split C h P k s ∙ choice_same (s / 2 ^ k) (s % 2 ^ k) (shr_lt h k l) ∙ sym (fixed_split C h Q k s)
+  fixed_same k s l = fixed_split C h P k s ∙ choice_same (s / 2 ^ k) (s % 2 ^ k) (shr_lt h k l)
+      ∙ sym (fixed_split C h Q k s)

@@ -1,6 +1,8 @@
 -- Laws of choices: what is picked passes, is the least, and is the first number that passes. Assumes nothing.
-use Rattle.std.specs.Prelude.{◌≡◌, refl, Bool, true, false, not, ◌&&◌, ℕ, zero, suc, ◌+◌, ◌-◌, ◌*◌, ◌^◌, ◌≤◌, ◌<◌, T, leb}
-use Rattle.std.proofs.Common.{sym, ap, ap₂, ◌∙◌, suc-le-suc, zero-le, le_of_suc-le-suc, not-suc-le-zero, pow-suc, le_antisymm, arith, T_not, leb→le, le→leb}
+use Rattle.std.specs.Prelude.{◌≡◌, refl, Bool, true, false, not, ◌&&◌, ℕ, zero, suc, ◌+◌, ◌-◌, ◌*◌, ◌^◌, ◌≤◌, ◌<◌, T}
+use Rattle.std.specs.Prelude.{leb}
+use Rattle.std.proofs.Common.{sym, ap, ap₂, ◌∙◌, suc-le-suc, zero-le, le_of_suc-le-suc, not-suc-le-zero, pow-suc}
+use Rattle.std.proofs.Common.{le_antisymm, arith, T_not, leb→le, le→leb}
 use Rattle.std.proofs.Math.Arith.{lt→nleb}
 use Rattle.std.proofs.Math.Dec.{nleb→lt}
 use Rattle.shares.specs.Test.{same_test, and_intro, and_left, and_right}
@@ -18,10 +20,12 @@ unfolding some_choice
 choice_found C p t = t
 
 -- a choice that passes two tests
-pub both_intro : {X : Type 0} (C : Picker X) (p q : X → Bool) (x : X) → T (p x) → T (q x) → T (some_choice C (λ x. p x && q x))
+pub both_intro : {X : Type 0} (C : Picker X) (p q : X → Bool) (x : X) → T (p x) → T (q x)
+    → T (some_choice C (λ x. p x && q x))
 both_intro C p q x t u = choice_intro C (λ x. p x && q x) x (and_intro (p x) (q x) t u)
 
-pub both_found : {X : Type 0} (C : Picker X) (p q : X → Bool) → T (some_choice C (λ x. p x && q x)) → (x : X) × T (p x) × T (q x)
+pub both_found : {X : Type 0} (C : Picker X) (p q : X → Bool) → T (some_choice C (λ x. p x && q x)) → (x : X) × T (p x)
+    × T (q x)
 both_found C p q t =
     let x = C.pick (λ x. p x && q x) in
     let u : T (p x && q x) = choice_found C (λ x. p x && q x) t in
@@ -46,7 +50,8 @@ at_past d (cons x r) (suc i) l = at_past d r i (le_of_suc-le-suc l)
 pub row_path : {X : Type 0} (d : X) (n : ℕ) (a b : Row X n) → ((v : ℕ) → v < n → at d a v ≡ at d b v) → a ≡ b
 unfolding at
 row_path d zero nil nil f = refl
-row_path d (suc n) (cons x a) (cons y b) f = ap₂ cons (f zero (suc-le-suc zero-le)) (row_path d n a b (λ v l. f (suc v) (suc-le-suc l)))
+row_path d (suc n) (cons x a) (cons y b) f =
+    ap₂ cons (f zero (suc-le-suc zero-le)) (row_path d n a b (λ v l. f (suc v) (suc-le-suc l)))
 
 -- ---- the row that is picked is the least, the first leaf compared first
 
@@ -94,7 +99,8 @@ value_digits (suc n) k l = go (leb (2 ^ n) k) refl (value_digits n) (rw pow-suc 
 -- the first digit of a row's number
 first_digit : (n : ℕ) (b : Bool) (w : Row Bool n) → leb (2 ^ n) (one b * 2 ^ n + value w) ≡ b
 first_digit n true w =
-    same_test (leb (2 ^ n) (1 * 2 ^ n + value w)) true (λ _. tt) (λ _. le→leb (2 ^ n) (1 * 2 ^ n + value w) (omega arith))
+    same_test (leb (2 ^ n) (1 * 2 ^ n + value w)) true (λ _. tt)
+    (λ _. le→leb (2 ^ n) (1 * 2 ^ n + value w) (omega arith))
 first_digit n false w =
     same_test (leb (2 ^ n) (0 * 2 ^ n + value w)) false
     (T_not (leb (2 ^ n) (0 * 2 ^ n + value w)) (lt→nleb (2 ^ n) (0 * 2 ^ n + value w) (omega (arith, value_lt n w))))
@@ -105,7 +111,8 @@ unfolding value digits
 digits_value nil = refl
 digits_value (cons {n = n} b w) = go (leb (2 ^ n) (one b * 2 ^ n + value w)) (first_digit n b w) (digits_value w)
   where
-    go : (c : Bool) → c ≡ b → digits n (value w) ≡ w → cons c (digits n (one b * 2 ^ n + value w - one c * 2 ^ n)) ≡ cons b w
+    go : (c : Bool) → c ≡ b → digits n (value w) ≡ w → cons c (digits n (one b * 2 ^ n + value w - one c * 2 ^ n))
+        ≡ cons b w
     go c e ih =
         let m : one b * 2 ^ n + value w - one b * 2 ^ n ≡ value w = omega arith in
         rw (e, m, ih)
@@ -129,7 +136,8 @@ some_row n p =
     same_test (some_choice (least n) p) (some_below (2 ^ n) (λ k. p (digits n k)))
     (λ t.
     let r : Row Bool n = (least n).pick p in
-    some_intro (2 ^ n) (λ k. p (digits n k)) (value r) (value_lt n r) (rw (digits_value r) (choice_found (least n) p t)))
+    some_intro (2 ^ n) (λ k. p (digits n k)) (value r) (value_lt n r)
+    (rw (digits_value r) (choice_found (least n) p t)))
     (λ t. let (k, l, u) = some_found (2 ^ n) (λ k. p (digits n k)) t in choice_intro (least n) p (digits n k) u)
 
 -- by a test of their numbers
@@ -139,7 +147,8 @@ module _ (n : ℕ) (p : ℕ → Bool) where
 
   pub pick_number : T (some_below (2 ^ n) p) → value ((least n).pick (λ v. p (value v))) ≡ first_below (2 ^ n) p
   pick_number t =
-      let same : first_below (2 ^ n) (λ k. p (value (digits n k))) ≡ first_below (2 ^ n) p = first_ext (2 ^ n) _ p (λ i l. ap p (value_digits n i l)) in
+      let same : first_below (2 ^ n) (λ k. p (value (digits n k))) ≡ first_below (2 ^ n) p =
+      first_ext (2 ^ n) _ p (λ i l. ap p (value_digits n i l)) in
       let (i, l, u) = some_found (2 ^ n) p t in
       ap value (pick_first n (λ v. p (value v)) (some_intro (2 ^ n) _ i l (rw (value_digits n i l) u)))
       ∙ ap (λ k. value (digits n k)) same

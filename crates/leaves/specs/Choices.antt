@@ -48,7 +48,8 @@ picked_leaf p x t = go (p false) refl x t
     go false e false t = absurd (rw e at t)
     go false e true t = t
 
-pub picked_row : {X : Type 0} (C : Picker X) (n : ℕ) (p : Row X n → Bool) (v : Row X n) → T (p v) → T (p (pick_row C n p))
+pub picked_row : {X : Type 0} (C : Picker X) (n : ℕ) (p : Row X n → Bool) (v : Row X n) → T (p v)
+    → T (p (pick_row C n p))
 unfolding pick_row
 picked_row C zero p nil t = t
 picked_row C (suc n) p (cons x v) t =

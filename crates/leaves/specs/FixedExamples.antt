@@ -43,24 +43,32 @@ abbrev shown : Problem (Row Bool 2) → Row (Row Bool 2) 8
 shown P = table 8 (fixed_at (least 2) 1 P 3)
 
 -- four at leaf 0 and four at leaf 1
-abbrev four : {n : ℕ} → Row Bool 2 → Row Bool 2 → Row Bool 2 → Row Bool 2 → Row (Row Bool 2) n → Row (Row Bool 2) (suc (suc (suc (suc n))))
+abbrev four : {n : ℕ} → Row Bool 2 → Row Bool 2 → Row Bool 2 → Row Bool 2 → Row (Row Bool 2) n
+    → Row (Row Bool 2) (suc (suc (suc (suc n))))
 four a b c d r = cons a (cons b (cons c (cons d r)))
 
--- leaf 0 holds disequations 0 and 2, then nothing more; leaf 1 holds disequation 1, which leaf 0 cannot meet, then nothing more
+-- leaf 0 holds disequations 0 and 2, then nothing more; leaf 1 holds disequation 1, which leaf 0 cannot meet, then
+-- nothing more
 first_shown : (solvable (least 2) 1 first ≡ true) × (shown first ≡ four v1 v0 neither neither (four both v1 v1 v1 nil))
-unfolding every_below some_below first_below count_below some_choice at pick_row table plain_at special_at solvable leaf_of rank_of held_at carried_at fixed_at
+unfolding every_below some_below first_below count_below some_choice at pick_row table plain_at special_at solvable
+    leaf_of rank_of held_at carried_at fixed_at
 first_shown = (refl, refl)
 
--- reason 2: leaf 0 has a choice that leaves the second's positive clauses unmet, v1, and carries it before its disequations
+-- reason 2: leaf 0 has a choice that leaves the second's positive clauses unmet, v1, and carries it before its
+-- disequations
 unmet_shown : shown (with_unmet (least 1) second first) ≡ four v1 v1 v0 neither (four both v1 v1 v1 nil)
-unfolding first_below count_below some_choice at pick_row table special_at leaf_of rank_of held_at carried_at fixed_at meets
+unfolding first_below count_below some_choice at pick_row table special_at leaf_of rank_of held_at carried_at fixed_at
+    meets
 unmet_shown = refl
 
--- that choice stands in one sub-leaf of leaf 0, and at leaf 1, as for a yes at every leaf, nothing stands before disequations
+-- that choice stands in one sub-leaf of leaf 0, and at leaf 1, as for a yes at every leaf, nothing stands before
+-- disequations
 before_counted : (one_before 0 0 ≡ 1) × (one_before 0 1 ≡ 0) × (none_before 0 ≡ 0)
 before_counted = (refl, refl, refl)
 
--- reason 3: where neither is full the second's disequation can be met, so that choice does not count, and the idle sub-leaves of leaf 0 carry v1
+-- reason 3: where neither is full the second's disequation can be met, so that choice does not count, and the idle
+-- sub-leaves of leaf 0 carry v1
 missed_shown : shown (with_missed (least 1) second first 0) ≡ four v1 v0 v1 v1 (four both v1 v1 v1 nil)
-unfolding first_below count_below some_choice at pick_row table special_at leaf_of rank_of held_at carried_at fixed_at meets_with
+unfolding first_below count_below some_choice at pick_row table special_at leaf_of rank_of held_at carried_at fixed_at
+    meets_with
 missed_shown = refl

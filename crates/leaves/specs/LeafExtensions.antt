@@ -10,7 +10,8 @@ use Rattle.leaves.specs.Second.{Second}
 pub record ExtendsLeaves {X Y : Type 0} (h : ℕ) (Q : Second X Y) (w : ℕ) (s : ℕ → X) (v : ℕ) (t : ℕ → Y) : Type 0 where
   pub tall : w ≤ v
   pub everywhere : (i : ℕ) → i < 2 ^ v → T (Q.pos (block_of h v i) (s (block_of w v i)) (t i))
-  pub somewhere : (j : ℕ) → j < Q.count → (i : ℕ) × (i < 2 ^ v) × T (Q.dis j (block_of h v i) (s (block_of w v i)) (t i))
+  pub somewhere : (j : ℕ) → j < Q.count → (i : ℕ) × (i < 2 ^ v)
+      × T (Q.dis j (block_of h v i) (s (block_of w v i)) (t i))
 
 -- an extension whose height is among A
 pub record LeafExtension {X Y : Type 0} (A : ℕ → Type 0) (h : ℕ) (Q : Second X Y) (w : ℕ) (s : ℕ → X) : Type 0 where

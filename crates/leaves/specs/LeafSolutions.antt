@@ -1,4 +1,5 @@
--- Solutions of a problem at the leaves, of every height, and what each leaf of the constants by itself must have. Assumes nothing.
+-- Solutions of a problem at the leaves, of every height, and what each leaf of the constants by itself must have.
+-- Assumes nothing.
 use Rattle.std.specs.Prelude.{ℕ, ◌^◌, ◌≤◌, ◌<◌, T}
 use Rattle.shares.specs.Blocks.{block_of}
 use Rattle.leaves.specs.Problem.{Problem}
@@ -16,7 +17,8 @@ pub record LeafSolution {X : Type 0} (A : ℕ → Type 0) (h : ℕ) (P : Problem
   pub leaves : ℕ → X
   pub solves : SolvesLeaves h P height leaves
 
--- each leaf of the constants by itself: it has a choice for the positive clauses, and each disequation has a leaf with a choice for it and them
+-- each leaf of the constants by itself: it has a choice for the positive clauses, and each disequation has a leaf with
+-- a choice for it and them
 pub record Leafwise {X : Type 0} (h : ℕ) (P : Problem X) : Type 0 where
   pub plain : (b : ℕ) → b < 2 ^ h → (x : X) × T (P.pos b x)
   pub special : (j : ℕ) → j < P.count → (b : ℕ) × (b < 2 ^ h) × (x : X) × T (P.pos b x) × T (P.dis j b x)

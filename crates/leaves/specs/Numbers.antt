@@ -1,4 +1,5 @@
--- A problem at the leaves whose choices are numbers: n values as the digits of a number below 2 ^ n, the first the highest. Assumes nothing.
+-- A problem at the leaves whose choices are numbers: n values as the digits of a number below 2 ^ n, the first the
+-- highest. Assumes nothing.
 use Rattle.std.specs.Prelude.{Bool, ◌&&◌, ℕ, ◌^◌}
 use Rattle.shares.specs.Below.{first_below}
 use Rattle.leaves.specs.Choices.{Row, least}

@@ -21,4 +21,9 @@ module _ {X Y : Type 0} (D : Picker Y) (Q : Second X Y) where
 
 -- what the second system asks at the leaves of s: a problem with these leaves for its own
 abbrev pub beside : {X Y : Type 0} → ℕ → Second X Y → ℕ → (ℕ → X) → Problem Y
-beside h Q w s = record { pos = λ i. Q.pos (block_of h w i) (s i); count = Q.count; dis = λ j i. Q.dis j (block_of h w i) (s i) }
+beside h Q w s = record {
+  pos = λ i. Q.pos (block_of h w i) (s i);
+  count = Q.count;
+  dis =
+      λ j i. Q.dis j (block_of h w i) (s i);
+}

@@ -1,5 +1,6 @@
 -- One leaf more: its words are done, or it looks like an earlier leaf. Assumes nothing.
-use Rattle.std.specs.Prelude.{◌≡◌, Bool, true, false, not, ◌&&◌, List, ℕ, ◌+◌, ◌-◌, ◌*◌, ◌^◌, ◌≤◌, ◌<◌, length, get_or, set}
+use Rattle.std.specs.Prelude.{◌≡◌, Bool, true, false, not, ◌&&◌, List, ℕ, ◌+◌, ◌-◌, ◌*◌, ◌^◌, ◌≤◌, ◌<◌, length, get_or}
+use Rattle.std.specs.Prelude.{set}
 use Rattle.std.proofs.Math.Path.{refl, ap, subst}
 use Rattle.std.proofs.Common.{sym, ap₂, ◌∙◌, add-one, arith, T_not, eq-eqb, ne_eqb}
 use Rattle.std.proofs.Math.Bool.{and-true, and-false, or-true, or-false}
@@ -45,19 +46,34 @@ module _ (S : Stored) (h : ℕ) (search : Search) (b : ℕ) where
   searches met = bit_and met 0xFFFFFFFF
 
   searches_kept : (met k : ℕ) → k < 32 → bit (searches met) k ≡ bit met k
-  searches_kept met k l = bit_of_and met 0xFFFFFFFF k ∙ ap (λ c. bit met k && c) (bit_ones 32 k l) ∙ and-true (bit met k)
+  searches_kept met k l = bit_of_and met 0xFFFFFFFF k ∙ ap (λ c. bit met k && c) (bit_ones 32 k l)
+      ∙ and-true (bit met k)
 
   searches_fresh : (met : ℕ) → bit (searches met) 32 ≡ false
-  searches_fresh met = bit_of_and met 0xFFFFFFFF 32 ∙ ap (λ c. bit met 32 && c) (bit_beyond 32 0xFFFFFFFF 32 (omega arith) (omega arith)) ∙ and-false (bit met 32)
+  searches_fresh met = bit_of_and met 0xFFFFFFFF 32
+      ∙ ap (λ c. bit met 32 && c) (bit_beyond 32 0xFFFFFFFF 32 (omega arith) (omega arith)) ∙ and-false (bit met 32)
 
-  pub amid_start : (seen : Seen) (firsts plains : List Passing) (rows : List ℕ) → get_or S.counts 1 0 ≤ 31 → After S h search b seen firsts plains rows
-      → Amid S h search b 0 (record { met = searches seen.met; possible = seen.possible; here = 0; wanted = seen.possible }) firsts rows
+  pub amid_start : (seen : Seen) (firsts plains : List Passing) (rows : List ℕ) → get_or S.counts 1 0 ≤ 31
+      → After S h search b seen firsts plains rows
+      → Amid S h search b 0 (record {
+        met = searches seen.met;
+        possible = seen.possible;
+        here = 0;
+        wanted =
+            seen.possible;
+      }) firsts rows
   unfolding some_below
   amid_start seen firsts plains rows few A = record {
-    plain = record { found = searches_fresh seen.met; stored = λ t. absurd (T_not (bit (searches seen.met) 32) (of_false (searches_fresh seen.met)) t) };
-    entries = λ i l. subst (λ t. Entry (on_pairs S h (meets_here S search i)) t (searches seen.met) firsts i) (sym (add-zero (b * word_count n)))
+    plain = record {
+      found = searches_fresh seen.met;
+      stored =
+          λ t. absurd (T_not (bit (searches seen.met) 32) (of_false (searches_fresh seen.met)) t);
+    };
+    entries = λ i l. subst (λ t. Entry (on_pairs S h (meets_here S search i)) t (searches seen.met) firsts i)
+        (sym (add-zero (b * word_count n)))
         (entry_same _ _ _ _ _ _ i (searches_kept seen.met i (omega arith)) refl (A.entries i l));
-    unmet = λ e. subst (λ t. Entry (on_pairs S h (unmet_here S)) t (searches seen.met) firsts 31) (sym (add-zero (b * word_count n)))
+    unmet = λ e. subst (λ t. Entry (on_pairs S h (unmet_here S)) t (searches seen.met) firsts 31)
+        (sym (add-zero (b * word_count n)))
         (entry_same _ _ _ _ _ _ 31 (searches_kept seen.met 31 (omega arith)) refl (A.unmet e));
     here = λ e t j l u. bit_zero j;
     marks = λ e t j l u i m.
@@ -68,12 +84,15 @@ module _ (S : Stored) (h : ℕ) (search : Search) (b : ℕ) where
 
   -- ---- where nothing is sought any more
 
-  pub amid_done : (w w' : ℕ) (seen : Seen) (firsts : List Passing) (rows : List ℕ) → w ≤ w' → Done search seen.met (get_or S.counts 1 0)
+  pub amid_done : (w w' : ℕ) (seen : Seen) (firsts : List Passing) (rows : List ℕ) → w ≤ w'
+      → Done search seen.met (get_or S.counts 1 0)
       → Amid S h search b w seen firsts rows → Amid S h search b w' seen firsts rows
   amid_done w w' seen firsts rows l D A = record {
     plain = entry_stays _ w w' seen.met firsts 32 l D.plain A.plain;
-    entries = λ i m. entry_stays _ (b * word_count n + w) (b * word_count n + w') seen.met firsts i (omega arith) (D.full i m) (A.entries i m);
-    unmet = λ e. entry_stays _ (b * word_count n + w) (b * word_count n + w') seen.met firsts 31 (omega arith) (D.unmet e) (A.unmet e);
+    entries = λ i m. entry_stays _ (b * word_count n + w) (b * word_count n + w') seen.met firsts i (omega arith)
+        (D.full i m) (A.entries i m);
+    unmet = λ e. entry_stays _ (b * word_count n + w) (b * word_count n + w') seen.met firsts 31 (omega arith)
+        (D.unmet e) (A.unmet e);
     here = λ e t. absurd (T_not (bit seen.met 31) t (of_true (D.unmet e)));
     marks = λ e t. absurd (T_not (bit seen.met 31) t (of_true (D.unmet e)));
     settled = A.settled;
@@ -81,7 +100,8 @@ module _ (S : Stored) (h : ℕ) (search : Search) (b : ℕ) where
 
   -- ---- after the last word
 
-  module _ (seen : Seen) (firsts plains : List Passing) (rows : List ℕ) (A : After S h search b seen firsts plains rows) (seen₁ : Seen) (firsts₁ : List Passing) (rows₁ : List ℕ)
+  module _ (seen : Seen) (firsts plains : List Passing) (rows : List ℕ) (A : After S h search b seen firsts plains rows)
+      (seen₁ : Seen) (firsts₁ : List Passing) (rows₁ : List ℕ)
       (M : Amid S h search b (word_count n) seen₁ firsts₁ rows₁) (possible_kept : seen₁.possible ≡ seen.possible)
       (plains₁ : List Passing) (P : Put b firsts₁ 32 plains plains₁) where
     -- an unmet choice stays found
@@ -89,7 +109,8 @@ module _ (S : Stored) (h : ℕ) (search : Search) (b : ℕ) where
     before e t =
         not_T (bit seen.met 31) (λ u.
         T_not (bit seen₁.met 31) t
-        (of_true ((M.unmet e).found ∙ some_stays (on_pairs S h (unmet_here S)) (b * word_count n) (b * word_count n + word_count n) (omega arith) (subst T (A.unmet e).found u))))
+        (of_true ((M.unmet e).found ∙ some_stays (on_pairs S h (unmet_here S)) (b * word_count n)
+        (b * word_count n + word_count n) (omega arith) (subst T (A.unmet e).found u))))
 
     possible_after : search ≡ Unmet → T (not (bit seen₁.met 31)) → (j : ℕ) → j < get_or S.counts 3 0
         → bit (bit_and seen₁.possible seen₁.here) j ≡ missed_below S h (b + 1) j
@@ -100,22 +121,33 @@ module _ (S : Stored) (h : ℕ) (search : Search) (b : ℕ) where
         some : Bool
         some = some_below (leaf_width n) (allowed_in S (Missed j) (leaf_values S h b))
 
-        go : (c : Bool) → bit seen.possible j ≡ c → (bit seen.possible j && bit seen₁.here j) ≡ (missed_below S h b j && some)
+        go : (c : Bool) → bit seen.possible j ≡ c → (bit seen.possible j && bit seen₁.here j)
+            ≡ (missed_below S h b j && some)
         go true q =
             ap₂ ◌&&◌ (A.possible e (before e t) j l)
             (M.here e t j l (of_true (ap (λ x. bit x j) (possible_kept) ∙ q)))
-        go false q = ap (λ c. c && bit seen₁.here j) q ∙ sym (ap (λ c. c && some) (sym (A.possible e (before e t) j l) ∙ q))
+        go false q = ap (λ c. c && bit seen₁.here j) q
+            ∙ sym (ap (λ c. c && some) (sym (A.possible e (before e t) j l) ∙ q))
 
-    pub leaf_done : Visited S h search b (record { met = seen₁.met; possible = bit_and seen₁.possible seen₁.here; here = 0; wanted = 0 }) firsts₁ plains₁ rows₁
+    pub leaf_done : Visited S h search b (record {
+      met = seen₁.met;
+      possible = bit_and seen₁.possible seen₁.here;
+      here =
+          0;
+      wanted = 0;
+    }) firsts₁ plains₁ rows₁
     leaf_done = record {
       done = λ t. record {
         least = λ a l. plains_of t a l (ℕ_discrete a b);
         found = λ _. t;
-        entries = λ i l. subst (λ t. Entry (on_pairs S h (meets_here S search i)) t seen₁.met firsts₁ i) (leaf_more b (word_count n)) (M.entries i l);
-        unmet = λ e. subst (λ t. Entry (on_pairs S h (unmet_here S)) t seen₁.met firsts₁ 31) (leaf_more b (word_count n)) (M.unmet e);
+        entries = λ i l. subst (λ t. Entry (on_pairs S h (meets_here S search i)) t seen₁.met firsts₁ i)
+            (leaf_more b (word_count n)) (M.entries i l);
+        unmet = λ e. subst (λ t. Entry (on_pairs S h (unmet_here S)) t seen₁.met firsts₁ 31)
+            (leaf_more b (word_count n)) (M.unmet e);
         possible = possible_after;
         marks = λ e u j l v i m.
-            M.marks e u j l (and_left (bit seen₁.possible j) (bit seen₁.here j) (subst T (bit_of_and seen₁.possible seen₁.here j) v)) i m
+            M.marks e u j l (and_left (bit seen₁.possible j) (bit seen₁.here j)
+            (subst T (bit_of_and seen₁.possible seen₁.here j) v)) i m
             ∙ ap (λ t. some_below (64 * t) (on_pairs S h (meets_here S (Missed j) i))) (leaf_more b (word_count n));
       };
       none = λ t. subst (λ c. T (not c)) M.plain.found t;
@@ -131,12 +163,15 @@ module _ (S : Stored) (h : ℕ) (search : Search) (b : ℕ) where
 
   module _ (like : ℕ) (earlier : like < b) (same : leaf_values S h like ≡ leaf_values S h b) where
     -- a test of pairs that passes in leaf b passes in the earlier leaf
-    repeated : (f : ℕ → ℕ → Bool) → some_below (64 * ((b + 1) * word_count n)) (on_pairs S h f) ≡ some_below (64 * (b * word_count n)) (on_pairs S h f)
+    repeated : (f : ℕ → ℕ → Bool) → some_below (64 * ((b + 1) * word_count n)) (on_pairs S h f)
+        ≡ some_below (64 * (b * word_count n)) (on_pairs S h f)
     repeated f =
         same_test _ _
-        (λ t. let (u, l, v) = some_found (64 * ((b + 1) * word_count n)) (on_pairs S h f) t in go u l v (dec_lt u (64 * (b * word_count n))))
+        (λ t. let (u, l, v) = some_found (64 * ((b + 1) * word_count n)) (on_pairs S h f) t in
+        go u l v (dec_lt u (64 * (b * word_count n))))
         (λ t. let (u, l, v) = some_found (64 * (b * word_count n)) (on_pairs S h f) t in
-        some_intro (64 * ((b + 1) * word_count n)) (on_pairs S h f) u (omega (arith, sym (leaf_more b (word_count n)))) v)
+        some_intro (64 * ((b + 1) * word_count n)) (on_pairs S h f) u (omega (arith, sym (leaf_more b (word_count n))))
+        v)
       where
         at : (a z : ℕ) → z < leaf_width n → on_pairs S h f (a * leaf_width n + z) ≡ f (leaf_values S h a) z
         at a z l = ap₂ (λ x y. f (leaf_values S h x) y) (digits_div a l) (digits_mod a l)
@@ -144,7 +179,8 @@ module _ (S : Stored) (h : ℕ) (search : Search) (b : ℕ) where
         width : (a : ℕ) → 64 * (a * word_count n) ≡ a * leaf_width n
         width a = native.Mathlib.Nat.mul_left_comm 64 a (word_count n)
 
-        go : (u : ℕ) → u < 64 * ((b + 1) * word_count n) → T (on_pairs S h f u) → Dec (u < 64 * (b * word_count n)) → T (some_below (64 * (b * word_count n)) (on_pairs S h f))
+        go : (u : ℕ) → u < 64 * ((b + 1) * word_count n) → T (on_pairs S h f u) → Dec (u < 64 * (b * word_count n))
+            → T (some_below (64 * (b * word_count n)) (on_pairs S h f))
         go u l v (yes m) = some_intro (64 * (b * word_count n)) (on_pairs S h f) u m v
         go u l v (no m) =
             let z = u - b * leaf_width n in
@@ -152,28 +188,36 @@ module _ (S : Stored) (h : ℕ) (search : Search) (b : ℕ) where
             let e : u ≡ b * leaf_width n + z = omega (arith, width b) in
             let below : like * leaf_width n + z < 64 * (b * word_count n) = rw (width b) (digits_lt earlier small) in
             some_intro (64 * (b * word_count n)) (on_pairs S h f) (like * leaf_width n + z) below
-            (subst T (ap (on_pairs S h f) e ∙ at b z small ∙ ap (λ values. f values z) (sym same) ∙ sym (at like z small)) v)
+            (subst T (ap (on_pairs S h f) e ∙ at b z small ∙ ap (λ values. f values z) (sym same)
+            ∙ sym (at like z small)) v)
 
-    skip : (f : ℕ → ℕ → Bool) (met : ℕ) (firsts : List Passing) (e : ℕ) → Entry (on_pairs S h f) (b * word_count n) met firsts e → Entry (on_pairs S h f) ((b + 1) * word_count n) met firsts e
+    skip : (f : ℕ → ℕ → Bool) (met : ℕ) (firsts : List Passing) (e : ℕ)
+        → Entry (on_pairs S h f) (b * word_count n) met firsts e
+        → Entry (on_pairs S h f) ((b + 1) * word_count n) met firsts e
     skip f met firsts e E = record {
       found = E.found ∙ sym (repeated f);
       stored = λ u.
           E.stored u
-          ∙ sym (first_longer (64 * (b * word_count n)) (64 * ((b + 1) * word_count n)) (on_pairs S h f) (omega (arith, sym (leaf_more b (word_count n)))) (subst T E.found u));
+          ∙ sym (first_longer (64 * (b * word_count n)) (64 * ((b + 1) * word_count n)) (on_pairs S h f)
+          (omega (arith, sym (leaf_more b (word_count n)))) (subst T E.found u));
     }
 
-    pub leaf_copied : (seen : Seen) (firsts plains : List Passing) (rows : List ℕ) (seen₁ : Seen) (plains₁ : List Passing) → get_or S.counts 1 0 ≤ 31 → Copied b like seen plains seen₁ plains₁
+    pub leaf_copied : (seen : Seen) (firsts plains : List Passing) (rows : List ℕ) (seen₁ : Seen)
+        (plains₁ : List Passing) → get_or S.counts 1 0 ≤ 31 → Copied b like seen plains seen₁ plains₁
         → After S h search b seen firsts plains rows → Visited S h search b seen₁ firsts plains₁ rows
     leaf_copied seen firsts plains rows seen₁ plains₁ few C A = record {
       done = λ _. record {
         least = λ a l. plains_of a l (ℕ_discrete a b);
         found = λ _. of_true C.found;
-        entries = λ i l. entry_same _ _ _ _ _ _ i (C.met_kept i (λ q. omega arith)) refl (skip (meets_here S search i) seen.met firsts i (A.entries i l));
+        entries = λ i l. entry_same _ _ _ _ _ _ i (C.met_kept i (λ q. omega arith)) refl
+            (skip (meets_here S search i) seen.met firsts i (A.entries i l));
         unmet = λ e. entry_same _ _ _ _ _ _ 31 apart refl (skip (unmet_here S) seen.met firsts 31 (A.unmet e));
         possible = λ e t j l.
-            ap (λ x. bit x j) C.possible_kept ∙ A.possible e (subst (λ c. T (not c)) apart t) j l ∙ sym (missed_again j);
+            ap (λ x. bit x j) C.possible_kept ∙ A.possible e (subst (λ c. T (not c)) apart t) j l
+            ∙ sym (missed_again j);
         marks = λ e t j l u i m.
-            A.marks e (subst (λ c. T (not c)) apart t) j l (rw C.possible_kept at u) i m ∙ sym (repeated (meets_here S (Missed j) i));
+            A.marks e (subst (λ c. T (not c)) apart t) j l (rw C.possible_kept at u) i m
+            ∙ sym (repeated (meets_here S (Missed j) i));
       };
       none = λ t. absurd (T_not (bit seen₁.met 32) t (of_true C.found));
     }
@@ -190,7 +234,8 @@ module _ (S : Stored) (h : ℕ) (search : Search) (b : ℕ) where
         missed_again : (j : ℕ) → missed_below S h (b + 1) j ≡ missed_below S h b j
         missed_again j =
             same_test _ _
-            (λ t. and_left (missed_below S h b j) (test b) (subst T (ap (λ k. missed_below S h k j) (add-one b) ∙ every_more b test) t))
+            (λ t. and_left (missed_below S h b j) (test b)
+            (subst T (ap (λ k. missed_below S h k j) (add-one b) ∙ every_more b test) t))
             (λ t. subst T (sym (ap (λ k. missed_below S h k j) (add-one b) ∙ every_more b test))
             (and_intro (missed_below S h b j) (test b) t (rw (← same) (every_at b test t like earlier))))
           where
@@ -200,14 +245,16 @@ module _ (S : Stored) (h : ℕ) (search : Search) (b : ℕ) where
 -- ---- the table of the leaves
 
 -- the words of an entry, stored as those of entry b
-pub put_entry : (b : ℕ) (from : List Passing) (a : ℕ) (old : List Passing) → b < length old → Put b from a old (set old b (get_or from a nothing_kept))
+pub put_entry : (b : ℕ) (from : List Passing) (a : ℕ) (old : List Passing) → b < length old
+    → Put b from a old (set old b (get_or from a nothing_kept))
 unfolding number_at
 put_entry b from a old room =
     let word = get_or from a nothing_kept in
     record { stored = kept_there old b word.word word.choices room; kept = kept_others old b word.word word.choices }
 
 pub copied : (b a : ℕ) (seen : Seen) (plains plains' : List Passing) → Put b plains a plains plains'
-    → Copied b a seen plains (record { met = bit_or seen.met (2 ^ 32); possible = seen.possible; here = 0; wanted = 0 }) plains'
+    → Copied b a seen plains (record { met = bit_or seen.met (2 ^ 32); possible = seen.possible; here = 0; wanted = 0 })
+    plains'
 copied b a seen plains plains' P = record {
   possible_kept = refl;
   found = bit_added seen.met 32 true refl 32 ∙ rw (eq-eqb 32 32 refl) (or-true (bit seen.met 32));

@@ -24,7 +24,8 @@ use Rattle.steps.specs.declared.Seen.{Seen}
 use Rattle.words.specs.declared.Passing.{Passing}
 
 -- only the values of the constants that are named are set
-pub values_within : (levels : ℕ) (constants : List ℕ) (named h b : ℕ) → Within named (values_at levels constants named h b)
+pub values_within : (levels : ℕ) (constants : List ℕ) (named h b : ℕ)
+    → Within named (values_at levels constants named h b)
 unfolding values_at
 values_within levels constants named h b i e = go (dec_lt i 64)
   where
@@ -33,7 +34,8 @@ values_within levels constants named h b i e = go (dec_lt i 64)
     go (no m) = bit_beyond 64 (values_at levels constants named h b) i (number_lt 64 _) (omega arith)
 
 -- one key more
-pub keys_more : (f : ℕ → ℕ) (keys : List ℕ) (b x : ℕ) → b < length keys → x ≡ f b → ((i : ℕ) → i < b → get_or keys i 0 ≡ f i)
+pub keys_more : (f : ℕ → ℕ) (keys : List ℕ) (b x : ℕ) → b < length keys → x ≡ f b
+    → ((i : ℕ) → i < b → get_or keys i 0 ≡ f i)
     → (i : ℕ) → i < b + 1 → get_or (set keys b x) i 0 ≡ f i
 keys_more f keys b x room e K i l = go (dec_lt i b)
   where
@@ -47,11 +49,17 @@ module _ (S : Stored) (h : ℕ) (search : Search) where
   unfolding some_below
   none f = ap (λ k. some_below (64 * k) (on_pairs S h f)) (zero-mul (word_count S.free))
 
-  entry_start : (f : ℕ → ℕ → Bool) (firsts : List Passing) (e : ℕ) → Entry (on_pairs S h f) (0 * word_count S.free) 0 firsts e
-  entry_start f firsts e = record { found = bit_zero e ∙ sym (none f); stored = λ t. absurd (T_not (bit 0 e) (of_false (bit_zero e)) t) }
+  entry_start : (f : ℕ → ℕ → Bool) (firsts : List Passing) (e : ℕ)
+      → Entry (on_pairs S h f) (0 * word_count S.free) 0 firsts e
+  entry_start f firsts e = record {
+    found = bit_zero e ∙ sym (none f);
+    stored =
+        λ t. absurd (T_not (bit 0 e) (of_false (bit_zero e)) t);
+  }
 
   pub after_none : (firsts plains : List Passing) (rows : List ℕ) → ((k : ℕ) → get_or rows k 0 ≡ 0)
-      → After S h search 0 (record { met = 0; possible = 2 ^ get_or S.counts 3 0 - 1; here = 0; wanted = 0 }) firsts plains rows
+      → After S h search 0 (record { met = 0; possible = 2 ^ get_or S.counts 3 0 - 1; here = 0; wanted = 0 }) firsts
+      plains rows
   unfolding every_below
   after_none firsts plains rows zero = record {
     least = λ a l. absurd (omega arith);
@@ -63,19 +71,23 @@ module _ (S : Stored) (h : ℕ) (search : Search) where
   }
 
   -- after the last
-  pub passed_all : (seen : Seen) (firsts plains : List Passing) (rows : List ℕ) → After S h search (2 ^ h) seen firsts plains rows → Passed S h search seen firsts plains rows
+  pub passed_all : (seen : Seen) (firsts plains : List Passing) (rows : List ℕ)
+      → After S h search (2 ^ h) seen firsts plains rows → Passed S h search seen firsts plains rows
   passed_all seen firsts plains rows A = record {
     all = is_true _ (A.found (pow_pos h)) ∙ sym (is_true _ (every_intro (2 ^ h) _ (λ b l. (A.least b l).0)));
     after = λ _. A;
   }
 
   -- a leaf has no choice
-  pub passed_none : (b : ℕ) (seen : Seen) (firsts plains : List Passing) (rows : List ℕ) → b < 2 ^ h → bit seen.met 32 ≡ false → Visited S h search b seen firsts plains rows
+  pub passed_none : (b : ℕ) (seen : Seen) (firsts plains : List Passing) (rows : List ℕ) → b < 2 ^ h
+      → bit seen.met 32 ≡ false → Visited S h search b seen firsts plains rows
       → Passed S h search seen firsts plains rows
   passed_none b seen firsts plains rows l e W = record {
-    all = e ∙ sym (every_fails (λ b. some_below (leaf_width S.free) (allowed_in S search (leaf_values S h b))) (W.none (of_false e)));
+    all = e ∙ sym (every_fails (λ b. some_below (leaf_width S.free) (allowed_in S search (leaf_values S h b)))
+        (W.none (of_false e)));
     after = λ t. absurd (T_not (bit seen.met 32) (of_false e) t);
   }
     where
       every_fails : (p : ℕ → Bool) → T (not (p b)) → every_below (2 ^ h) p ≡ false
-      every_fails p t = is_false (every_below (2 ^ h) p) (lib.Dec.not_T (every_below (2 ^ h) p) (λ u. T_not (p b) t (every_at (2 ^ h) p u b l)))
+      every_fails p t = is_false (every_below (2 ^ h) p)
+          (lib.Dec.not_T (every_below (2 ^ h) p) (λ u. T_not (p b) t (every_at (2 ^ h) p u b l)))

@@ -1,4 +1,5 @@
-// One pass over the leaves of a question, and over the words of choices of each leaf that does not look like an earlier one: no set of choices is stored.
+// One pass over the leaves of a question, and over the words of choices of each leaf that does not look like an earlier
+// one: no set of choices is stored.
 #![tactic(auto)]
 
 ghost use Rattle.std.specs.Prelude.{◌≡◌, true, ℕ, ◌+◌, ◌*◌, ◌<◌, ◌≤◌, get_or, set, IfSome};
@@ -13,7 +14,8 @@ use beside::Searchable;
 use steps::{Search, Seen, Spot};
 use words::{FIRST_WORDS, LEAF_WORDS, Passing};
 
-// A leaf: what is searched for, its number, the first of the leaves before it that looks like it, and the values of the constants there.
+// A leaf: what is searched for, its number, the first of the leaves before it that looks like it, and the values of the
+// constants there.
 #[derive(Clone, Copy)]
 pub struct Leaf {
     pub search: Search,
@@ -22,8 +24,8 @@ pub struct Leaf {
     pub values: u64,
 }
 
-// Whether nothing is sought any more at a leaf: its least choice and a pair for each of the first system's disequations are found, and so is an unmet choice
-// where one is sought.
+// Whether nothing is sought any more at a leaf: its least choice and a pair for each of the first system's disequations
+// are found, and so is an unmet choice where one is sought.
 fn is_done(search: Search, met: u64, count: usize) -> bool
     requires { count ≤ 32 }
     ensures { result ≡ true → Done search met count }
@@ -50,9 +52,14 @@ fn pass_words(
     firsts: &mut [Passing; FIRST_WORDS],
     rows: &mut [u64; 96],
 ) -> Seen
-    requires { Named question.now.sizes.counts search × (number < 64) × Placed question.now.sizes.free question.now.sizes.own terms.old }
-    ensures by_index { (values v : ℕ) → Terms question.now.sizes.free question.now.sizes.own values v terms.old → (u : ℕ) × Terms question.now.sizes.free question.now.sizes.own values u terms.new }
-    ensures by_index_2 { (h : ℕ) (v : ℕ) → Terms question.now.sizes.free question.now.sizes.own (leaf_values (posed question.now) h number) v terms.old → Amid (posed question.now) h search number 0 start firsts.old rows.old → Amid (posed question.now) h search number (word_count question.now.sizes.free) result firsts.new rows.new }
+    requires { Named question.now.sizes.counts search × (number < 64)
+        × Placed question.now.sizes.free question.now.sizes.own terms.old }
+    ensures by_index { (values v : ℕ) → Terms question.now.sizes.free question.now.sizes.own values v terms.old
+        → (u : ℕ) × Terms question.now.sizes.free question.now.sizes.own values u terms.new }
+    ensures by_index_2 { (h : ℕ) (v : ℕ)
+        → Terms question.now.sizes.free question.now.sizes.own (leaf_values (posed question.now) h number) v terms.old
+        → Amid (posed question.now) h search number 0 start firsts.old rows.old
+        → Amid (posed question.now) h search number (word_count question.now.sizes.free) result firsts.new rows.new }
     ensures possible_value { result.possible ≡ start.possible }
 {
     let sizes = question.sizes;
@@ -72,7 +79,8 @@ fn pass_words(
     r
 }
 
-// All words of a leaf. The least of its choices stands in entry 32 while they are gone over, and then in the leaf's own entry of the table of leaves.
+// All words of a leaf. The least of its choices stands in entry 32 while they are gone over, and then in the leaf's own
+// entry of the table of leaves.
 fn pass_leaf(
     question: &Searchable<'_>,
     terms: &mut [u64; 64],
@@ -82,9 +90,14 @@ fn pass_leaf(
     plains: &mut [Passing; LEAF_WORDS],
     rows: &mut [u64; 96],
 ) -> Seen
-    requires { Named question.now.sizes.counts leaf.search × (leaf.number < 64) × Placed question.now.sizes.free question.now.sizes.own terms.old }
-    ensures by_index { (values v : ℕ) → Terms question.now.sizes.free question.now.sizes.own values v terms.old → (u : ℕ) × Terms question.now.sizes.free question.now.sizes.own values u terms.new }
-    ensures by_index_2 { (h : ℕ) (v : ℕ) → Terms question.now.sizes.free question.now.sizes.own (leaf_values (posed question.now) h leaf.number) v terms.old → After (posed question.now) h leaf.search leaf.number seen firsts.old plains.old rows.old → Visited (posed question.now) h leaf.search leaf.number result firsts.new plains.new rows.new }
+    requires { Named question.now.sizes.counts leaf.search × (leaf.number < 64)
+        × Placed question.now.sizes.free question.now.sizes.own terms.old }
+    ensures by_index { (values v : ℕ) → Terms question.now.sizes.free question.now.sizes.own values v terms.old
+        → (u : ℕ) × Terms question.now.sizes.free question.now.sizes.own values u terms.new }
+    ensures by_index_2 { (h : ℕ) (v : ℕ)
+        → Terms question.now.sizes.free question.now.sizes.own (leaf_values (posed question.now) h leaf.number) v
+        terms.old → After (posed question.now) h leaf.search leaf.number seen firsts.old plains.old rows.old
+        → Visited (posed question.now) h leaf.search leaf.number result firsts.new plains.new rows.new }
 {
     let start = Seen {
         met: seen.met & 0xFFFF_FFFF,
@@ -134,9 +147,16 @@ fn visit(
     plains: &mut [Passing; LEAF_WORDS],
     rows: &mut [u64; 96],
 ) -> Seen
-    requires { Named question.now.sizes.counts leaf.search × (leaf.number < 64) × IfSome leaf.like (λ a. a < leaf.number) × Bounded question.now.sizes × Within question.now.sizes.named leaf.values × PlacedWithin question.now.sizes.free question.now.sizes.own question.now.sizes.named terms.old }
-    ensures placed_within { PlacedWithin question.now.sizes.free question.now.sizes.own question.now.sizes.named terms.new }
-    ensures by_index { (h : ℕ) → leaf.values ≡ leaf_values (posed question.now) h leaf.number → IfSome leaf.like (λ a. leaf_values (posed question.now) h a ≡ leaf.values) → After (posed question.now) h leaf.search leaf.number seen firsts.old plains.old rows.old → Visited (posed question.now) h leaf.search leaf.number result firsts.new plains.new rows.new }
+    requires { Named question.now.sizes.counts leaf.search × (leaf.number < 64)
+        × IfSome leaf.like (λ a. a < leaf.number) × Bounded question.now.sizes
+        × Within question.now.sizes.named leaf.values
+        × PlacedWithin question.now.sizes.free question.now.sizes.own question.now.sizes.named terms.old }
+    ensures placed_within { PlacedWithin question.now.sizes.free question.now.sizes.own question.now.sizes.named
+        terms.new }
+    ensures by_index { (h : ℕ) → leaf.values ≡ leaf_values (posed question.now) h leaf.number
+        → IfSome leaf.like (λ a. leaf_values (posed question.now) h a ≡ leaf.values)
+        → After (posed question.now) h leaf.search leaf.number seen firsts.old plains.old rows.old
+        → Visited (posed question.now) h leaf.search leaf.number result firsts.new plains.new rows.new }
 {
     if let Some(like) = leaf.like {
         return copy_leaf(leaf.number, like, seen, plains);

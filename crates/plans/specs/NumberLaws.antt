@@ -15,7 +15,8 @@ module _ (n h : ℕ) (R : Problem ℕ) where
   unfolding plain_at
   plain_is b = some_number n (R.pos b)
 
-  pub special_is : (j b : ℕ) → special_at (least n) (numbered n R) j b ≡ some_below (2 ^ n) (λ x. R.pos b x && R.dis j b x)
+  pub special_is : (j b : ℕ) → special_at (least n) (numbered n R) j b
+      ≡ some_below (2 ^ n) (λ x. R.pos b x && R.dis j b x)
   unfolding special_at
   special_is j b = some_number n (λ x. R.pos b x && R.dis j b x)
 

@@ -1,7 +1,10 @@
--- Laws of pairs: how wide a leaf is, where a pair stands, and the plan once some disequations have their sub-leaves. Assumes nothing.
-use Rattle.std.specs.Prelude.{◌≡◌, refl, ◌&&◌, T, List, ℕ, suc, ◌+◌, ◌-◌, ◌*◌, ◌/◌, ◌%◌, ◌^◌, ◌≤◌, ◌<◌, eqb, length, get_or, set, replicate}
+-- Laws of pairs: how wide a leaf is, where a pair stands, and the plan once some disequations have their sub-leaves.
+-- Assumes nothing.
+use Rattle.std.specs.Prelude.{◌≡◌, refl, ◌&&◌, T, List, ℕ, suc, ◌+◌, ◌-◌, ◌*◌, ◌/◌, ◌%◌, ◌^◌, ◌≤◌, ◌<◌, eqb, length}
+use Rattle.std.specs.Prelude.{get_or, set, replicate}
 use Rattle.std.proofs.Math.Path.{sym, ap}
-use Rattle.std.proofs.Common.{ap₂, get_or-set_same, get_or-set_other, ◌∙◌, le_trans, div-add-mod', div-lt_iff_lt-mul, mul_left_comm, arith, pow-add, pow_mono, pow_pos, lt-ltb, le-ltb, eq-eqb, eqb→eq, ne_eqb}
+use Rattle.std.proofs.Common.{ap₂, get_or-set_same, get_or-set_other, ◌∙◌, le_trans, div-add-mod', div-lt_iff_lt-mul}
+use Rattle.std.proofs.Common.{mul_left_comm, arith, pow-add, pow_mono, pow_pos, lt-ltb, le-ltb, eq-eqb, eqb→eq, ne_eqb}
 use Rattle.std.proofs.Math.Nat.{mod-lt, add-zero}
 use Rattle.std.proofs.Math.Numerals.{add-one}
 use Rattle.std.proofs.Math.Decide.{dec_lt, ℕ_discrete}
@@ -37,7 +40,8 @@ width_few : (n : ℕ) → n < 6 → 64 ≡ leaf_width n
 width_few n h = ap (◌*◌ 64) (words_few n h)
 
 width_many : (n : ℕ) → 6 ≤ n → 2 ^ n ≡ leaf_width n
-width_many n h = let e : n ≡ 6 + (n - 6) = omega arith in ap (λ k. 2 ^ k) e ∙ pow-add 2 6 (n - 6) ∙ ap (◌*◌ 64) (words_many n)
+width_many n h = let e : n ≡ 6 + (n - 6) = omega arith in ap (λ k. 2 ^ k) e ∙ pow-add 2 6 (n - 6)
+    ∙ ap (◌*◌ 64) (words_many n)
 
 pub width_pos : (n : ℕ) → 0 < leaf_width n
 unfolding word_count
@@ -67,7 +71,8 @@ module _ (t r n : ℕ) (small : r < 64) where
   regroup b c w = omega (arith, mul_left_comm b 64 c)
 
   parts : 64 * t + r ≡ t / word_count n * leaf_width n + (64 * (t % word_count n) + r)
-  parts = ap (λ z. 64 * z + r) (sym (div-add-mod' t (word_count n))) ∙ regroup (t / word_count n) (word_count n) (t % word_count n)
+  parts = ap (λ z. 64 * z + r) (sym (div-add-mod' t (word_count n)))
+      ∙ regroup (t / word_count n) (word_count n) (t % word_count n)
 
   pub number_leaf : t / word_count n ≡ (64 * t + r) / leaf_width n
   number_leaf = sym (ap (λ z. z / leaf_width n) parts ∙ digits_div (t / word_count n) within)
@@ -109,7 +114,8 @@ module _ (o : Outline) (firsts : List Passing) where
   unfolding count_below
   taken_none b l = get_or-replicate 64 b 0 0 l
 
-  module _ (e leaf rank : ℕ) (taken : List ℕ) (here : leaf ≡ pair_leaf o firsts e) (within : leaf < 64) (is : rank ≡ get_or taken leaf 0) (t : Taken e taken) where
+  module _ (e leaf rank : ℕ) (taken : List ℕ) (here : leaf ≡ pair_leaf o firsts e) (within : leaf < 64)
+      (is : rank ≡ get_or taken leaf 0) (t : Taken e taken) where
     pub rank_le : rank ≤ e
     rank_le = omega (arith, t leaf within, count_le e (λ i. eqb (pair_leaf o firsts i) leaf))
 
@@ -118,10 +124,13 @@ module _ (o : Outline) (firsts : List Passing) where
     taken_more after l q =
         rw (q, add-one e)
         (store_law (λ b x. b < 64 → x ≡ leaf_count (suc e) b) taken leaf (rank + 1) l
-        (λ b n m. t b m ∙ sym (ap (λ x. leaf_count e b + one x) (ne_eqb (pair_leaf o firsts e) b (λ p. n (sym p ∙ sym here))) ∙ add-zero (leaf_count e b)))
-        (λ m. ap (λ x. x + 1) (is ∙ t leaf m) ∙ sym (ap (λ x. leaf_count e leaf + one x) (eq-eqb (pair_leaf o firsts e) leaf (sym here)))))
+        (λ b n m. t b m ∙ sym (ap (λ x. leaf_count e b + one x)
+        (ne_eqb (pair_leaf o firsts e) b (λ p. n (sym p ∙ sym here))) ∙ add-zero (leaf_count e b)))
+        (λ m. ap (λ x. x + 1) (is ∙ t leaf m)
+        ∙ sym (ap (λ x. leaf_count e leaf + one x) (eq-eqb (pair_leaf o firsts e) leaf (sym here)))))
 
-    pub sub_leaf_is : leaf * 2 ^ o.splits + rank ≡ pair_leaf o firsts e * 2 ^ o.splits + leaf_count e (pair_leaf o firsts e)
+    pub sub_leaf_is : leaf * 2 ^ o.splits + rank
+        ≡ pair_leaf o firsts e * 2 ^ o.splits + leaf_count e (pair_leaf o firsts e)
     sub_leaf_is = ap₂ (λ x y. x * 2 ^ o.splits + y) here (is ∙ t leaf within ∙ ap (leaf_count e) here)
 
   -- the entry of disequation i: its sub-leaf and its choice
@@ -130,7 +139,8 @@ module _ (o : Outline) (firsts : List Passing) where
       (x.subleaf ≡ pair_leaf o firsts i * 2 ^ o.splits + leaf_count i (pair_leaf o firsts i))
       × (x.choice ≡ number_at firsts (slot_of o.extra i) % leaf_width o.free)
 
-  pub filled_more : (e : ℕ) (x : Entry) (es : List Entry) → e < length es → IsEntry e x → Filled o firsts e es → Filled o firsts (e + 1) (set es e x)
+  pub filled_more : (e : ℕ) (x : Entry) (es : List Entry) → e < length es → IsEntry e x → Filled o firsts e es
+      → Filled o firsts (e + 1) (set es e x)
   filled_more e x es h is f = record { sub_leaves = λ i l. (more i l).0; choices = λ i l. (more i l).1 }
     where
       more : (i : ℕ) → i < e + 1 → IsEntry i (entry_at (set es e x) i)
@@ -138,33 +148,49 @@ module _ (o : Outline) (firsts : List Passing) where
         where
           go : Dec (i ≡ e) → IsEntry i (entry_at (set es e x) i)
           go (yes q) = rw (q, get_or-set_same es e x (record { subleaf = 0; choice = 0 }) h) is
-          go (no n) = rw (get_or-set_other es e i x (record { subleaf = 0; choice = 0 }) n) (f.sub_leaves i (omega arith), f.choices i (omega arith))
+          go (no n) = rw (get_or-set_other es e i x (record { subleaf = 0; choice = 0 }) n)
+              (f.sub_leaves i (omega arith), f.choices i (omega arith))
 
 -- ---- a table of a problem's pairs gives the problem's plan
 
-module _ (o : Outline) (firsts leaves : List Passing) (R : Problem ℕ) (P : PairsOf o.free o.height R o.extra firsts leaves) where
+module _ (o : Outline) (firsts leaves : List Passing) (R : Problem ℕ)
+    (P : PairsOf o.free o.height R o.extra firsts leaves) where
   leaf_is : (j : ℕ) → j < R.count → pair_leaf o firsts j ≡ leaf_for o.free o.height R j
-  leaf_is j l = ap (λ x. x / leaf_width o.free) (P.entries j l) ∙ digits_div (leaf_for o.free o.height R j) (le_trans (P.within j l) (width_enough o.free))
+  leaf_is j l = ap (λ x. x / leaf_width o.free) (P.entries j l)
+      ∙ digits_div (leaf_for o.free o.height R j) (le_trans (P.within j l) (width_enough o.free))
 
   choice_is : (j : ℕ) → j < R.count
-      → number_at firsts (slot_of o.extra j) % leaf_width o.free ≡ special_choice o.free o.height R j (leaf_for o.free o.height R j)
-  choice_is j l = ap (λ x. x % leaf_width o.free) (P.entries j l) ∙ digits_mod (leaf_for o.free o.height R j) (le_trans (P.within j l) (width_enough o.free))
+      → number_at firsts (slot_of o.extra j) % leaf_width o.free
+      ≡ special_choice o.free o.height R j (leaf_for o.free o.height R j)
+  choice_is j l = ap (λ x. x % leaf_width o.free) (P.entries j l)
+      ∙ digits_mod (leaf_for o.free o.height R j) (le_trans (P.within j l) (width_enough o.free))
 
   rank_is : (j : ℕ) → j < R.count → leaf_count o firsts j (pair_leaf o firsts j) ≡ rank_for o.free o.height R j
   rank_is j l =
-      count_ext j (λ i. eqb (pair_leaf o firsts i) (pair_leaf o firsts j)) (λ i. eqb (leaf_for o.free o.height R i) (leaf_for o.free o.height R j))
-      (λ i m. ap₂ eqb (leaf_is i (omega arith)) (leaf_is j l)) ∙ sym (rank_here o.free o.height R j (leaf_for o.free o.height R j) refl)
+      count_ext j (λ i. eqb (pair_leaf o firsts i) (pair_leaf o firsts j))
+      (λ i. eqb (leaf_for o.free o.height R i) (leaf_for o.free o.height R j))
+      (λ i m. ap₂ eqb (leaf_is i (omega arith)) (leaf_is j l))
+      ∙ sym (rank_here o.free o.height R j (leaf_for o.free o.height R j) refl)
 
   pub made : R.count ≡ o.extra + o.count → (plain : List ℕ) (entries : List Entry)
-      → ((b : ℕ) → b < 2 ^ o.height → get_or plain b 0 ≡ number_at leaves b) → Filled o firsts (o.extra + o.count) entries
+      → ((b : ℕ) → b < 2 ^ o.height → get_or plain b 0 ≡ number_at leaves b)
+      → Filled o firsts (o.extra + o.count) entries
       → Made o.free o.height R o.splits
-      (record { low = o.height; high = o.height + o.splits; plain = plain; count = o.extra + o.count; entries = entries })
+      (record {
+        low = o.height;
+        high = o.height + o.splits;
+        plain = plain;
+        count = o.extra + o.count;
+        entries =
+            entries;
+      })
   made e plain entries ps f =
       record {
         low = refl;
         high = refl;
         count = sym e;
         plains = λ b l. ps b l ∙ P.plains b l;
-        sub_leaves = λ j l. f.sub_leaves j (omega arith) ∙ ap₂ (λ x y. x * 2 ^ o.splits + y) (leaf_is j l) (rank_is j l);
+        sub_leaves = λ j l. f.sub_leaves j (omega arith)
+            ∙ ap₂ (λ x y. x * 2 ^ o.splits + y) (leaf_is j l) (rank_is j l);
         choices = λ j l. f.choices j (omega arith) ∙ choice_is j l;
       }

@@ -10,7 +10,8 @@ use Rattle.plans.specs.declared.Plan.{Plan}
 abbrev pub entry_at : List Entry → ℕ → Entry
 entry_at entries n = get_or entries n (record { subleaf = 0; choice = 0 })
 
--- a plan that can be shown with so many levels: the leaves are no taller than the height given, and every sub-leaf is there
+-- a plan that can be shown with so many levels: the leaves are no taller than the height given, and every sub-leaf is
+-- there
 pub record Showable (levels : ℕ) (plan : Plan) : Type 0 where
   pub below : plan.low ≤ plan.high
   pub within : plan.high ≤ levels
@@ -18,10 +19,12 @@ pub record Showable (levels : ℕ) (plan : Plan) : Type 0 where
   pub few : plan.count ≤ 32
   pub sub_leaves : (n : ℕ) → n < plan.count → (entry_at plan.entries n).subleaf < 2 ^ plan.high
 
--- the choice at sub-leaf s once the first n choices with one of their own stand: the last of them there, otherwise the leaf's own
+-- the choice at sub-leaf s once the first n choices with one of their own stand: the last of them there, otherwise the
+-- leaf's own
 unfoldable pub plan_choice_after : Plan → ℕ → ℕ → ℕ
 plan_choice_after plan zero s = get_or plan.plain (block_of plan.low plan.high s) 0
-plan_choice_after plan (suc n) s = cond (eqb s (entry_at plan.entries n).subleaf) (entry_at plan.entries n).choice (plan_choice_after plan n s)
+plan_choice_after plan (suc n) s =
+    cond (eqb s (entry_at plan.entries n).subleaf) (entry_at plan.entries n).choice (plan_choice_after plan n s)
 
 -- the choice at sub-leaf s of 2 ^ high
 abbrev pub plan_choice : Plan → ℕ → ℕ

@@ -23,7 +23,8 @@ use Rattle.leaves.specs.ChoiceLaws.{pick_number}
 use Rattle.plans.specs.NumberLaws.{plain_is, special_is}
 use Rattle.plans.specs.Pairs.{Made}
 
-module _ (n h : ℕ) (R : Problem ℕ) (k : ℕ) (plan : Plan) (M : Made n h R k plan) (room : R.count ≤ 2 ^ k) (s : ℕ) (s< : s < 2 ^ (h + k)) where
+module _ (n h : ℕ) (R : Problem ℕ) (k : ℕ) (plan : Plan) (M : Made n h R k plan) (room : R.count ≤ 2 ^ k) (s : ℕ)
+    (s< : s < 2 ^ (h + k)) where
   b : ℕ
   b = s / 2 ^ k
 
@@ -48,15 +49,18 @@ module _ (n h : ℕ) (R : Problem ℕ) (k : ℕ) (plan : Plan) (M : Made n h R k
       (sym (ap₂ (held_at (least n) h (numbered n R)) e₁ e₂ ∙ at_rank (least n) h (numbered n R) j l), sym e₁)
 
   -- the plan once its first m entries stand
-  after : (m : ℕ) → m ≤ R.count → plan_choice_after plan m s ≡ cond (ltb g m) (special_choice n h R g b) (plain_choice n h R b)
+  after : (m : ℕ) → m ≤ R.count
+      → plan_choice_after plan m s ≡ cond (ltb g m) (special_choice n h R g b) (plain_choice n h R b)
   unfolding plan_choice_after b r
   after zero l =
       rw (le-ltb g 0 (omega arith))
-      (ap₂ (λ x y. get_or plan.plain (block_of x y s) 0) M.low M.high ∙ ap (λ x. get_or plan.plain x 0) (block_split h k s)
+      (ap₂ (λ x y. get_or plan.plain (block_of x y s) 0) M.low M.high
+      ∙ ap (λ x. get_or plan.plain x 0) (block_split h k s)
       ∙ M.plains (s / 2 ^ k) (shr_lt h k s<))
   after (suc m) l = go (ℕ_discrete s (entry_at plan.entries m).subleaf) (after m (omega arith))
     where
-      go : Dec (s ≡ (entry_at plan.entries m).subleaf) → plan_choice_after plan m s ≡ cond (ltb g m) (special_choice n h R g b) (plain_choice n h R b)
+      go : Dec (s ≡ (entry_at plan.entries m).subleaf)
+          → plan_choice_after plan m s ≡ cond (ltb g m) (special_choice n h R g b) (plain_choice n h R b)
           → cond (eqb s (entry_at plan.entries m).subleaf) (entry_at plan.entries m).choice (plan_choice_after plan m s)
           ≡ cond (ltb g (suc m)) (special_choice n h R g b) (plain_choice n h R b)
       go (yes e) ih =
@@ -68,28 +72,36 @@ module _ (n h : ℕ) (R : Problem ℕ) (k : ℕ) (plan : Plan) (M : Made n h R k
           not_m : g ≡ m → ⊥
           not_m q =
               let (at, rank) = at_there (omega arith) in
-              e (sym (split s k) ∙ ap₂ (λ x y. x * 2 ^ k + y) (sym at) (sym rank) ∙ ap (λ j. leaf_for n h R j * 2 ^ k + rank_for n h R j) q ∙ sym (M.sub_leaves m l))
+              e (sym (split s k) ∙ ap₂ (λ x y. x * 2 ^ k + y) (sym at) (sym rank)
+              ∙ ap (λ j. leaf_for n h R j * 2 ^ k + rank_for n h R j) q ∙ sym (M.sub_leaves m l))
 
-          other : Dec (g < m) → cond (eqb s (entry_at plan.entries m).subleaf) (entry_at plan.entries m).choice (plan_choice_after plan m s)
+          other : Dec (g < m) → cond (eqb s (entry_at plan.entries m).subleaf) (entry_at plan.entries m).choice
+              (plan_choice_after plan m s)
               ≡ cond (ltb g (suc m)) (special_choice n h R g b) (plain_choice n h R b)
-          other (yes u) = rw (ne_eqb s (entry_at plan.entries m).subleaf e, lt-ltb g (suc m) (omega arith)) (ih ∙ rw (lt-ltb g m u))
-          other (no u) = rw (ne_eqb s (entry_at plan.entries m).subleaf e, le-ltb g (suc m) (omega (arith, not_m))) (ih ∙ rw (le-ltb g m (omega arith)))
+          other (yes u) = rw (ne_eqb s (entry_at plan.entries m).subleaf e, lt-ltb g (suc m) (omega arith)) (ih
+              ∙ rw (lt-ltb g m u))
+          other (no u) = rw (ne_eqb s (entry_at plan.entries m).subleaf e, le-ltb g (suc m) (omega (arith, not_m))) (ih
+              ∙ rw (le-ltb g m (omega arith)))
 
-  pub plan_shows : T (solvable (least n) h (numbered n R)) → plan_choice plan s ≡ value (fixed_at (least n) h (numbered n R) (h + k) s)
+  pub plan_shows : T (solvable (least n) h (numbered n R))
+      → plan_choice plan s ≡ value (fixed_at (least n) h (numbered n R) (h + k) s)
   unfolding carried_at b r g
   plan_shows t =
-      ap (λ m. plan_choice_after plan m s) M.count ∙ after R.count (omega arith) ∙ go (dec_lt g R.count) ∙ ap value (sym (fixed_split (least n) h (numbered n R) k s))
+      ap (λ m. plan_choice_after plan m s) M.count ∙ after R.count (omega arith) ∙ go (dec_lt g R.count)
+      ∙ ap value (sym (fixed_split (least n) h (numbered n R) k s))
     where
       bl : b < 2 ^ h
       bl = shr_lt h k s<
 
       go : Dec (g < R.count) → cond (ltb g R.count) (special_choice n h R g b) (plain_choice n h R b)
-          ≡ value (cond (ltb g R.count) ((least n).pick (λ v. R.pos b (value v) && R.dis g b (value v))) ((least n).pick (λ v. R.pos b (value v))))
+          ≡ value (cond (ltb g R.count) ((least n).pick (λ v. R.pos b (value v) && R.dis g b (value v)))
+          ((least n).pick (λ v. R.pos b (value v))))
       go (yes l) =
           let (at, rank) = at_there l in
           let u : T (some_below (2 ^ n) (λ x. R.pos b x && R.dis g b x)) =
           rw (special_is n h R g b) at (rw at at (leaf_passes (least n) h (numbered n R) t g l).1) in
           rw (lt-ltb g R.count l) (sym (pick_number n (λ x. R.pos b x && R.dis g b x) u))
       go (no l) =
-          let u : T (some_below (2 ^ n) (R.pos b)) = rw (plain_is n h R b) at (plain_passes (least n) h (numbered n R) t b bl) in
+          let u : T (some_below (2 ^ n) (R.pos b)) =
+          rw (plain_is n h R b) at (plain_passes (least n) h (numbered n R) t b bl) in
           rw (le-ltb g R.count (omega arith)) (sym (pick_number n (R.pos b) u))

@@ -1,4 +1,5 @@
-// The plan of a solution that was found: which choice stands at each leaf, and at which sub-leaf each disequation stands with its own.
+// The plan of a solution that was found: which choice stands at each leaf, and at which sub-leaf each disequation
+// stands with its own.
 #![tactic(auto)]
 
 ghost use Rattle.std.specs.Prelude.{◌≡◌, ℕ, ◌+◌, ◌-◌, ◌*◌, ◌/◌, ◌%◌, ◌^◌, ◌<◌, ◌≤◌, length, get_or, set};
@@ -19,7 +20,8 @@ pub struct Entry {
     pub choice: u16,
 }
 
-// Which choice of values stands at each sub-leaf of a shown solution. The value of a variable is one binary digit of a choice.
+// Which choice of values stands at each sub-leaf of a shown solution. The value of a variable is one binary digit of a
+// choice.
 #[derive(Clone, Copy)]
 pub struct Plan {
     // the height of the leaves
@@ -34,8 +36,8 @@ pub struct Plan {
     pub entries: [Entry; 32],
 }
 
-// What is to be planned: a solution of n free variables at 2^height leaves, each of which is split `splits` times, with so many extra disequations
-// before the first system's.
+// What is to be planned: a solution of n free variables at 2^height leaves, each of which is split `splits` times, with
+// so many extra disequations before the first system's.
 #[derive(Clone, Copy)]
 pub struct Outline {
     pub free: usize,
@@ -113,7 +115,8 @@ fn take_rank(taken: &mut [u8; 64], leaf: usize) -> usize
 // The least choice of leaf b: that of the leaf before it, if it has the same word.
 fn plain_at(leaves: &[Passing; LEAF_WORDS], b: usize, free: usize, plain: &[u16; 64]) -> u16
     requires b_bound { (b < 64) × (free ≤ 12) }
-    requires b_bound_2 { (number_at leaves.now b < 2 ^ free) × (0 < b → get_or plain.now (b - 1) 0 ≡ number_at leaves.now (b - 1)) }
+    requires b_bound_2 { (number_at leaves.now b < 2 ^ free)
+        × (0 < b → get_or plain.now (b - 1) 0 ≡ number_at leaves.now (b - 1)) }
     ensures { result ≡ number_at leaves.now b }
 {
     let kept = leaves[b];
@@ -157,7 +160,9 @@ pub fn plan_of(
     outline: Outline,
 ) -> Plan
     requires { Fitting outline firsts.now × LeavesFit outline leaves.now }
-    ensures { (R : Problem ℕ) → R.count ≡ outline.extra + outline.count → PairsOf outline.free outline.height R outline.extra firsts.now leaves.now → Made outline.free outline.height R outline.splits result }
+    ensures { (R : Problem ℕ) → R.count ≡ outline.extra + outline.count
+        → PairsOf outline.free outline.height R outline.extra firsts.now leaves.now
+        → Made outline.free outline.height R outline.splits result }
 {
     let mut plain = [0u16; 64];
     let mut entries = [Entry {

@@ -1,7 +1,8 @@
 // A clause that has no fault is kept, in its section, and with it which constants it names.
 ghost use Rattle.std.specs.Prelude.{◌≡◌, ◌+◌, ◌≤◌, length};
 ghost use Rattle.format.specs.Stored.{clause_bytes, clause_written};
-ghost use Rattle.format.specs.Keeping.{kept_clauses, constants_in, kept_names, PartsSmall, SmallIn, clause_counts, Slot};
+ghost use Rattle.format.specs.Keeping.{kept_clauses, constants_in, kept_names, PartsSmall, SmallIn, clause_counts};
+ghost use Rattle.format.specs.Keeping.{Slot};
 
 use commands::table;
 use faults::sections;

@@ -7,7 +7,8 @@ ghost use Rattle.std.specs.Prelude.{◌≡◌, true, ◌≤◌, length, IfOk};
 ghost use Rattle.systems.specs.Questions.{Question as Asked};
 ghost use Rattle.format.specs.Format.{most_constants, accepted, head_fits, opened, run, read};
 ghost use Rattle.format.specs.Numbers.{kind_value};
-ghost use Rattle.format.specs.Stored.{clause_bytes, stored_of, Stands, reading_of, reading_told, written_by, clauses_after, place_of, leading};
+ghost use Rattle.format.specs.Stored.{clause_bytes, stored_of, Stands, reading_of, reading_told, written_by};
+ghost use Rattle.format.specs.Stored.{clauses_after, place_of, leading};
 ghost use Rattle.format.specs.Keeping.{lead_into};
 
 use basics::CLAUSE_BYTES;
@@ -22,7 +23,8 @@ const MOST_CONSTANTS: usize = 32;
 #[tactic(auto, using(format::proofs::LeadLaws::led_full, format::proofs::LeadLaws::led_end))]
 fn read_constants(bytes: &[u8], constants: &mut [u64]) -> usize
     requires { (4 ≤ length bytes.now) × (length constants.old ≡ most_constants) }
-    ensures value { (result ≡ leading most_constants bytes.now 0) × (constants.new ≡ lead_into most_constants bytes.now 0 constants.old) }
+    ensures value { (result ≡ leading most_constants bytes.now 0)
+        × (constants.new ≡ lead_into most_constants bytes.now 0 constants.old) }
     ensures upper_bound { (result ≤ most_constants) × (place_of result ≤ length bytes.now) }
 {
     let mut at: usize = 4;
@@ -41,9 +43,13 @@ fn read_commands(bytes: &[u8], head: Head, clauses: &mut [u8]) -> Result<Questio
     requires in_bounds { 4 ≤ length bytes.now }
     requires own_value { head_fits (kind_value head.kind) head.free head.own ≡ true }
     requires clauses_len { length clauses.old ≡ clause_bytes }
-    ensures answer { reading_told result ≡ reading_of (run (length bytes.now) bytes.now 4 (opened (kind_value head.kind) head.free head.own)) }
-    ensures clauses { clauses.new ≡ written_by (length bytes.now) bytes.now 4 (opened (kind_value head.kind) head.free head.own) clauses.old }
-    ensures stands { IfOk result (λ x. (q : Asked) → run (length bytes.now) bytes.now 4 (opened (kind_value head.kind) head.free head.own) ≡ accepted q → Stands (kind_value x.kind) (stored_of x clauses.new) q) }
+    ensures answer { reading_told result
+        ≡ reading_of (run (length bytes.now) bytes.now 4 (opened (kind_value head.kind) head.free head.own)) }
+    ensures clauses { clauses.new
+        ≡ written_by (length bytes.now) bytes.now 4 (opened (kind_value head.kind) head.free head.own) clauses.old }
+    ensures stands { IfOk result (λ x. (q : Asked)
+        → run (length bytes.now) bytes.now 4 (opened (kind_value head.kind) head.free head.own) ≡ accepted q
+        → Stands (kind_value x.kind) (stored_of x clauses.new) q) }
     ensures first { IfOk result (λ x. x.defined ≡ leading most_constants bytes.now 0) }
 {
     let mut constants = [0u64; 32];
@@ -86,7 +92,8 @@ fn read_commands(bytes: &[u8], head: Head, clauses: &mut [u8]) -> Result<Questio
 pub fn read(bytes: &[u8], clauses: &mut [u8; CLAUSE_BYTES]) -> Result<Question, Refused>
     ensures answer { reading_told result ≡ reading_of (read bytes.now) }
     ensures clauses { clauses.new ≡ clauses_after bytes.now clauses.old }
-    ensures stands { IfOk result (λ x. (q : Asked) → read bytes.now ≡ accepted q → Stands (kind_value x.kind) (stored_of x clauses.new) q) }
+    ensures stands { IfOk result (λ x. (q : Asked) → read bytes.now ≡ accepted q
+        → Stands (kind_value x.kind) (stored_of x clauses.new) q) }
     ensures first { IfOk result (λ x. x.defined ≡ leading most_constants bytes.now 0) }
 {
     match opening::read_head(bytes) {

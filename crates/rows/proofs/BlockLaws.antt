@@ -1,7 +1,10 @@
 -- Laws of blocks, for every height: which bytes and bits they are, and their trees. Assumes nothing.
 use Rattle.std.specs.Prelude.{◌≡◌, Bool, ◌&&◌, List, ◌++◌, ◌↔◌, T, eqb, ltb, length, get_or, set, take, drop, replicate}
 use Rattle.std.proofs.Math.Path.{refl, sym, ap}
-use Rattle.std.proofs.Common.{ap₂, ◌∙◌, subst, add-sub_of_le, mul-add, add-mul, mul_assoc, mul_comm, length-drop, one-mul, two-mul, div-lt_iff_lt-mul, eq-eqb, ne_eqb, lt-ltb, le-ltb, lit<, pow_pos, pow-add, pow_mono, shr-shr, length-take-le, get_or-append-add, get_or-set_same, get_or-set_other, get_or-take, get_or-drop}
+use Rattle.std.proofs.Common.{ap₂, ◌∙◌, subst, add-sub_of_le, mul-add, add-mul, mul_assoc, mul_comm, length-drop}
+use Rattle.std.proofs.Common.{one-mul, two-mul, div-lt_iff_lt-mul, eq-eqb, ne_eqb, lt-ltb, le-ltb, lit<, pow_pos}
+use Rattle.std.proofs.Common.{pow-add, pow_mono, shr-shr, length-take-le, get_or-append-add, get_or-set_same}
+use Rattle.std.proofs.Common.{get_or-set_other, get_or-take, get_or-drop}
 use Rattle.std.proofs.Math.Bool.{true, false, cond}
 use Prim.Native.Nat.{ℕ, zero, suc, ◌+◌, ◌-◌, ◌*◌, ◌/◌, ◌%◌, ◌^◌, ◌≤◌, ◌<◌, zero-le}
 use Rattle.std.proofs.Math.Nat.{two-pow-succ, mod-lt, lt-div-mul-add}
@@ -48,7 +51,8 @@ module _ (h : ℕ) (low : h ≤ 3) where
   in_byte_iff : (q i : ℕ) → (i / 2 ^ h ≡ q) ↔ ((i / 8 ≡ q / 2 ^ (3 - h)) × (i % 8 / 2 ^ h ≡ q % 2 ^ (3 - h)))
   in_byte_iff q i = (
     λ e. (sym (byte_of i) ∙ ap (λ (x : ℕ). x / 2 ^ (3 - h)) e, sym (bits_of i) ∙ ap (λ (x : ℕ). x % 2 ^ (3 - h)) e),
-    λ e. sym (split (i / 2 ^ h) (3 - h)) ∙ ap₂ (λ (x y : ℕ). x * 2 ^ (3 - h) + y) (byte_of i ∙ e.0) (bits_of i ∙ e.1) ∙ split q (3 - h),
+    λ e. sym (split (i / 2 ^ h) (3 - h)) ∙ ap₂ (λ (x y : ℕ). x * 2 ^ (3 - h) + y) (byte_of i ∙ e.0) (bits_of i ∙ e.1)
+        ∙ split q (3 - h),
   )
 
   module _ (row : List ℕ) (q : ℕ) where
@@ -57,7 +61,8 @@ module _ (h : ℕ) (low : h ≤ 3) where
 
     -- its leaves are set where those of the byte are
     pub set_byte : (b : ℕ) (v : Bool) → q / 2 ^ (3 - h) < length row
-        → ((r : ℕ) → r < 8 → bit b r ≡ cond (eqb (r / 2 ^ h) (q % 2 ^ (3 - h))) v (bit (get_or row (q / 2 ^ (3 - h)) 0) r))
+        → ((r : ℕ) → r < 8 → bit b r
+        ≡ cond (eqb (r / 2 ^ h) (q % 2 ^ (3 - h))) v (bit (get_or row (q / 2 ^ (3 - h)) 0) r))
         → BlockSet row (set row (q / 2 ^ (3 - h)) b) h q v
     unfolding row_leaf
     set_byte b v inside given i = pick (ℕ_discrete (i / 8) j) (ℕ_discrete (i / 2 ^ h) q)
@@ -66,26 +71,37 @@ module _ (h : ℕ) (low : h ≤ 3) where
         j = q / 2 ^ (3 - h)
 
         Goal : Type 0
-        Goal = bit (get_or (set row j b) (i / 8) 0) (i % 8) ≡ cond (eqb (i / 2 ^ h) q) v (bit (get_or row (i / 8) 0) (i % 8))
+        Goal = bit (get_or (set row j b) (i / 8) 0) (i % 8)
+            ≡ cond (eqb (i / 2 ^ h) q) v (bit (get_or row (i / 8) 0) (i % 8))
 
-        same : i / 8 ≡ j → bit (get_or (set row j b) (i / 8) 0) (i % 8) ≡ cond (eqb (i % 8 / 2 ^ h) (q % 2 ^ (3 - h))) v (bit (get_or row (i / 8) 0) (i % 8))
+        same : i / 8 ≡ j → bit (get_or (set row j b) (i / 8) 0) (i % 8)
+            ≡ cond (eqb (i % 8 / 2 ^ h) (q % 2 ^ (3 - h))) v (bit (get_or row (i / 8) 0) (i % 8))
         same e = rw e (ap (λ n. bit n (i % 8)) (get_or-set_same row j b 0 inside) ∙ given (i % 8) (omega arith))
 
         pick : Dec (i / 8 ≡ j) → Dec (i / 2 ^ h ≡ q) → Goal
-        pick (yes e) (yes p) = same e ∙ rw (eq-eqb (i / 2 ^ h) q p, eq-eqb (i % 8 / 2 ^ h) (q % 2 ^ (3 - h)) ((in_byte_iff q i).0 p).1)
-        pick (yes e) (no n) = same e ∙ rw (ne_eqb (i / 2 ^ h) q n, ne_eqb (i % 8 / 2 ^ h) (q % 2 ^ (3 - h)) (λ p. n ((in_byte_iff q i).1 (e, p))))
+        pick (yes e) (yes p) = same e
+            ∙ rw (eq-eqb (i / 2 ^ h) q p, eq-eqb (i % 8 / 2 ^ h) (q % 2 ^ (3 - h)) ((in_byte_iff q i).0 p).1)
+        pick (yes e) (no n) = same e
+            ∙ rw (
+              ne_eqb (i / 2 ^ h) q n,
+              ne_eqb (i % 8 / 2 ^ h) (q % 2 ^ (3 - h)) (λ p. n ((in_byte_iff q i).1 (e, p))),
+            )
         pick (no n) (yes p) = absurd (n ((in_byte_iff q i).0 p).0)
-        pick (no n) (no m) = rw (ne_eqb (i / 2 ^ h) q m) (ap (λ x. bit x (i % 8)) (get_or-set_other row j (i / 8) b 0 n))
+        pick (no n) (no m) = rw (ne_eqb (i / 2 ^ h) q m)
+            (ap (λ x. bit x (i % 8)) (get_or-set_other row j (i / 8) b 0 n))
 
     -- they are all v where those of the byte are
     pub byte_constant : (v : Bool)
-        → ((r : ℕ) → r < 8 → r / 2 ^ h ≡ q % 2 ^ (3 - h) → bit (get_or row (q / 2 ^ (3 - h)) 0) r ≡ v) ↔ AllLeaves row h q v
+        → ((r : ℕ) → r < 8 → r / 2 ^ h ≡ q % 2 ^ (3 - h) → bit (get_or row (q / 2 ^ (3 - h)) 0) r ≡ v) ↔ AllLeaves row h
+        q v
     unfolding row_leaf
     byte_constant v = (
-      λ f i e. let (a, b) = (in_byte_iff q i).0 e in ap (λ (x : ℕ). bit (get_or row x 0) (i % 8)) a ∙ f (i % 8) (omega arith) b,
+      λ f i e. let (a, b) = (in_byte_iff q i).0 e in ap (λ (x : ℕ). bit (get_or row x 0) (i % 8)) a
+          ∙ f (i % 8) (omega arith) b,
       λ g r l e. let j = q / 2 ^ (3 - h) in
           let there : (8 * j + r) % 8 ≡ r = omega arith in
-          sym (leaf_byte row j r l) ∙ g (8 * j + r) ((in_byte_iff q (8 * j + r)).1 (omega arith, ap (λ (x : ℕ). x / 2 ^ h) there ∙ e)),
+          sym (leaf_byte row j r l) ∙ g (8 * j + r)
+          ((in_byte_iff q (8 * j + r)).1 (omega arith, ap (λ (x : ℕ). x / 2 ^ h) there ∙ e)),
     )
 
 -- ---- a block of whole bytes: block q is the bytes q * 2 ^ (h - 3) to q * 2 ^ (h - 3) + 2 ^ (h - 3) - 1
@@ -125,11 +141,13 @@ filled_at l s q b pos fits j = pick (dec_lt j (q * s)) (dec_lt j (q * s + s))
         let e : q * s + r ≡ j = omega arith in
         let small : r < s = omega arith in
         rw (eq-eqb (j / s) q (ap (λ (x : ℕ). x / s) (sym e) ∙ digits_div q small))
-        (ap (λ (x : ℕ). get_or whole x 0) (sym e) ∙ past r ∙ get_or-append (replicate s b) _ 0 r (rw (length-replicate s b) small) ∙ get_or-replicate s r b 0 small)
+        (ap (λ (x : ℕ). get_or whole x 0) (sym e) ∙ past r
+        ∙ get_or-append (replicate s b) _ 0 r (rw (length-replicate s b) small) ∙ get_or-replicate s r b 0 small)
     pick (no n) (no m) =
         let r = j - (q * s + s) in
         let e : q * s + (s + r) ≡ j = omega arith in
-        let other : j / s ≡ q → ⊥ = λ p. let t : j < j / s * s + s = lt-div-mul-add pos in m (subst (λ (x : ℕ). j < x * s + s) p t) in
+        let other : j / s ≡ q → ⊥ = λ p. let t : j < j / s * s + s =
+        lt-div-mul-add pos in m (subst (λ (x : ℕ). j < x * s + s) p t) in
         rw (ne_eqb (j / s) q other)
         (ap (λ (x : ℕ). get_or whole x 0) (sym e) ∙ past (s + r)
         ∙ ap (λ (n : ℕ). get_or rest (n + r) 0) (sym (length-replicate s b)) ∙ get_or-append-add (replicate s b) _ r 0
@@ -147,28 +165,35 @@ module _ (h : ℕ) (high : 3 ≤ h) where
         omega (arith, eight h high)
 
     pub set_bytes : (b : ℕ) (v : Bool) → b ≡ whole_byte v
-        → BlockSet row (take (q * 2 ^ (h - 3)) row ++ (replicate (2 ^ (h - 3)) b ++ drop (2 ^ (h - 3)) (drop (q * 2 ^ (h - 3)) row))) h q v
+        → BlockSet row (take (q * 2 ^ (h - 3)) row
+        ++ (replicate (2 ^ (h - 3)) b ++ drop (2 ^ (h - 3)) (drop (q * 2 ^ (h - 3)) row))) h q v
     unfolding row_leaf
     set_bytes b v e i =
-        ap (λ (x : ℕ). bit x (i % 8)) (filled_at row (2 ^ (h - 3)) q b (pow_pos (h - 3)) bytes_inside (i / 8) ∙ rw (of_bytes i, e))
+        ap (λ (x : ℕ). bit x (i % 8)) (filled_at row (2 ^ (h - 3)) q b (pow_pos (h - 3)) bytes_inside (i / 8)
+        ∙ rw (of_bytes i, e))
         ∙ go (eqb (i / 2 ^ h) q)
       where
-        go : (t : Bool) → bit (cond t (whole_byte v) (get_or row (i / 8) 0)) (i % 8) ≡ cond t v (bit (get_or row (i / 8) 0) (i % 8))
+        go : (t : Bool) → bit (cond t (whole_byte v) (get_or row (i / 8) 0)) (i % 8)
+            ≡ cond t v (bit (get_or row (i / 8) 0) (i % 8))
         go true = whole_bit v (i % 8) (omega arith)
         go false = refl
 
-    part_at_lem : (r : ℕ) → r < 2 ^ (h - 3) → get_or (take (2 ^ (h - 3)) (drop (q * 2 ^ (h - 3)) row)) r 0 ≡ get_or row (q * 2 ^ (h - 3) + r) 0
-    part_at_lem r l = get_or-take (2 ^ (h - 3)) (drop (q * 2 ^ (h - 3)) row) r 0 l ∙ get_or-drop (q * 2 ^ (h - 3)) row r 0
+    part_at_lem : (r : ℕ) → r < 2 ^ (h - 3) → get_or (take (2 ^ (h - 3)) (drop (q * 2 ^ (h - 3)) row)) r 0
+        ≡ get_or row (q * 2 ^ (h - 3) + r) 0
+    part_at_lem r l = get_or-take (2 ^ (h - 3)) (drop (q * 2 ^ (h - 3)) row) r 0 l
+        ∙ get_or-drop (q * 2 ^ (h - 3)) row r 0
 
     pub bytes_constant : (v : Bool) → ((j : ℕ) → get_or row j 0 < 256)
-        → ((r : ℕ) → r < 2 ^ (h - 3) → get_or (take (2 ^ (h - 3)) (drop (q * 2 ^ (h - 3)) row)) r 0 ≡ whole_byte v) ↔ AllLeaves row h q v
+        → ((r : ℕ) → r < 2 ^ (h - 3) → get_or (take (2 ^ (h - 3)) (drop (q * 2 ^ (h - 3)) row)) r 0 ≡ whole_byte v) ↔
+        AllLeaves row h q v
     unfolding row_leaf
     bytes_constant v byte = (
       λ f i e. let r = i / 8 % 2 ^ (h - 3) in
           let small : r < 2 ^ (h - 3) = mod-lt (i / 8) (pow_pos (h - 3)) in
           let there : i / 8 ≡ q * 2 ^ (h - 3) + r =
           sym (split (i / 8) (h - 3)) ∙ ap (λ (x : ℕ). x * 2 ^ (h - 3) + r) (of_bytes i ∙ e) in
-          ap (λ (x : ℕ). bit (get_or row x 0) (i % 8)) there ∙ ap (λ (x : ℕ). bit x (i % 8)) (sym (part_at_lem r small) ∙ f r small)
+          ap (λ (x : ℕ). bit (get_or row x 0) (i % 8)) there
+          ∙ ap (λ (x : ℕ). bit x (i % 8)) (sym (part_at_lem r small) ∙ f r small)
           ∙ whole_bit v (i % 8) (omega arith),
       λ g r l. let j = q * 2 ^ (h - 3) + r in
           part_at_lem r l
@@ -180,17 +205,20 @@ module _ (h : ℕ) (high : 3 ≤ h) where
     )
 
     -- the leaves of its bytes are those of the block
-    part_leaf : (i : ℕ) → i < 2 ^ h → row_leaf (take (2 ^ (h - 3)) (drop (q * 2 ^ (h - 3)) row)) i ≡ row_leaf row (q * 2 ^ h + i)
+    part_leaf : (i : ℕ) → i < 2 ^ h → row_leaf (take (2 ^ (h - 3)) (drop (q * 2 ^ (h - 3)) row)) i
+        ≡ row_leaf row (q * 2 ^ h + i)
     unfolding row_leaf
     part_leaf i l =
         let s = 2 ^ (h - 3) in
         let start : q * 2 ^ h ≡ 8 * (q * s) =
         ap (λ (n : ℕ). q * n) (eight h high) ∙ sym (mul_assoc q s 8) ∙ mul_comm (q * s) 8 in
-        ap (λ x. bit x (i % 8)) (get_or-take s (drop (q * s) row) (i / 8) 0 (omega (arith, eight h high)) ∙ get_or-drop (q * s) row (i / 8) 0)
+        ap (λ x. bit x (i % 8)) (get_or-take s (drop (q * s) row) (i / 8) 0 (omega (arith, eight h high))
+        ∙ get_or-drop (q * s) row (i / 8) 0)
         ∙ ap₂ (λ x r. bit (get_or row x 0) r) (omega arith) (omega arith)
 
     pub leaves_constant : (v : Bool)
-        → ((i : ℕ) → i < 8 * length (take (2 ^ (h - 3)) (drop (q * 2 ^ (h - 3)) row)) → row_leaf (take (2 ^ (h - 3)) (drop (q * 2 ^ (h - 3)) row)) i ≡ v) ↔ AllLeaves row h q v
+        → ((i : ℕ) → i < 8 * length (take (2 ^ (h - 3)) (drop (q * 2 ^ (h - 3)) row))
+        → row_leaf (take (2 ^ (h - 3)) (drop (q * 2 ^ (h - 3)) row)) i ≡ v) ↔ AllLeaves row h q v
     leaves_constant v = (
       λ f i e. let r = i % 2 ^ h in
           let small : r < 2 ^ h = mod-lt i (pow_pos h) in
@@ -201,22 +229,26 @@ module _ (h : ℕ) (high : 3 ≤ h) where
     )
       where
         size : length (take (2 ^ (h - 3)) (drop (q * 2 ^ (h - 3)) row)) ≡ 2 ^ (h - 3)
-        size = length-take-le (2 ^ (h - 3)) (drop (q * 2 ^ (h - 3)) row) (omega (arith, length-drop (q * 2 ^ (h - 3)) row, bytes_inside))
+        size = length-take-le (2 ^ (h - 3)) (drop (q * 2 ^ (h - 3)) row)
+            (omega (arith, length-drop (q * 2 ^ (h - 3)) row, bytes_inside))
 
 -- bytes are all the same whole byte exactly if their leaves are all the same
 module _ (part : List ℕ) (v : Bool) (byte : (j : ℕ) → get_or part j 0 < 256) where
-  pub whole_leaves : ((j : ℕ) → j < length part → get_or part j 0 ≡ whole_byte v) → (i : ℕ) → i < 8 * length part → row_leaf part i ≡ v
+  pub whole_leaves : ((j : ℕ) → j < length part → get_or part j 0 ≡ whole_byte v) → (i : ℕ) → i < 8 * length part
+      → row_leaf part i ≡ v
   unfolding row_leaf
   whole_leaves f i l = ap (λ (x : ℕ). bit x (i % 8)) (f (i / 8) (omega arith)) ∙ whole_bit v (i % 8) (omega arith)
 
-  pub leaves_whole : ((i : ℕ) → i < 8 * length part → row_leaf part i ≡ v) → (j : ℕ) → j < length part → get_or part j 0 ≡ whole_byte v
+  pub leaves_whole : ((i : ℕ) → i < 8 * length part → row_leaf part i ≡ v) → (j : ℕ) → j < length part
+      → get_or part j 0 ≡ whole_byte v
   leaves_whole g j l =
       bits_same 8 (get_or part j 0) (whole_byte v) (byte j) (whole_lt v)
       (λ p u. sym (leaf_byte part j p u) ∙ g (8 * j + p) (omega arith) ∙ sym (whole_bit v p u))
 
   -- as the walk over the bytes tells
   pub filled_test : (b : ℕ) → b ≡ whole_byte v → (r : Bool)
-      → MatchBool r (AllWithin (λ x. x ≡ b) part 0 (length part)) ((k : ℕ) × (k < length part) × HoldsAt (λ x. x ≡ b → ⊥) part k)
+      → MatchBool r (AllWithin (λ x. x ≡ b) part 0 (length part)) ((k : ℕ) × (k < length part)
+      × HoldsAt (λ x. x ≡ b → ⊥) part k)
       → T r ↔ ((i : ℕ) → i < 8 * length part → row_leaf part i ≡ v)
   filled_test b e true all = (λ _. whole_leaves (λ j l. all j 0 zero-le l ∙ e), λ _. tt)
   filled_test b e false (k, l, other) = (λ t. absurd t, λ g. absurd (other 0 (leaves_whole g k l ∙ sym e)))
@@ -237,7 +269,8 @@ right_first : (h q : ℕ) → (2 * q + 1) * 2 ^ h ≡ q * 2 ^ suc h + 2 ^ h
 right_first h q = add-mul (2 * q) 1 (2 ^ h) ∙ ap₂ ◌+◌ (left_first h q) (one-mul (2 ^ h))
 
 -- they lie within the row where it does
-pub halves_inside : (h q bytes : ℕ) → 0 < h → Inside h q bytes → Inside (h - 1) (2 * q) bytes × Inside (h - 1) (2 * q + 1) bytes
+pub halves_inside : (h q bytes : ℕ) → 0 < h → Inside h q bytes → Inside (h - 1) (2 * q) bytes
+    × Inside (h - 1) (2 * q + 1) bytes
 halves_inside zero q bytes l inside = absurd (omega arith)
 halves_inside (suc h) q bytes l inside =
     let e : suc h - 1 ≡ h = omega arith in
@@ -248,7 +281,8 @@ halves_inside (suc h) q bytes l inside =
     )
 
 -- it is its halves, folded
-block_halves : (row : List ℕ) (h q : ℕ) → block_tree row (suc h) q ≡ fold (block_tree row h (2 * q)) (block_tree row h (2 * q + 1))
+block_halves : (row : List ℕ) (h q : ℕ)
+    → block_tree row (suc h) q ≡ fold (block_tree row h (2 * q)) (block_tree row h (2 * q + 1))
 unfolding block_tree tree_of
 block_halves row h q =
     ap₂ fold
@@ -263,7 +297,8 @@ block_leaf_iff row h q v = (
   λ e i p. let r = i % 2 ^ h in
       let small : r < 2 ^ h = mod-lt i (pow_pos h) in
       ap (row_leaf row) (sym (split i h) ∙ ap (λ (x : ℕ). x * 2 ^ h + r) p)
-      ∙ sym (leaf_at_tree_of h (λ i. row_leaf row (q * 2 ^ h + i)) r small) ∙ ap (λ t. leaf_at h t r) e ∙ leaf_at_leaf h v r,
+      ∙ sym (leaf_at_tree_of h (λ i. row_leaf row (q * 2 ^ h + i)) r small) ∙ ap (λ t. leaf_at h t r) e
+      ∙ leaf_at_leaf h v r,
 )
 
 fold_pair : (l r : Tree) → ((v : Bool) → fold l r ≡ leaf v → ⊥) → fold l r ≡ pair l r
@@ -304,13 +339,16 @@ module _ (h : ℕ) (f : ℕ → Bool) where
   blocks_next k row first i e = first i ∙ rw (le-ltb (i / 2 ^ h) k (omega arith))
 
   -- one more
-  pub blocks_more : (k : ℕ) (v : Bool) (row after : List ℕ) → FirstBlocks row h k f → BlockSet row after h k v → v ≡ f k → FirstBlocks after h (k + 1) f
+  pub blocks_more : (k : ℕ) (v : Bool) (row after : List ℕ) → FirstBlocks row h k f → BlockSet row after h k v → v ≡ f k
+      → FirstBlocks after h (k + 1) f
   blocks_more k v row after first step e i = step i ∙ pick (ℕ_discrete (i / 2 ^ h) k)
     where
-      pick : Dec (i / 2 ^ h ≡ k) → cond (eqb (i / 2 ^ h) k) v (row_leaf row i) ≡ (ltb (i / 2 ^ h) (k + 1) && f (i / 2 ^ h))
+      pick : Dec (i / 2 ^ h ≡ k) → cond (eqb (i / 2 ^ h) k) v (row_leaf row i)
+          ≡ (ltb (i / 2 ^ h) (k + 1) && f (i / 2 ^ h))
       pick (yes p) = rw (eq-eqb (i / 2 ^ h) k p, lt-ltb (i / 2 ^ h) (k + 1) (omega arith)) (e ∙ ap f (sym p))
       pick (no n) = rw (ne_eqb (i / 2 ^ h) k n, ← ltb_next (i / 2 ^ h) k n) (first i)
 
   -- the leaves of those blocks
-  pub blocks_all : (k : ℕ) (row : List ℕ) → FirstBlocks row h k f → (i : ℕ) → i / 2 ^ h < k → row_leaf row i ≡ f (i / 2 ^ h)
+  pub blocks_all : (k : ℕ) (row : List ℕ) → FirstBlocks row h k f → (i : ℕ) → i / 2 ^ h < k
+      → row_leaf row i ≡ f (i / 2 ^ h)
   blocks_all k row first i l = first i ∙ rw (lt-ltb (i / 2 ^ h) k l)

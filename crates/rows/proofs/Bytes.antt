@@ -41,23 +41,28 @@ not_asked : (b : Bool) → (b && false) ≡ false
 not_asked true = refl
 not_asked false = refl
 
-module _ (byte w m h a : ℕ) (v : Bool) (ew : w ≡ whole_byte v) (em : (i : ℕ) → i < 8 → bit m i ≡ eqb (i / 2 ^ h) a) where
+module _ (byte w m h a : ℕ) (v : Bool) (ew : w ≡ whole_byte v) (em : (i : ℕ) → i < 8
+    → bit m i ≡ eqb (i / 2 ^ h) a) where
   differs : (i : ℕ) → i < 8 → bit (bit_and (bit_xor byte w) m) i ≡ (xor (bit byte i) v && eqb (i / 2 ^ h) a)
   differs i l =
       bit_of_and (bit_xor byte w) m i
       ∙ ap₂ ◌&&◌ (bit_of_xor byte w i ∙ ap (xor (bit byte i)) (ap (λ n. bit n i) ew ∙ whole_bit v i l)) (em i l)
 
-  pub block_bits : (i : ℕ) → i < 8 → bit (bit_xor byte (bit_and (bit_xor byte w) m)) i ≡ cond (eqb (i / 2 ^ h) a) v (bit byte i)
+  pub block_bits : (i : ℕ) → i < 8 → bit (bit_xor byte (bit_and (bit_xor byte w) m)) i
+      ≡ cond (eqb (i / 2 ^ h) a) v (bit byte i)
   block_bits i l =
-      bit_of_xor byte (bit_and (bit_xor byte w) m) i ∙ ap (xor (bit byte i)) (differs i l) ∙ replaced (bit byte i) v (eqb (i / 2 ^ h) a)
+      bit_of_xor byte (bit_and (bit_xor byte w) m) i ∙ ap (xor (bit byte i)) (differs i l)
+      ∙ replaced (bit byte i) v (eqb (i / 2 ^ h) a)
 
   pub block_test : m < 256 → T (eqb (bit_and (bit_xor byte w) m) 0) ↔ ((i : ℕ) → i < 8 → i / 2 ^ h ≡ a → bit byte i ≡ v)
   block_test small = (
     λ t i l e. let z = eqb→eq (bit_and (bit_xor byte w) m) 0 t in
         same_bit (bit byte i) v
-        (ap (λ x. xor (bit byte i) v && x) (sym (eq-eqb (i / 2 ^ h) a e)) ∙ sym (differs i l) ∙ ap (λ n. bit n i) z ∙ bit_zero i),
+        (ap (λ x. xor (bit byte i) v && x) (sym (eq-eqb (i / 2 ^ h) a e)) ∙ sym (differs i l) ∙ ap (λ n. bit n i) z
+        ∙ bit_zero i),
     λ f. of_true (eq-eqb _ 0
-        (bits_zero 8 (bit_and (bit_xor byte w) m) (omega (arith, and_le_r (bit_xor byte w) m)) (λ i l. differs i l ∙ none f i l (ℕ_discrete (i / 2 ^ h) a)))),
+        (bits_zero 8 (bit_and (bit_xor byte w) m) (omega (arith, and_le_r (bit_xor byte w) m)) (λ i l. differs i l
+        ∙ none f i l (ℕ_discrete (i / 2 ^ h) a)))),
   )
     where
       none : ((i : ℕ) → i < 8 → i / 2 ^ h ≡ a → bit byte i ≡ v) → (i : ℕ) → i < 8 → Dec (i / 2 ^ h ≡ a)

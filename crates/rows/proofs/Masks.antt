@@ -29,7 +29,8 @@ computed = tt
 -- as the code makes it: s leaves, p and m powers of two
 module _ (h a : ℕ) (fits : (h ≤ 3) × (a < 2 ^ (3 - h))) where
   rule : T (Rule h a)
-  rule = every_at (2 ^ (3 - h)) (Rule h) (every_at 4 (λ h. every_below (2 ^ (3 - h)) (Rule h)) computed h (suc-le-suc fits.0)) a fits.1
+  rule = every_at (2 ^ (3 - h)) (Rule h)
+      (every_at 4 (λ h. every_below (2 ^ (3 - h)) (Rule h)) computed h (suc-le-suc fits.0)) a fits.1
 
   sizes : T (small h a)
   unfolding Rule
@@ -67,4 +68,5 @@ module _ (h a : ℕ) (fits : (h ≤ 3) × (a < 2 ^ (3 - h))) where
 
         pub mask_right : (i : ℕ) → i < 8 → bit ((p - 1) * m) i ≡ eqb (i / 2 ^ h) a
         unfolding Rule right
-        mask_right i l = ap (λ n. bit n i) mask_value ∙ (beq_iff _ _).0 (every_at 8 (right h a) (and_right (small h a) _ rule) i l)
+        mask_right i l = ap (λ n. bit n i) mask_value
+            ∙ (beq_iff _ _).0 (every_at 8 (right h a) (and_right (small h a) _ rule) i l)

@@ -28,11 +28,13 @@ module _ (row : List ℕ) (h q : ℕ) (inside : Inside h q (length row)) where
     pub bits_at : (h ≤ 3) × (q % s < 2 ^ (3 - h))
     bits_at = (at_most, rw e (mod-lt q (pow_pos (3 - h))))
 
-    pub set_at : (b : ℕ) (v : Bool) → ((r : ℕ) → r < 8 → bit b r ≡ cond (eqb (r / 2 ^ h) (q % s)) v (bit (get_or row (q / s) 0) r))
+    pub set_at : (b : ℕ) (v : Bool)
+        → ((r : ℕ) → r < 8 → bit b r ≡ cond (eqb (r / 2 ^ h) (q % s)) v (bit (get_or row (q / s) 0) r))
         → BlockSet row (set row (q / s) b) h q v
     set_at b v given = rw e (set_byte h at_most row q b v (byte_inside h at_most row q inside.fits) (rw e at given))
 
-    pub test_at : (v r : Bool) → T r ↔ ((i : ℕ) → i < 8 → i / 2 ^ h ≡ q % s → bit (get_or row (q / s) 0) i ≡ v) → T r ↔ AllLeaves row h q v
+    pub test_at : (v r : Bool) → T r ↔ ((i : ℕ) → i < 8 → i / 2 ^ h ≡ q % s → bit (get_or row (q / s) 0) i ≡ v)
+        → T r ↔ AllLeaves row h q v
     test_at v r given =
         let k = rw e at given in
         let iff = byte_constant h at_most row q v in
@@ -53,7 +55,8 @@ module _ (row : List ℕ) (h q : ℕ) (inside : Inside h q (length row)) where
     fill_at m b v last em el eb = rw (el, ← em, part_size, e) (set_bytes h high row q inside.fits b v eb)
 
     pub test_part : (v r : Bool)
-        → T r ↔ ((i : ℕ) → i < 8 * length (take (q * s + s - q * s) (drop (q * s) row)) → row_leaf (take (q * s + s - q * s) (drop (q * s) row)) i ≡ v)
+        → T r ↔ ((i : ℕ) → i < 8 * length (take (q * s + s - q * s) (drop (q * s) row))
+        → row_leaf (take (q * s + s - q * s) (drop (q * s) row)) i ≡ v)
         → T r ↔ AllLeaves row h q v
     test_part v r given =
         let k = rw (part_size, e) at given in

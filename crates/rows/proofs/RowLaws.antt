@@ -1,21 +1,25 @@
 -- Laws of rows, for every height from 3 on: a row is its tree and back, by its leaves. Assumes nothing.
 use Rattle.std.specs.Prelude.{◌≡◌, refl, Bool, ◌⊎◌, ltb, get_or}
 use Rattle.std.proofs.Math.Path.{sym, ap, ap₂, fun_ext}
-use Rattle.std.proofs.Common.{◌∙◌, inl, inr, not-suc-le-zero, le_of_suc-le-suc, eq-or-lt_of_le, zero-mul, suc-mul, le_trans, add-mul, one-mul, mul-le-mul_right, mod-lt, div-add-mod', le-div_iff_mul-le, length-drop, drop_of_length-le, pow-add, pow_pos, ext_get_or, get_or-take, get_or-drop}
+use Rattle.std.proofs.Common.{◌∙◌, inl, inr, not-suc-le-zero, le_of_suc-le-suc, eq-or-lt_of_le, zero-mul, suc-mul}
+use Rattle.std.proofs.Common.{le_trans, add-mul, one-mul, mul-le-mul_right, mod-lt, div-add-mod', le-div_iff_mul-le}
+use Rattle.std.proofs.Common.{length-drop, drop_of_length-le, pow-add, pow_pos, ext_get_or, get_or-take, get_or-drop}
 use Rattle.std.proofs.Math.Bool.{true, false, cond}
 use mathlib.Core.List.{List, [], ◌++◌, append_assoc, append-nil}
 use Prim.Native.Nat.{ℕ, zero, suc, ◌+◌, ◌-◌, ◌*◌, ◌/◌, ◌%◌, ◌^◌, ◌≤◌, ◌<◌, zero-le}
 use Rattle.std.proofs.Math.Decide.{dec_lt}
 use native.Mathlib.Omega.{arith}
 use borrow.Author.Tests.{lt-ltb, le-ltb, le-leb, lt-leb}
-use Rattle.std.proofs.Math.ListN.{length, take, drop, replicate, length-append, replicate-append-replicate, get_or-eq_default}
+use Rattle.std.proofs.Math.ListN.{length, take, drop, replicate, length-append, replicate-append-replicate}
+use Rattle.std.proofs.Math.ListN.{get_or-eq_default}
 use Rattle.std.proofs.lemmas.List.{length-replicate}
 use Rattle.std.proofs.Math.Seq.{length-take-le, take_at, drop_at}
 use Rattle.shares.specs.Tree.{Tree, leaf, Folded, height, leaf_at}
 use Rattle.shares.proofs.TreeLaws.{tree_of_ext, tree_of_leaf, tree_of_leaf_at, leaf_at_tree_of}
 use Rattle.shares.specs.Constant.{bit, number_of, bytes_at}
 use Rattle.shares.specs.BitLaws.{bit_zero, bits_same, number_lt, bit_number}
-use Rattle.rows.specs.Rows.{row_levels, row_count, row_bytes, row_leaf, row_tree, list_of, row_of, empty_range, row_range, row_part, zeros, variable_row, rows_of, filled_with}
+use Rattle.rows.specs.Rows.{row_levels, row_count, row_bytes, row_leaf, row_tree, list_of, row_of, empty_range}
+use Rattle.rows.specs.Rows.{row_range, row_part, zeros, variable_row, rows_of, filled_with}
 use Rattle.rows.specs.Emptied.{emptied}
 use Rattle.shares.specs.NumberLaws.{zero_at}
 
@@ -92,15 +96,18 @@ row_is k h row t len byte same =
     bits : (j : ℕ) → j < length row → (r : ℕ) → r < 8 → bit (get_or row j 0) r ≡ bit (get_or (row_of k t) j 0) r
     bits j l r u =
         let inside : 8 * j + r < 2 ^ k = omega (arith, eight k h) in
-        sym (leaf_byte row j r u) ∙ same (8 * j + r) inside ∙ sym (row_leaf_lem k h t (8 * j + r) inside) ∙ leaf_byte (row_of k t) j r u
+        sym (leaf_byte row j r u) ∙ same (8 * j + r) inside ∙ sym (row_leaf_lem k h t (8 * j + r) inside)
+        ∙ leaf_byte (row_of k t) j r u
 
 -- ---- there and back
 
 pub row_tree_row_of : (k : ℕ) → 3 ≤ k → (t : Tree) → Folded t → height t ≤ k → row_tree k (row_of k t) ≡ t
 row_tree_row_of k h t f low = tree_of_ext k _ _ (row_leaf_lem k h t) ∙ tree_of_leaf_at k t f low
 
-pub row_of_row_tree : (k : ℕ) → 3 ≤ k → (row : List ℕ) → length row ≡ bytes_at k → ((j : ℕ) → get_or row j 0 < 256) → row_of k (row_tree k row) ≡ row
-row_of_row_tree k h row len byte = sym (row_is k h row (row_tree k row) len byte (λ i l. sym (leaf_at_tree_of k (row_leaf row) i l)))
+pub row_of_row_tree : (k : ℕ) → 3 ≤ k → (row : List ℕ) → length row ≡ bytes_at k → ((j : ℕ) → get_or row j 0 < 256)
+    → row_of k (row_tree k row) ≡ row
+row_of_row_tree k h row len byte =
+    sym (row_is k h row (row_tree k row) len byte (λ i l. sym (leaf_at_tree_of k (row_leaf row) i l)))
 
 -- ---- rows one after the other, each of b bytes
 
@@ -115,17 +122,21 @@ module _ (f : ℕ → List ℕ) (b : ℕ) (size : (v : ℕ) → length (f v) ≡
   rows_length zero = sym (zero-mul b)
   rows_length (suc n) = length-append (rows_of f n) (f n) ∙ ap₂ ◌+◌ (rows_length n) (size n) ∙ sym (suc-mul n b)
 
-  rows_whole : (before : List ℕ) (v : ℕ) → v * b ≤ length before → length (rows_of f v ++ drop (v * b) before) ≡ length before
+  rows_whole : (before : List ℕ) (v : ℕ) → v * b ≤ length before → length (rows_of f v ++ drop (v * b) before)
+      ≡ length before
   rows_whole before v h = simp (length-append, length-drop, rows_length) (omega arith)
 
   -- row v of those written
   pub rows_at : (n v : ℕ) (rest : List ℕ) → v < n → take b (drop (v * b) (rows_of f n ++ rest)) ≡ f v
   unfolding rows_of
   rows_at zero v rest h = absurd (not-suc-le-zero h)
-  rows_at (suc n) v rest h = rw (append_assoc (rows_of f n) (f n) rest) (pick (eq-or-lt_of_le (le_of_suc-le-suc h)) (rows_at n v (f n ++ rest)))
+  rows_at (suc n) v rest h = rw (append_assoc (rows_of f n) (f n) rest)
+      (pick (eq-or-lt_of_le (le_of_suc-le-suc h)) (rows_at n v (f n ++ rest)))
     where
-      pick : (v ≡ n) ⊎ (v < n) → (v < n → take b (drop (v * b) (rows_of f n ++ (f n ++ rest))) ≡ f v) → take b (drop (v * b) (rows_of f n ++ (f n ++ rest))) ≡ f v
-      pick (inl e) ih = rw (e, drop_at (rows_of f n) (f n ++ rest) (n * b) (rows_length n)) (take_at (f n) rest b (size n))
+      pick : (v ≡ n) ⊎ (v < n) → (v < n → take b (drop (v * b) (rows_of f n ++ (f n ++ rest))) ≡ f v)
+          → take b (drop (v * b) (rows_of f n ++ (f n ++ rest))) ≡ f v
+      pick (inl e) ih = rw (e, drop_at (rows_of f n) (f n ++ rest) (n * b) (rows_length n))
+          (take_at (f n) rest b (size n))
       pick (inr l) ih = ih l
 
   -- with another row v they are those of g, which differs from f there alone
@@ -140,10 +151,16 @@ module _ (f : ℕ → List ℕ) (b : ℕ) (size : (v : ℕ) → length (f v) ≡
       whole : List ℕ
       whole = rows_of f n ++ (f n ++ rest)
 
-      pick : (v ≡ n) ⊎ (v < n) → (v < n → take (v * b) whole ++ (g v ++ drop b (drop (v * b) whole)) ≡ rows_of g n ++ (f n ++ rest))
+      pick : (v ≡ n) ⊎ (v < n) → (v < n → take (v * b) whole ++ (g v ++ drop b (drop (v * b) whole)) ≡ rows_of g n
+          ++ (f n ++ rest))
           → take (v * b) whole ++ (g v ++ drop b (drop (v * b) whole)) ≡ rows_of g n ++ (g n ++ rest)
       pick (inl e) ih =
-          rw (e, take_at (rows_of f n) (f n ++ rest) (n * b) (rows_length n), drop_at (rows_of f n) (f n ++ rest) (n * b) (rows_length n), drop_at (f n) rest b (size n))
+          rw (
+            e,
+            take_at (rows_of f n) (f n ++ rest) (n * b) (rows_length n),
+            drop_at (rows_of f n) (f n ++ rest) (n * b) (rows_length n),
+            drop_at (f n) rest b (size n),
+          )
           (ap (λ l. l ++ (g n ++ rest)) (rows_ext f g n (λ i l. same i (λ p. absurd (omega arith)))))
       pick (inr l) ih = ih l ∙ ap (λ r. rows_of g n ++ (r ++ rest)) (same n (λ p. absurd (omega arith)))
 
@@ -154,7 +171,8 @@ module _ (k bytes v : ℕ) where
   unfolding row_range
   range_none l = rw (le-ltb v row_count l)
 
-  pub range_some : v < row_count → row_count * bytes_at k ≤ bytes → row_range k bytes v ≡ record { offset = v * bytes_at k; bytes = bytes_at k }
+  pub range_some : v < row_count → row_count * bytes_at k ≤ bytes
+      → row_range k bytes v ≡ record { offset = v * bytes_at k; bytes = bytes_at k }
   unfolding row_range
   range_some l room = rw (lt-ltb v row_count l, le-leb (row_count * bytes_at k) bytes room)
 
@@ -163,16 +181,19 @@ module _ (k bytes v : ℕ) where
   range_short l short = rw (lt-ltb v row_count l, lt-leb (row_count * bytes_at k) bytes short)
 
   -- it lies within the buffer, and within the rows of an answer
-  pub range_inside : ((row_range k bytes v).offset + (row_range k bytes v).bytes ≤ bytes) × ((row_range k bytes v).offset + (row_range k bytes v).bytes ≤ row_count * bytes_at k)
+  pub range_inside : ((row_range k bytes v).offset + (row_range k bytes v).bytes ≤ bytes)
+      × ((row_range k bytes v).offset + (row_range k bytes v).bytes ≤ row_count * bytes_at k)
   range_inside = go (dec_lt v row_count) (dec_lt bytes (row_count * bytes_at k))
     where
       go : Dec (v < row_count) → Dec (bytes < row_count * bytes_at k)
-          → ((row_range k bytes v).offset + (row_range k bytes v).bytes ≤ bytes) × ((row_range k bytes v).offset + (row_range k bytes v).bytes ≤ row_count * bytes_at k)
+          → ((row_range k bytes v).offset + (row_range k bytes v).bytes ≤ bytes)
+          × ((row_range k bytes v).offset + (row_range k bytes v).bytes ≤ row_count * bytes_at k)
       go (yes l) (yes short) = rw (range_short l short) (zero-le, zero-le)
       go (yes l) (no n) =
           let room : row_count * bytes_at k ≤ bytes = omega arith in
           let last : (v + 1) * bytes_at k ≤ row_count * bytes_at k = mul-le-mul_right (bytes_at k) (omega arith) in
-          let end : v * bytes_at k + bytes_at k ≤ row_count * bytes_at k = omega (arith, add-mul v 1 (bytes_at k), one-mul (bytes_at k)) in
+          let end : v * bytes_at k + bytes_at k ≤ row_count * bytes_at k =
+          omega (arith, add-mul v 1 (bytes_at k), one-mul (bytes_at k)) in
           rw (range_some l room) (le_trans end room, end)
       go (no n) d = rw (range_none (omega arith)) (zero-le, zero-le)
 
@@ -181,7 +202,8 @@ module _ (k : ℕ) (answer : List ℕ) (v : ℕ) where
   unfolding row_part
   part_none l = rw (range_none k (length answer) v l)
 
-  pub part_some : v < row_count → row_count * bytes_at k ≤ length answer → row_part k answer v ≡ take (bytes_at k) (drop (v * bytes_at k) answer)
+  pub part_some : v < row_count → row_count * bytes_at k ≤ length answer
+      → row_part k answer v ≡ take (bytes_at k) (drop (v * bytes_at k) answer)
   unfolding row_part
   part_some l room = rw (range_some k (length answer) v l room)
 
@@ -222,7 +244,8 @@ module _ (k n : ℕ) (f : ℕ → Tree) where
   variable_zero v l = rw (le-ltb v n l)
 
   -- their trees
-  variable_tree : 3 ≤ k → (v : ℕ) → Folded (f v) → height (f v) ≤ k → (n ≤ v → f v ≡ leaf false) → row_tree k (variable_row k n f v) ≡ f v
+  variable_tree : 3 ≤ k → (v : ℕ) → Folded (f v) → height (f v) ≤ k → (n ≤ v → f v ≡ leaf false)
+      → row_tree k (variable_row k n f v) ≡ f v
   unfolding variable_row
   variable_tree h v folded low past = go (dec_lt v n)
     where
@@ -233,9 +256,11 @@ module _ (k n : ℕ) (f : ℕ → Tree) where
           rw (le-ltb v n l) (zero_row k (zeros (bytes_at k)) (zeros_at (bytes_at k)) ∙ sym (past l))
 
   -- the rows of a buffer that is filled with them are they
-  filled_row : (answer : List ℕ) (v : ℕ) → v < row_count → take (bytes_at k) (drop (v * bytes_at k) (filled_with k n f answer)) ≡ variable_row k n f v
+  filled_row : (answer : List ℕ) (v : ℕ) → v < row_count
+      → take (bytes_at k) (drop (v * bytes_at k) (filled_with k n f answer)) ≡ variable_row k n f v
   unfolding filled_with
-  filled_row answer v l = rows_at (variable_row k n f) (bytes_at k) variable_length row_count v (drop (row_count * bytes_at k) answer) l
+  filled_row answer v l = rows_at (variable_row k n f) (bytes_at k) variable_length row_count v
+      (drop (row_count * bytes_at k) answer) l
 
   module _ (answer : List ℕ) (room : row_count * bytes_at k ≤ length answer) where
     -- it is as long as before, and its parts are they
@@ -258,20 +283,24 @@ module _ (k n : ℕ) (f : ℕ → Tree) where
       where
         go : Dec (v < row_count) → row_tree k (row_part k (filled_with k n f answer) v) ≡ f v
         go (yes l) = ap (row_tree k) (filled_part v l) ∙ variable_tree h v folded low past
-        go (no m) = ap (row_tree k) (part_none k (filled_with k n f answer) v (omega arith)) ∙ zero_row k [] (λ j. refl) ∙ sym (past (omega arith))
+        go (no m) = ap (row_tree k) (part_none k (filled_with k n f answer) v (omega arith)) ∙ zero_row k [] (λ j. refl)
+            ∙ sym (past (omega arith))
 
     -- its first bytes, as many as the rows have, are what a buffer of that length is filled with
-    pub filled_first : take (row_count * bytes_at k) (filled_with k n f answer) ≡ filled_with k n f (take (row_count * bytes_at k) answer)
+    pub filled_first : take (row_count * bytes_at k) (filled_with k n f answer)
+        ≡ filled_with k n f (take (row_count * bytes_at k) answer)
     unfolding filled_with
     filled_first =
         let b = row_count * bytes_at k in
         let whole = rows_of (variable_row k n f) row_count in
         take_at whole (drop b answer) b (rows_length (variable_row k n f) (bytes_at k) variable_length row_count)
-        ∙ sym (ap (λ rest. whole ++ rest) (drop_of_length-le (take b answer) {i = b} (omega (arith, length-take-le b answer room))) ∙ append-nil whole)
+        ∙ sym (ap (λ rest. whole ++ rest)
+        (drop_of_length-le (take b answer) {i = b} (omega (arith, length-take-le b answer room))) ∙ append-nil whole)
 
 -- where the rows from the n-th on are zero, each of their bytes is
 pub others_zero : (k n : ℕ) (rows : List ℕ) → 3 ≤ k → row_count * bytes_at k ≡ length rows
-    → ((v : ℕ) → n ≤ v → v < row_count → row_part k rows v ≡ zeros (bytes_at k)) → (i : ℕ) → n * bytes_at k ≤ i → get_or rows i 0 ≡ 0
+    → ((v : ℕ) → n ≤ v → v < row_count → row_part k rows v ≡ zeros (bytes_at k)) → (i : ℕ) → n * bytes_at k ≤ i
+    → get_or rows i 0 ≡ 0
 others_zero k n rows h len empty i l = go (dec_lt (i / bytes_at k) row_count)
   where
     some : 0 < bytes_at k
@@ -284,9 +313,11 @@ others_zero k n rows h len empty i l = go (dec_lt (i / bytes_at k) row_count)
     go (yes m) =
         ap (λ j. get_or rows j 0) (sym split) ∙ sym (get_or-drop (i / bytes_at k * bytes_at k) rows (i % bytes_at k) 0)
         ∙ sym (get_or-take (bytes_at k) (drop (i / bytes_at k * bytes_at k) rows) (i % bytes_at k) 0 (mod-lt i some))
-        ∙ ap (λ r. get_or r (i % bytes_at k) 0) (sym (part_some k rows (i / bytes_at k) m (omega (arith, len))) ∙ empty (i / bytes_at k) ((le-div_iff_mul-le some).1 l) m)
+        ∙ ap (λ r. get_or r (i % bytes_at k) 0) (sym (part_some k rows (i / bytes_at k) m (omega (arith, len)))
+        ∙ empty (i / bytes_at k) ((le-div_iff_mul-le some).1 l) m)
         ∙ zeros_at (bytes_at k) (i % bytes_at k)
-    go (no g) = let m : row_count ≤ i / bytes_at k = omega arith in get_or-eq_default rows 0 (omega (arith, len, (le-div_iff_mul-le some).0 m))
+    go (no g) = let m : row_count ≤ i / bytes_at k =
+        omega arith in get_or-eq_default rows 0 (omega (arith, len, (le-div_iff_mul-le some).0 m))
 
 -- ---- a buffer that is emptied and then filled with one row after the other
 
@@ -301,7 +332,8 @@ module _ (k : ℕ) (f : ℕ → Tree) (answer : List ℕ) where
   -- emptied, it is filled with no row
   pub filled_none : emptied k answer ≡ filled_with k 0 f (emptied k answer)
   unfolding filled_with emptied rows_of zeros
-  filled_none = ap (λ rows. rows ++ drop (row_count * bytes_at k) answer) (sym (none row_count)) ∙ sym (filled_emptied 0)
+  filled_none = ap (λ rows. rows ++ drop (row_count * bytes_at k) answer) (sym (none row_count))
+      ∙ sym (filled_emptied 0)
     where
       none : (n : ℕ) → rows_of (variable_row k 0 f) n ≡ replicate (n * bytes_at k) 0
       none zero = rw (zero-mul (bytes_at k))
@@ -309,24 +341,29 @@ module _ (k : ℕ) (f : ℕ → Tree) (answer : List ℕ) where
           ap₂ ◌++◌ (none n) (variable_zero k 0 f n zero-le) ∙ replicate-append-replicate (n * bytes_at k) (bytes_at k) 0
           ∙ ap (λ (m : ℕ). replicate m 0) (sym (suc-mul n (bytes_at k)))
 
-  module _ (v s : ℕ) (now : List ℕ) (next : v < row_count) (size : s ≡ bytes_at k) (filled : now ≡ filled_with k v f answer) where
+  module _ (v s : ℕ) (now : List ℕ) (next : v < row_count) (size : s ≡ bytes_at k)
+      (filled : now ≡ filled_with k v f answer) where
     -- the row after the first v is zero
     pub filled_next : take s (drop (v * bytes_at k) now) ≡ zeros (bytes_at k)
     filled_next = rw (filled, size) (filled_row k v f answer v next ∙ variable_zero k v f v (omega arith))
 
     -- once it is written, one row more is filled
-    pub filled_more : (row : List ℕ) → row ≡ row_of k (f v) → take (v * bytes_at k) now ++ (row ++ drop s (drop (v * bytes_at k) now)) ≡ filled_with k (v + 1) f answer
+    pub filled_more : (row : List ℕ) → row ≡ row_of k (f v)
+        → take (v * bytes_at k) now ++ (row ++ drop s (drop (v * bytes_at k) now)) ≡ filled_with k (v + 1) f answer
     unfolding filled_with variable_row
     filled_more row e =
         let this : variable_row k (v + 1) f v ≡ row_of k (f v) = rw (lt-ltb v (v + 1) (omega arith)) in
         rw (filled, size, e, ← this)
-        (rows_set (variable_row k v f) (bytes_at k) (variable_length k v f) (variable_row k (v + 1) f) row_count v (drop (row_count * bytes_at k) answer) next
+        (rows_set (variable_row k v f) (bytes_at k) (variable_length k v f) (variable_row k (v + 1) f) row_count v
+        (drop (row_count * bytes_at k) answer) next
         (λ i n. ap (λ t. cond t (row_of k (f i)) (zeros (bytes_at k))) (ltb_next i v n)))
 
 -- only the trees of the first n count
-pub filled_ext : (k n : ℕ) (f g : ℕ → Tree) → ((v : ℕ) → v < n → f v ≡ g v) → (answer : List ℕ) → filled_with k n f answer ≡ filled_with k n g answer
+pub filled_ext : (k n : ℕ) (f g : ℕ → Tree) → ((v : ℕ) → v < n → f v ≡ g v) → (answer : List ℕ)
+    → filled_with k n f answer ≡ filled_with k n g answer
 unfolding filled_with variable_row
-filled_ext k n f g same answer = ap (λ r. rows_of r row_count ++ drop (row_count * bytes_at k) answer) (fun_ext (λ v. go v (dec_lt v n)))
+filled_ext k n f g same answer =
+    ap (λ r. rows_of r row_count ++ drop (row_count * bytes_at k) answer) (fun_ext (λ v. go v (dec_lt v n)))
   where
     go : (v : ℕ) → Dec (v < n) → variable_row k n f v ≡ variable_row k n g v
     go v (yes l) = rw (lt-ltb v n l) (ap (row_of k) (same v l))

@@ -1,13 +1,14 @@
 -- Rows: a tree unfolded to a height, eight leaves to a byte, and the rows of an answer buffer. Assumes nothing.
-use Rattle.std.specs.Prelude.{Bool, cond, List, [], ◌∷◌, ◌++◌, ℕ, zero, suc, ◌+◌, ◌*◌, ◌/◌, ◌%◌, ltb, leb, length, get_or, take, drop, replicate}
+use Rattle.std.specs.Prelude.{Bool, cond, List, [], ◌∷◌, ◌++◌, ℕ, zero, suc, ◌+◌, ◌*◌, ◌/◌, ◌%◌, ltb, leb, length}
+use Rattle.std.specs.Prelude.{get_or, take, drop, replicate}
 use Rattle.shares.specs.Tree.{Tree, leaf_at, tree_of}
 use Rattle.shares.specs.Constant.{bit, number_of, bytes_at}
 use Rattle.rows.specs.declared.Range.{Range}
 
 -- ---- the numbers
 
--- where the constants of a question have so many levels, a row of the answer is unfolded to this height, 10 at 5 levels: its 31 disequations and one choice
--- more take 2 ^ 5 sub-leaves below a leaf
+-- where the constants of a question have so many levels, a row of the answer is unfolded to this height, 10 at 5
+-- levels: its 31 disequations and one choice more take 2 ^ 5 sub-leaves below a leaf
 abbrev pub row_levels : ℕ → ℕ
 row_levels levels = levels + 5
 
@@ -48,10 +49,12 @@ row_of k t = list_of (bytes_at k) (λ j. number_of 8 (λ r. leaf_at k t (8 * j +
 abbrev pub empty_range : Range
 empty_range = record { offset = 0; bytes = 0 }
 
--- where the row of variable v lies in a buffer of so many bytes: the empty part if v is above 11 or the buffer too short
+-- where the row of variable v lies in a buffer of so many bytes: the empty part if v is above 11 or the buffer too
+-- short
 unfoldable pub row_range : ℕ → ℕ → ℕ → Range
 row_range k bytes v =
-    cond (ltb v row_count) (cond (leb (row_count * bytes_at k) bytes) (record { offset = v * bytes_at k; bytes = bytes_at k }) empty_range) empty_range
+    cond (ltb v row_count) (cond (leb (row_count * bytes_at k) bytes)
+    (record { offset = v * bytes_at k; bytes = bytes_at k }) empty_range) empty_range
 
 -- that part of the buffer
 unfoldable pub row_part : ℕ → List ℕ → ℕ → List ℕ

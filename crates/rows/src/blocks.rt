@@ -1,4 +1,5 @@
-// Blocks of a row: block q of height h is the leaves q * 2^h to q * 2^h + 2^h - 1, some bits of one byte up to height 3, else whole bytes.
+// Blocks of a row: block q of height h is the leaves q * 2^h to q * 2^h + 2^h - 1, some bits of one byte up to height
+// 3, else whole bytes.
 ghost use Rattle.std.specs.Prelude.{◌≡◌, ◌↔◌, cond, ℕ, ◌+◌, ◌-◌, ◌*◌, ◌/◌, ◌^◌, ◌<◌, ◌≤◌, T, eqb, length, get_or};
 ghost use Rattle.shares.specs.Constant.{bit};
 ghost use Rattle.rows.specs.Rows.{row_leaf};
@@ -48,8 +49,8 @@ fn is_filled(part: &[u8], full: bool) -> bool
     part.iter().all(|b| *b == byte)
 }
 
-// Sets the leaves of block q: whole bytes, or some bits of one byte. It takes the row, since a struct over a `&mut` would
-// be made for each block anew.
+// Sets the leaves of block q: whole bytes, or some bits of one byte. It takes the row, since a struct over a `&mut`
+// would be made for each block anew.
 #[tactic(auto, using(crate::proofs::Parts::set_at, crate::proofs::Parts::fill_at))]
 pub fn write_block(row: &mut [u8], height: usize, q: usize, full: bool)
     requires { Inside height q (length row.old) }
@@ -117,8 +118,10 @@ impl<'a> Block<'a> {
     // Its left half and its right half.
     pub fn halves(self) -> (Block<'a>, Block<'a>)
         requires { 0 < self.height }
-        ensures left { (result.0.row.now ≡ self.entry.row.now) × (result.0.height ≡ self.entry.height - 1) × (result.0.number ≡ 2 * self.entry.number) }
-        ensures right { (result.1.row.now ≡ self.entry.row.now) × (result.1.height ≡ self.entry.height - 1) × (result.1.number ≡ 2 * self.entry.number + 1) }
+        ensures left { (result.0.row.now ≡ self.entry.row.now) × (result.0.height ≡ self.entry.height - 1)
+            × (result.0.number ≡ 2 * self.entry.number) }
+        ensures right { (result.1.row.now ≡ self.entry.row.now) × (result.1.height ≡ self.entry.height - 1)
+            × (result.1.number ≡ 2 * self.entry.number + 1) }
     {
         let height = self.height - 1;
         let left = Block {

@@ -24,8 +24,9 @@ pub struct Range {
     pub bytes: usize,
 }
 
-// Where the row of a variable lies in an answer buffer of so many bytes; the empty part, at the start, if there is none. It is no Option, since the
-// exported call tells the empty part by these numbers, and its bytes are lent like those of a row.
+// Where the row of a variable lies in an answer buffer of so many bytes; the empty part, at the start, if there is
+// none. It is no Option, since the exported call tells the empty part by these numbers, and its bytes are lent like
+// those of a row.
 #[tactic(auto, unfolding(crate::specs::Rows::row_range))]
 pub fn row_range(bytes: usize, variable: usize) -> Range
     ensures { result ≡ row_range (row_levels constant_levels) bytes variable }
@@ -46,7 +47,9 @@ pub fn row_range(bytes: usize, variable: usize) -> Range
 #[tactic(auto, using(crate::proofs::RowLaws::range_inside), unfolding(crate::specs::Rows::row_part))]
 pub fn row(answer: &[u8], variable: usize) -> &[u8]
     ensures part { result.now ≡ row_part (row_levels constant_levels) answer.now variable }
-    ensures lies { (result.ref_ptr.0 ≡ answer.entry.ref_ptr.0) × (result.ref_ptr.1 ≡ answer.entry.ref_ptr.1 + (row_range (row_levels constant_levels) (length answer.now) variable).offset) }
+    ensures lies { (result.ref_ptr.0 ≡ answer.entry.ref_ptr.0)
+        × (result.ref_ptr.1 ≡ answer.entry.ref_ptr.1 +
+        (row_range (row_levels constant_levels) (length answer.now) variable).offset) }
 {
     let range = row_range(answer.len(), variable);
     &answer[range.offset..range.offset + range.bytes]

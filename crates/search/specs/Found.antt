@@ -1,4 +1,5 @@
--- What a search of the leaves finds: whether its problem is solvable, and the first words of the solution. Assumes nothing.
+-- What a search of the leaves finds: whether its problem is solvable, and the first words of the solution. Assumes
+-- nothing.
 use Rattle.std.specs.Prelude.{◌≡◌, Bool, true, false, ◌&&◌, List, Option, MatchOption, ℕ, ◌+◌, ◌<◌, T, get_or}
 use Rattle.shares.specs.Below.{every_below, first_below}
 use Rattle.shares.specs.Constant.{bit}
@@ -30,21 +31,25 @@ pub record SolvedAs (S : Stored) (h : ℕ) (search : Search) (found : Bool) (fir
   pub found_is : found ≡ solvable_in S h search
   pub pairs_are : T found → PairsOf S.free h (tests_of S h search) (extra_of search) firsts leaves
 
--- a survey of an entailment: the first system has no solution; it has one, and some solution leaves the second's positive clauses unmet, with the first
--- words of one; none does, and some solution misses disequation j of the second, the lowest such; none misses any
+-- a survey of an entailment: the first system has no solution; it has one, and some solution leaves the second's
+-- positive clauses unmet, with the first words of one; none does, and some solution misses disequation j of the second,
+-- the lowest such; none misses any
 abbrev pub SurveyedAs : Stored → ℕ → Survey → List Passing → List Passing → Type 0
 SurveyedAs S h Survey.Unsolvable firsts leaves = solvable_in S h First ≡ false
 SurveyedAs S h Survey.Unmet firsts leaves =
-    (solvable_in S h First ≡ true) × (solvable_in S h Unmet ≡ true) × PairsOf S.free h (tests_of S h Unmet) (extra_of Unmet) firsts leaves
+    (solvable_in S h First ≡ true) × (solvable_in S h Unmet ≡ true)
+    × PairsOf S.free h (tests_of S h Unmet) (extra_of Unmet) firsts leaves
 SurveyedAs S h (Survey.Missed j) firsts leaves =
-    (solvable_in S h First ≡ true) × (solvable_in S h Unmet ≡ false) × (j < get_or S.counts 3 0) × (lowest_missed_in S h ≡ j)
+    (solvable_in S h First ≡ true) × (solvable_in S h Unmet ≡ false) × (j < get_or S.counts 3 0)
+    × (lowest_missed_in S h ≡ j)
 SurveyedAs S h Survey.Entailed firsts leaves =
     (solvable_in S h First ≡ true) × (solvable_in S h Unmet ≡ false) × (lowest_missed_in S h ≡ get_or S.counts 3 0)
 
 -- the lowest number below `count` that passes p, or none where none does
 abbrev pub LowestOf : ℕ → (ℕ → Bool) → Option ℕ → Type 0
 LowestOf count p r =
-    MatchOption r ((k : ℕ) → k < count → p k ≡ false) (λ j. (j < count) × (p j ≡ true) × ((k : ℕ) → k < j → p k ≡ false))
+    MatchOption r ((k : ℕ) → k < count → p k ≡ false) (λ j. (j < count) × (p j ≡ true)
+    × ((k : ℕ) → k < j → p k ≡ false))
 
 -- disequation j of the second system is possible, and each of the first system's is met by a choice that misses it
 abbrev pub is_missed : ℕ → List ℕ → ℕ → ℕ → Bool

@@ -1,4 +1,5 @@
--- A search of pairs of a leaf and a choice, numbered leaf by leaf, is a search of the leaves with one of the choices in each. Assumes nothing.
+-- A search of pairs of a leaf and a choice, numbered leaf by leaf, is a search of the leaves with one of the choices in
+-- each. Assumes nothing.
 use Rattle.std.specs.Prelude.{◌≡◌, Bool, false, not, ℕ, suc, ◌+◌, ◌*◌, ◌/◌, ◌%◌, ◌<◌, T}
 use Rattle.std.proofs.Common.{sym, ap, ap₂, ◌∙◌, subst, mod-lt, div-add-mod', div-lt_iff_lt-mul, suc-mul, arith, T_not}
 use Rattle.std.proofs.Math.Decide.{dec_lt}
@@ -19,7 +20,8 @@ module _ (L W : ℕ) (some-width : 0 < W) (f : ℕ → ℕ → Bool) where
       same_test (some_below (L * W) (λ u. f (u / W) (u % W))) (some_below L (λ b. some_below W (f b)))
       (λ t.
       let (u, l, v) = some_found (L * W) (λ u. f (u / W) (u % W)) t in
-      some_intro L (λ b. some_below W (f b)) (u / W) ((div-lt_iff_lt-mul some-width).1 l) (some_intro W (f (u / W)) (u % W) (mod-lt u some-width) v))
+      some_intro L (λ b. some_below W (f b)) (u / W) ((div-lt_iff_lt-mul some-width).1 l)
+      (some_intro W (f (u / W)) (u % W) (mod-lt u some-width) v))
       (λ t.
       let (b, l, v) = some_found L (λ b. some_below W (f b)) t in
       let (z, m, w) = some_found W (f b) v in
@@ -57,7 +59,8 @@ module _ (L W : ℕ) (some-width : 0 < W) (f : ℕ → ℕ → Bool) where
           go : Dec (u / W < b) → T (not (f (u / W) (u % W)))
           go (yes k) =
               not_T (f (u / W) (u % W)) (λ v.
-              T_not (some_below W (f (u / W))) (first_least L (λ b. some_below W (f b)) (u / W) k) (some_intro W (f (u / W)) (u % W) (mod-lt u some-width) v))
+              T_not (some_below W (f (u / W))) (first_least L (λ b. some_below W (f b)) (u / W) k)
+              (some_intro W (f (u / W)) (u % W) (mod-lt u some-width) v))
           go (no k) =
               let up : u / W < suc b = (div-lt_iff_lt-mul some-width).1 (omega (arith, suc-mul b W, choice_lt)) in
               let e : u / W ≡ b = omega arith in

@@ -1,4 +1,5 @@
--- Laws of what a search asks of choices: which digits of a choice count, and which test each of its disequations is. Assumes nothing.
+-- Laws of what a search asks of choices: which digits of a choice count, and which test each of its disequations is.
+-- Assumes nothing.
 use Rattle.std.specs.Prelude.{◌≡◌, Bool, not, cond, List, ℕ, ◌+◌, ◌-◌, ◌*◌, ltb}
 use Rattle.std.proofs.Common.{ap, ap₂, le-ltb}
 use native.Mathlib.Omega.{arith}
@@ -14,7 +15,8 @@ use Rattle.search.specs.WideLaws.{PeriodicIn}
 special_periodic : (clauses : List ℕ) (n values : ℕ) (other : ℕ → Bool) (extra e : ℕ) → Periodic n other
     → Periodic n (special_in clauses n values other extra e)
 unfolding special_in
-special_periodic clauses n values other extra e P z = ap₂ (cond (ltb e extra)) (ap not (P z)) (fails_periodic clauses (256 + 4 * (e - extra)) n values z)
+special_periodic clauses n values other extra e P z =
+    ap₂ (cond (ltb e extra)) (ap not (P z)) (fails_periodic clauses (256 + 4 * (e - extra)) n values z)
 
 pub tests_periodic : (S : Stored) (h : ℕ) (search : Search) → PeriodicIn S.free (tests_of S h search)
 tests_periodic S h search = record {
@@ -27,7 +29,8 @@ tests_periodic S h search = record {
 -- ---- the disequations: the extra ones, then the stored ones
 
 module _ (clauses : List ℕ) (n values : ℕ) (other : ℕ → Bool) (extra : ℕ) where
-  pub special_stored : (i z : ℕ) → special_in clauses n values other extra (extra + i) z ≡ clause_fails clauses (256 + 4 * i) n 0 values z
+  pub special_stored : (i z : ℕ) → special_in clauses n values other extra (extra + i) z
+      ≡ clause_fails clauses (256 + 4 * i) n 0 values z
   unfolding special_in
   special_stored i z =
       let e : (extra + i) - extra ≡ i = omega arith in

@@ -1,5 +1,5 @@
--- A problem whose tests count n digits of a choice alone: its test and its pairs are searches of all choices in the words of a leaf, and of all
--- pairs. Assumes nothing.
+-- A problem whose tests count n digits of a choice alone: its test and its pairs are searches of all choices in the
+-- words of a leaf, and of all pairs. Assumes nothing.
 use Rattle.std.specs.Prelude.{◌≡◌, Bool, List, ℕ, ◌+◌, ◌*◌, ◌/◌, ◌%◌, ◌^◌, ◌<◌, T}
 use Rattle.std.proofs.Common.{sym, ap, ◌∙◌}
 use Rattle.std.proofs.Math.Path.{ap₂}
@@ -43,18 +43,22 @@ module _ (n h : ℕ) (R : Problem ℕ) (P : PeriodicIn n R) where
   special_wide e b = special_is n h R e b ∙ sym (periodic_some n (both_at R e b) (both_periodic e b))
 
   -- some pair meets disequation e
-  some_wide : (e : ℕ) → some_below (2 ^ h) (special_at (least n) (numbered n R) e) ≡ some_below (2 ^ h * leaf_width n) (pair_at n R e)
+  some_wide : (e : ℕ) → some_below (2 ^ h) (special_at (least n) (numbered n R) e)
+      ≡ some_below (2 ^ h * leaf_width n) (pair_at n R e)
   some_wide e =
-      some_ext (2 ^ h) _ _ (λ b l. special_wide e b) ∙ sym (pairs_some (2 ^ h) (leaf_width n) (width_pos n) (both_at R e))
+      some_ext (2 ^ h) _ _ (λ b l. special_wide e b)
+      ∙ sym (pairs_some (2 ^ h) (leaf_width n) (width_pos n) (both_at R e))
 
   pub solvable_wide : solvable (least n) h (numbered n R)
-      ≡ (every_below (2 ^ h) (λ b. some_below (leaf_width n) (R.pos b)) && every_below R.count (λ e. some_below (2 ^ h * leaf_width n) (pair_at n R e)))
+      ≡ (every_below (2 ^ h) (λ b. some_below (leaf_width n) (R.pos b))
+      && every_below R.count (λ e. some_below (2 ^ h * leaf_width n) (pair_at n R e)))
   unfolding solvable
   solvable_wide = ap₂ ◌&&◌ (every_ext (2 ^ h) _ _ (λ b l. plain_wide b)) (every_ext R.count _ _ (λ e l. some_wide e))
 
   -- ---- the first choice of a leaf, and the first pair of a disequation
 
-  pub plain_first : (b : ℕ) → T (some_below (leaf_width n) (R.pos b)) → first_below (leaf_width n) (R.pos b) ≡ plain_choice n h R b
+  pub plain_first : (b : ℕ) → T (some_below (leaf_width n) (R.pos b))
+      → first_below (leaf_width n) (R.pos b) ≡ plain_choice n h R b
   plain_first b t = periodic_first n (R.pos b) (rw (periodic_some n (R.pos b) (P.pos b)) at t)
 
   leaf_wide : (e : ℕ) → leaf_for n h R e ≡ first_below (2 ^ h) (λ b. some_below (leaf_width n) (both_at R e b))
@@ -74,10 +78,12 @@ module _ (n h : ℕ) (R : Problem ℕ) (P : PeriodicIn n R) where
     narrow : T (some_below (2 ^ n) (both_at R e (leaf_for n h R e)))
     narrow = rw (periodic_some n (both_at R e (leaf_for n h R e)) (both_periodic e (leaf_for n h R e))) at here
 
-    choice_wide : first_below (leaf_width n) (both_at R e (leaf_for n h R e)) ≡ special_choice n h R e (leaf_for n h R e)
+    choice_wide : first_below (leaf_width n) (both_at R e (leaf_for n h R e))
+        ≡ special_choice n h R e (leaf_for n h R e)
     choice_wide = periodic_first n (both_at R e (leaf_for n h R e)) narrow
 
-    pub pair_first : first_below (2 ^ h * leaf_width n) (pair_at n R e) ≡ leaf_for n h R e * leaf_width n + special_choice n h R e (leaf_for n h R e)
+    pub pair_first : first_below (2 ^ h * leaf_width n) (pair_at n R e)
+        ≡ leaf_for n h R e * leaf_width n + special_choice n h R e (leaf_for n h R e)
     pair_first =
         pairs_first (2 ^ h) (leaf_width n) (width_pos n) (both_at R e) leaves_some
         ∙ ap (λ b. b * leaf_width n + first_below (leaf_width n) (both_at R e b)) (sym (leaf_wide e))
@@ -90,7 +96,8 @@ module _ (n h : ℕ) (R : Problem ℕ) (P : PeriodicIn n R) where
 
   -- a table of first choices and first pairs
   pub pairs_of : (extra : ℕ) (firsts leaves : List Passing)
-      → ((b : ℕ) → b < 2 ^ h → T (some_below (leaf_width n) (R.pos b)) × (number_at leaves b ≡ first_below (leaf_width n) (R.pos b)))
+      → ((b : ℕ) → b < 2 ^ h → T (some_below (leaf_width n) (R.pos b))
+      × (number_at leaves b ≡ first_below (leaf_width n) (R.pos b)))
       → ((e : ℕ) → e < R.count → T (some_below (2 ^ h * leaf_width n) (pair_at n R e))
       × (number_at firsts (slot_of extra e) ≡ first_below (2 ^ h * leaf_width n) (pair_at n R e)))
       → PairsOf n h R extra firsts leaves

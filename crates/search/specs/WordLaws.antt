@@ -9,11 +9,13 @@ use Rattle.shares.specs.Constant.{bit}
 use Rattle.shares.specs.BitParts.{bit_not}
 
 -- the first `count` of w bits are all set if the lowest that is not set is no lower
-pub bits_all : (w x count : ℕ) → x < 2 ^ w → count ≤ w → leb count (first_below w (bit ((2 ^ w - 1) - x))) ≡ every_below count (bit x)
+pub bits_all : (w x count : ℕ) → x < 2 ^ w → count ≤ w → leb count (first_below w (bit ((2 ^ w - 1) - x)))
+    ≡ every_below count (bit x)
 bits_all w x count small l =
     same_test (leb count lowest) (every_below count (bit x))
     (λ t. every_intro count (bit x) (λ i m. holds (bit x i) (λ u.
-    T_not (bit others i) (first_least w (bit others) i (lt_of_lt_of_le m (leb→le count lowest t))) (rw (bit_not w x i small (omega arith)) u))))
+    T_not (bit others i) (first_least w (bit others) i (lt_of_lt_of_le m (leb→le count lowest t)))
+    (rw (bit_not w x i small (omega arith)) u))))
     (λ t. le→leb count lowest (go t (dec_lt lowest count)))
   where
     others : ℕ
@@ -25,7 +27,8 @@ bits_all w x count small l =
     go : T (every_below count (bit x)) → Dec (lowest < count) → count ≤ lowest
     go t (no n) = omega arith
     go t (yes m) =
-        absurd (T_not (bit x lowest) (rw (bit_not w x lowest small (omega arith)) at (first_below_lem w (bit others) (omega arith)))
+        absurd (T_not (bit x lowest)
+        (rw (bit_not w x lowest small (omega arith)) at (first_below_lem w (bit others) (omega arith)))
         (every_at count (bit x) t lowest m))
 
 -- whatever is read of a list of equal words is that word

@@ -1,6 +1,10 @@
--- Laws of trees, each for every height: a tree is its leaves and back, blocks, equality and height by leaves. Assumes nothing.
-use Rattle.std.specs.Prelude.{◌≡◌, refl, Bool, true, false, not, ◌↔◌, ℕ, zero, suc, ◌+◌, ◌-◌, ◌/◌, ◌%◌, ◌^◌, ◌≤◌, ◌<◌, T}
-use Rattle.std.proofs.Common.{sym, ap, ap₂, ◌∙◌, subst, zero-le, not-suc-le-zero, mod-eq_of_lt, add-zero, add-suc, div-one, add-sub_of_le, div-mul-le_self, lt_of_le_of_lt, le_trans, add-one, one-add, arith, pow_pos, shr-shr}
+-- Laws of trees, each for every height: a tree is its leaves and back, blocks, equality and height by leaves. Assumes
+-- nothing.
+use Rattle.std.specs.Prelude.{◌≡◌, refl, Bool, true, false, not, ◌↔◌, ℕ, zero, suc, ◌+◌, ◌-◌, ◌/◌, ◌%◌, ◌^◌, ◌≤◌, ◌<◌}
+use Rattle.std.specs.Prelude.{T}
+use Rattle.std.proofs.Common.{sym, ap, ap₂, ◌∙◌, subst, zero-le, not-suc-le-zero, mod-eq_of_lt, add-zero, add-suc}
+use Rattle.std.proofs.Common.{div-one, add-sub_of_le, div-mul-le_self, lt_of_le_of_lt, le_trans, add-one, one-add}
+use Rattle.std.proofs.Common.{arith, pow_pos, shr-shr}
 use Rattle.std.specs.Bool.{beq}
 use Rattle.std.proofs.Math.Bool.{Bool-set}
 use mathlib.Core.HLevel.{Unit-prop, ×₃_prop, is_prop→PathP}
@@ -26,7 +30,8 @@ same_leaf (leaf a) (pair l r) t = absurd t
 same_leaf (pair l r) s t = absurd t
 
 -- what holds of the leaf, where both are that leaf, and of the pair, where they are not twins, holds of the folded pair
-fold_law : (P : Tree → Type 0) (l r : Tree) → ((b : Bool) → l ≡ leaf b → r ≡ leaf b → P (leaf b)) → (twins l r ≡ false → P (pair l r)) → P (fold l r)
+fold_law : (P : Tree → Type 0) (l r : Tree) → ((b : Bool) → l ≡ leaf b → r ≡ leaf b → P (leaf b))
+    → (twins l r ≡ false → P (pair l r)) → P (fold l r)
 unfolding fold
 fold_law P l r f g =
     cond_law P (twins l r) l (pair l r)
@@ -79,7 +84,11 @@ Folded-prop (leaf b) = Unit-prop
 Folded-prop (pair l r) = ×₃_prop (Bool-set (twins l r) false) (Folded-prop l) (Folded-prop r)
 
 pub share_path : (a b : Share) → a.tree ≡ b.tree → a ≡ b
-share_path a b p i = record { tree = p i; folded = is_prop→PathP (λ j. Folded (p j)) (λ j. Folded-prop (p j)) a.folded b.folded i }
+share_path a b p i = record {
+  tree = p i;
+  folded =
+      is_prop→PathP (λ j. Folded (p j)) (λ j. Folded-prop (p j)) a.folded b.folded i;
+}
 
 -- ---- the leaves of the left half, then those of the right
 
@@ -120,7 +129,8 @@ leaf_at_tree_of (suc k) f i h =
     let r = tree_of k (λ j. f (2 ^ k + j)) in
     halves (λ i. leaf_at (suc k) (fold l r) i ≡ f i) k
     (λ i u. leaf_left k (fold l r) i u ∙ ap (λ t. leaf_at k t i) (half_fold 0 l r) ∙ leaf_at_tree_of k f i u)
-    (λ i u. leaf_right k (fold l r) i u ∙ ap (λ t. leaf_at k t i) (half_fold 1 l r) ∙ leaf_at_tree_of k (λ j. f (2 ^ k + j)) i u)
+    (λ i u. leaf_right k (fold l r) i u ∙ ap (λ t. leaf_at k t i) (half_fold 1 l r)
+    ∙ leaf_at_tree_of k (λ j. f (2 ^ k + j)) i u)
     i h
 
 -- leaves that are all alike make a leaf, and are what it unfolds to
@@ -174,7 +184,8 @@ blocks_add (suc d) h t i l =
     ∙ ap (leaf_at h t) (shr-shr i 1 d ∙ ap (λ x. i / 2 ^ x) (one-add d))
 
 pub blocks : (h w : ℕ) (t : Tree) (i : ℕ) → height t ≤ h → h ≤ w → leaf_at w t i ≡ leaf_at h t (block_of h w i)
-blocks h w t i l le = subst (λ n. leaf_at n t i ≡ leaf_at h t (block_of h w i)) (add-sub_of_le le) (blocks_add (w - h) h t i l)
+blocks h w t i l le = subst (λ n. leaf_at n t i ≡ leaf_at h t (block_of h w i)) (add-sub_of_le le)
+    (blocks_add (w - h) h t i l)
 
 -- leaves repeated: the same tree
 pub tree_of_blocks : (h w : ℕ) (f : ℕ → Bool) → h ≤ w → tree_of w (λ i. f (block_of h w i)) ≡ tree_of h f
@@ -182,26 +193,33 @@ tree_of_blocks h w f le =
     tree_of_ext w _ _ same ∙ tree_of_leaf_at w (tree_of h f) (tree_of_folded h f) (le_trans (tree_of_height h f) le)
   where
     same : (i : ℕ) → i < 2 ^ w → f (block_of h w i) ≡ leaf_at w (tree_of h f) i
-    same i l = sym (blocks h w (tree_of h f) i (tree_of_height h f) le ∙ leaf_at_tree_of h f (block_of h w i) (block_lt le l))
+    same i l = sym (blocks h w (tree_of h f) i (tree_of_height h f) le
+        ∙ leaf_at_tree_of h f (block_of h w i) (block_lt le l))
 
 -- ---- equality, leaf by leaf
 
 pub equal_iff : (k : ℕ) (a b : Tree) → Folded a → Folded b → height a ≤ k → height b ≤ k
     → (a ≡ b) ↔ ((i : ℕ) → i < 2 ^ k → leaf_at k a i ≡ leaf_at k b i)
-equal_iff k a b fa fb ha hb =
-    (λ e i h. ap (λ t. leaf_at k t i) e, λ e. sym (tree_of_leaf_at k a fa ha) ∙ tree_of_ext k _ _ e ∙ tree_of_leaf_at k b fb hb)
+equal_iff k a b fa fb ha hb = (
+  λ e i h. ap (λ t. leaf_at k t i) e,
+  λ e. sym (tree_of_leaf_at k a fa ha) ∙ tree_of_ext k _ _ e
+      ∙ tree_of_leaf_at k b fb hb,
+)
 
 -- the same as a test at every leaf
 pub equal_test_iff : (k : ℕ) (a b : Tree) → Folded a → Folded b → height a ≤ k → height b ≤ k
     → (a ≡ b) ↔ ((i : ℕ) → i < 2 ^ k → T (beq (leaf_at k a i) (leaf_at k b i)))
 equal_test_iff k a b fa fb ha hb =
-    let E = equal_iff k a b fa fb ha hb in
-    (λ e i h. (beq_iff (leaf_at k a i) (leaf_at k b i)).1 (E.0 e i h), λ f. E.1 (λ i h. (beq_iff (leaf_at k a i) (leaf_at k b i)).0 (f i h)))
+    let E = equal_iff k a b fa fb ha hb in (
+      λ e i h. (beq_iff (leaf_at k a i) (leaf_at k b i)).1 (E.0 e i h),
+      λ f. E.1 (λ i h. (beq_iff (leaf_at k a i) (leaf_at k b i)).0 (f i h)),
+    )
 
 -- two shares differ at a leaf, which is found
 pub unequal_iff : (k : ℕ) (a b : Tree) → Folded a → Folded b → height a ≤ k → height b ≤ k
     → (¬ (a ≡ b)) ↔ Below (2 ^ k) (λ i. not (beq (leaf_at k a i) (leaf_at k b i)))
-unequal_iff k a b fa fb ha hb = fails_iff (2 ^ k) (λ i. beq (leaf_at k a i) (leaf_at k b i)) (equal_test_iff k a b fa fb ha hb)
+unequal_iff k a b fa fb ha hb =
+    fails_iff (2 ^ k) (λ i. beq (leaf_at k a i) (leaf_at k b i)) (equal_test_iff k a b fa fb ha hb)
 
 -- ---- height and constancy on blocks
 

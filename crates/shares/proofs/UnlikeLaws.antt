@@ -1,6 +1,9 @@
--- Laws of unlike leaves: they give the height of a number, and those of two numbers together the greater of both heights. Assumes nothing.
-use Rattle.std.specs.Prelude.{◌≡◌, refl, Bool, true, false, cond, ◌&&◌, ◌||◌, ◌↔◌, ℕ, zero, suc, ◌+◌, ◌-◌, ◌*◌, ◌/◌, ◌%◌, ◌^◌, ◌≤◌, ◌<◌, min, max, T, ltb, eqb}
-use Rattle.std.proofs.Common.{sym, ◌∙◌, true≢false, zero-mul, div-add-mod', mod-lt, lt_of_le_of_lt, arith, ltb→lt, lt→ltb, eqb→eq, pow_pos, eq-eqb, ne_eqb}
+-- Laws of unlike leaves: they give the height of a number, and those of two numbers together the greater of both
+-- heights. Assumes nothing.
+use Rattle.std.specs.Prelude.{◌≡◌, refl, Bool, true, false, cond, ◌&&◌, ◌||◌, ◌↔◌, ℕ, zero, suc, ◌+◌, ◌-◌, ◌*◌, ◌/◌}
+use Rattle.std.specs.Prelude.{◌%◌, ◌^◌, ◌≤◌, ◌<◌, min, max, T, ltb, eqb}
+use Rattle.std.proofs.Common.{sym, ◌∙◌, true≢false, zero-mul, div-add-mod', mod-lt, lt_of_le_of_lt, arith, ltb→lt}
+use Rattle.std.proofs.Common.{lt→ltb, eqb→eq, pow_pos, eq-eqb, ne_eqb}
 use Rattle.std.proofs.Math.Path.{ap}
 use Rattle.std.proofs.Math.Bool.{xor}
 use Rattle.std.proofs.Math.Decide.{ℕ_discrete}
@@ -14,7 +17,8 @@ use Rattle.shares.specs.Blocks.{block_of, first_of}
 use Rattle.shares.specs.Tree.{height, tree_of}
 use Rattle.shares.proofs.TreeLaws.{tree_of_height, height_iff}
 use Rattle.shares.specs.Constant.{bit, number_tree}
-use Rattle.shares.specs.BitLaws.{bit_of_and, bit_of_or, bit_of_xor, bit_half, bit_zero, bits_zero, number_lt, bit_number}
+use Rattle.shares.specs.BitLaws.{bit_of_and, bit_of_or, bit_of_xor, bit_half, bit_zero, bits_zero, number_lt}
+use Rattle.shares.specs.BitLaws.{bit_number}
 use Rattle.shares.specs.Unlike.{inner, inner_mask, unlike, raised}
 
 -- ---- the height of a number
@@ -56,7 +60,8 @@ neighbours_iff h w f le = (λ low. only ((height_iff h w f le).0 low), λ e. (he
       where
         go : Dec (block_of h w i ≡ block_of h w (suc i)) → f i ≡ f (first i) → f (suc i) ≡ f (first (suc i))
         go (yes same) ih =
-            let t : T (inner h w i) = and_intro (ltb (suc i) (2 ^ w)) _ (lt→ltb _ _ l) (rw same (eqb_refl (block_of h w (suc i)))) in
+            let t : T (inner h w i) = and_intro (ltb (suc i) (2 ^ w)) _ (lt→ltb _ _ l)
+            (rw same (eqb_refl (block_of h w (suc i)))) in
             sym (e i t) ∙ ih ∙ ap (λ b. f (first_of h w b)) same
         go (no other) ih = ap f (sym (starts i (2 ^ (w - h)) (pow_pos (w - h)) other))
 
@@ -88,21 +93,27 @@ module _ (h w d : ℕ) where
 
 -- so it tells whether the number is taller than h
 pub height_mask_iff : (h w x : ℕ) → h ≤ w → (height (number_tree w x) ≤ h) ↔ (bit_and (unlike x) (inner_mask h w) ≡ 0)
-height_mask_iff h w x le = (λ low. (masked_iff h w (unlike x)).1 (under ((neighbours_iff h w (bit x) le).0 low)), λ e. (neighbours_iff h w (bit x) le).1 (same e))
+height_mask_iff h w x le = (
+  λ low. (masked_iff h w (unlike x)).1 (under ((neighbours_iff h w (bit x) le).0 low)),
+  λ e. (neighbours_iff h w (bit x) le).1 (same e),
+)
   where
     differ : (i : ℕ) → bit (unlike x) i ≡ xor (bit x i) (bit x (suc i))
     differ i = bit_of_xor x (x / 2) i ∙ ap (xor (bit x i)) (bit_half x i)
 
-    under : ((i : ℕ) → T (inner h w i) → bit x i ≡ bit x (suc i)) → (i : ℕ) → i < 2 ^ w → (bit (unlike x) i && inner h w i) ≡ false
+    under : ((i : ℕ) → T (inner h w i) → bit x i ≡ bit x (suc i)) → (i : ℕ) → i < 2 ^ w
+        → (bit (unlike x) i && inner h w i) ≡ false
     under f i l = ap (◌&& inner h w i) (differ i) ∙ (same_under (bit x i) (bit x (suc i)) (inner h w i)).1 (f i)
 
     same : bit_and (unlike x) (inner_mask h w) ≡ 0 → (i : ℕ) → T (inner h w i) → bit x i ≡ bit x (suc i)
     same e i t =
         let l : suc i < 2 ^ w = ltb→lt (suc i) (2 ^ w) (and_left (ltb (suc i) (2 ^ w)) _ t) in
-        (same_under (bit x i) (bit x (suc i)) (inner h w i)).0 (ap (◌&& inner h w i) (sym (differ i)) ∙ (masked_iff h w (unlike x)).0 e i (omega arith)) t
+        (same_under (bit x i) (bit x (suc i)) (inner h w i)).0 (ap (◌&& inner h w i) (sym (differ i))
+        ∙ (masked_iff h w (unlike x)).0 e i (omega arith)) t
 
 -- one test more
-pub raised_more : (w h d : ℕ) {before r : ℕ} → before ≡ raised w h d → r ≡ cond (eqb (bit_and d (inner_mask h w)) 0) before (suc h) → r ≡ raised w (suc h) d
+pub raised_more : (w h d : ℕ) {before r : ℕ} → before ≡ raised w h d
+    → r ≡ cond (eqb (bit_and d (inner_mask h w)) 0) before (suc h) → r ≡ raised w (suc h) d
 unfolding raised
 raised_more w h d e t = t ∙ ap (λ b. cond (eqb (bit_and d (inner_mask h w)) 0) b (suc h)) e
 
@@ -110,10 +121,12 @@ raised_more w h d e t = t ∙ ap (λ b. cond (eqb (bit_and d (inner_mask h w)) 0
 raised_height : (w h x : ℕ) → h ≤ w → raised w h (unlike x) ≡ min h (height (number_tree w x))
 unfolding raised
 raised_height w zero x le = omega arith
-raised_height w (suc h) x le = go (ℕ_discrete (bit_and (unlike x) (inner_mask h w)) 0) (raised_height w h x (omega arith))
+raised_height w (suc h) x le =
+    go (ℕ_discrete (bit_and (unlike x) (inner_mask h w)) 0) (raised_height w h x (omega arith))
   where
     go : Dec (bit_and (unlike x) (inner_mask h w) ≡ 0) → raised w h (unlike x) ≡ min h (height (number_tree w x))
-        → cond (eqb (bit_and (unlike x) (inner_mask h w)) 0) (raised w h (unlike x)) (suc h) ≡ min (suc h) (height (number_tree w x))
+        → cond (eqb (bit_and (unlike x) (inner_mask h w)) 0) (raised w h (unlike x)) (suc h)
+        ≡ min (suc h) (height (number_tree w x))
     go (yes e) ih = rw (eq-eqb _ 0 e) (omega (arith, ih, (height_mask_iff h w x (omega arith)).1 e))
     go (no n) ih =
         let taller : ¬ (height (number_tree w x) ≤ h) = λ low. n ((height_mask_iff h w x (omega arith)).0 low) in
@@ -139,22 +152,27 @@ neither true false false = (λ e. (refl, refl), λ p. refl)
 neither false b t = (λ e. (refl, e), λ (p, q). q)
 
 module _ (h w d e : ℕ) where
-  either_masked : (bit_and (bit_or d e) (inner_mask h w) ≡ 0) ↔ ((bit_and d (inner_mask h w) ≡ 0) × (bit_and e (inner_mask h w) ≡ 0))
+  either_masked : (bit_and (bit_or d e) (inner_mask h w) ≡ 0) ↔ ((bit_and d (inner_mask h w) ≡ 0)
+      × (bit_and e (inner_mask h w) ≡ 0))
   either_masked =
-      let N : (i : ℕ) → ((bit (bit_or d e) i && inner h w i) ≡ false) ↔ (((bit d i && inner h w i) ≡ false) × ((bit e i && inner h w i) ≡ false)) =
+      let N : (i : ℕ) → ((bit (bit_or d e) i && inner h w i) ≡ false) ↔ (((bit d i && inner h w i) ≡ false)
+      × ((bit e i && inner h w i) ≡ false)) =
       λ i. rw (bit_of_or d e i) (neither (bit d i) (bit e i) (inner h w i)) in (
         λ z. (
           (masked_iff h w d).1 (λ i l. ((N i).0 ((masked_iff h w (bit_or d e)).0 z i l)).0),
           (masked_iff h w e).1 (λ i l. ((N i).0 ((masked_iff h w (bit_or d e)).0 z i l)).1),
         ),
-        λ (p, q). (masked_iff h w (bit_or d e)).1 (λ i l. (N i).1 ((masked_iff h w d).0 p i l, (masked_iff h w e).0 q i l)),
+        λ (p, q). (masked_iff h w (bit_or d e)).1
+            (λ i l. (N i).1 ((masked_iff h w d).0 p i l, (masked_iff h w e).0 q i l)),
       )
 
-  either_tested : eqb (bit_and (bit_or d e) (inner_mask h w)) 0 ≡ (eqb (bit_and d (inner_mask h w)) 0 && eqb (bit_and e (inner_mask h w)) 0)
+  either_tested : eqb (bit_and (bit_or d e) (inner_mask h w)) 0
+      ≡ (eqb (bit_and d (inner_mask h w)) 0 && eqb (bit_and e (inner_mask h w)) 0)
   either_tested = go (ℕ_discrete (bit_and d (inner_mask h w)) 0) (ℕ_discrete (bit_and e (inner_mask h w)) 0)
     where
       go : Dec (bit_and d (inner_mask h w) ≡ 0) → Dec (bit_and e (inner_mask h w) ≡ 0)
-          → eqb (bit_and (bit_or d e) (inner_mask h w)) 0 ≡ (eqb (bit_and d (inner_mask h w)) 0 && eqb (bit_and e (inner_mask h w)) 0)
+          → eqb (bit_and (bit_or d e) (inner_mask h w)) 0
+          ≡ (eqb (bit_and d (inner_mask h w)) 0 && eqb (bit_and e (inner_mask h w)) 0)
       go (yes p) (yes q) = rw (eq-eqb _ 0 (either_masked.1 (p, q)), eq-eqb _ 0 p, eq-eqb _ 0 q) refl
       go (yes p) (no q) = rw (ne_eqb _ 0 (λ z. q (either_masked.0 z).1), eq-eqb _ 0 p, ne_eqb _ 0 q) refl
       go (no p) q = rw (ne_eqb _ 0 (λ z. p (either_masked.0 z).0), ne_eqb _ 0 p) refl
@@ -175,10 +193,13 @@ unfolding raised
 raised_or w zero d e = omega arith
 raised_or w (suc h) d e =
     ap (λ t. cond t (raised w h (bit_or d e)) (suc h)) (either_tested h w d e)
-    ∙ go (eqb (bit_and d (inner_mask h w)) 0) (eqb (bit_and e (inner_mask h w)) 0) (raised_or w h d e) (raised_le w h d) (raised_le w h e)
+    ∙ go (eqb (bit_and d (inner_mask h w)) 0) (eqb (bit_and e (inner_mask h w)) 0) (raised_or w h d e) (raised_le w h d)
+    (raised_le w h e)
   where
-    go : (s t : Bool) → raised w h (bit_or d e) ≡ max (raised w h d) (raised w h e) → raised w h d ≤ h → raised w h e ≤ h
-        → cond (s && t) (raised w h (bit_or d e)) (suc h) ≡ max (cond s (raised w h d) (suc h)) (cond t (raised w h e) (suc h))
+    go : (s t : Bool) → raised w h (bit_or d e) ≡ max (raised w h d) (raised w h e) → raised w h d ≤ h
+        → raised w h e ≤ h
+        → cond (s && t) (raised w h (bit_or d e)) (suc h)
+        ≡ max (cond s (raised w h d) (suc h)) (cond t (raised w h e) (suc h))
     go true true ih p q = ih
     go true false ih p q = omega arith
     go false true ih p q = omega arith

@@ -1,11 +1,15 @@
 -- Laws of the tests of the numbers below a bound. Assumes nothing.
-use Rattle.std.specs.Prelude.{◌≡◌, refl, ◌⊎◌, ◌↔◌, Bool, true, false, not, ◌&&◌, ◌||◌, ℕ, zero, suc, ◌+◌, ◌-◌, ◌≤◌, ◌<◌, T, eqb}
-use Rattle.std.proofs.Common.{sym, ap, ap₂, ◌∙◌, subst, inl, inr, zero-le, suc-le-suc, le_of_suc-le-suc, not-suc-le-zero, eq-or-lt_of_le, le_antisymm, lt_of_lt_of_le, arith, T_not, eq-eqb, ne_eqb}
+use Rattle.std.specs.Prelude.{◌≡◌, refl, ◌⊎◌, ◌↔◌, Bool, true, false, not, ◌&&◌, ◌||◌, ℕ, zero, suc, ◌+◌, ◌-◌, ◌≤◌, ◌<◌}
+use Rattle.std.specs.Prelude.{T, eqb}
+use Rattle.std.proofs.Common.{sym, ap, ap₂, ◌∙◌, subst, inl, inr, zero-le, suc-le-suc, le_of_suc-le-suc}
+use Rattle.std.proofs.Common.{not-suc-le-zero, eq-or-lt_of_le, le_antisymm, lt_of_lt_of_le, arith, T_not, eq-eqb}
+use Rattle.std.proofs.Common.{ne_eqb}
 use Rattle.std.proofs.Math.Bool.{and-true, or-false, and_assoc, or_assoc}
 use Rattle.std.proofs.Math.Decide.{dec_lt}
 use Rattle.std.proofs.Math.Dec.{not_T}
 use Rattle.shares.specs.Below.{every_below, some_below, first_below, one, count_below}
-use Rattle.shares.specs.Test.{is_true, is_false, of_true, of_false, passes, holds, same_test, and_intro, and_left, and_right, or_left, or_right, or_cases}
+use Rattle.shares.specs.Test.{is_true, is_false, of_true, of_false, passes, holds, same_test, and_intro, and_left}
+use Rattle.shares.specs.Test.{and_right, or_left, or_right, or_cases}
 
 -- ---- every, some
 
@@ -19,7 +23,8 @@ pub every_intro : (n : ℕ) (p : ℕ → Bool) → ((i : ℕ) → i < n → T (p
 unfolding every_below
 every_intro zero p f = tt
 every_intro (suc n) p f =
-    and_intro (p zero) _ (f zero (suc-le-suc zero-le)) (every_intro n (λ k. p (suc k)) (λ i h. f (suc i) (suc-le-suc h)))
+    and_intro (p zero) _ (f zero (suc-le-suc zero-le))
+    (every_intro n (λ k. p (suc k)) (λ i h. f (suc i) (suc-le-suc h)))
 
 pub every_ext : (n : ℕ) (p q : ℕ → Bool) → ((i : ℕ) → i < n → p i ≡ q i) → every_below n p ≡ every_below n q
 unfolding every_below
@@ -41,7 +46,8 @@ unfolding some_below
 some_found zero p t = absurd t
 some_found (suc n) p t = step (or_cases (p zero) _ t) (some_found n (λ k. p (suc k)))
   where
-    step : T (p zero) ⊎ T (some_below n (λ k. p (suc k))) → (T (some_below n (λ k. p (suc k))) → Below n (λ k. p (suc k))) → Below (suc n) p
+    step : T (p zero) ⊎ T (some_below n (λ k. p (suc k)))
+        → (T (some_below n (λ k. p (suc k))) → Below n (λ k. p (suc k))) → Below (suc n) p
     step (inl u) ih = (zero, suc-le-suc zero-le, u)
     step (inr u) ih = let (i, h, v) = ih u in (suc i, suc-le-suc h, v)
 
@@ -56,29 +62,34 @@ pub every_more : (n : ℕ) (p : ℕ → Bool) → every_below (suc n) p ≡ (eve
 unfolding every_below
 every_more zero p = and-true (p zero)
 every_more (suc n) p =
-    ap (λ b. p zero && b) (every_more n (λ i. p (suc i))) ∙ sym (and_assoc (p zero) (every_below n (λ i. p (suc i))) (p (suc n)))
+    ap (λ b. p zero && b) (every_more n (λ i. p (suc i)))
+    ∙ sym (and_assoc (p zero) (every_below n (λ i. p (suc i))) (p (suc n)))
 
 pub some_more : (n : ℕ) (p : ℕ → Bool) → some_below (suc n) p ≡ (some_below n p || p n)
 unfolding some_below
 some_more zero p = or-false (p zero)
 some_more (suc n) p =
-    ap (λ b. p zero || b) (some_more n (λ i. p (suc i))) ∙ sym (or_assoc (p zero) (some_below n (λ i. p (suc i))) (p (suc n)))
+    ap (λ b. p zero || b) (some_more n (λ i. p (suc i)))
+    ∙ sym (or_assoc (p zero) (some_below n (λ i. p (suc i))) (p (suc n)))
 
 -- where not all of the first k pass, not all pass
 pub every_stays : (n k : ℕ) (p : ℕ → Bool) → k ≤ n → every_below k p ≡ false → every_below n p ≡ false
 every_stays n k p h e =
     is_false (every_below n p)
-    (not_T (every_below n p) (λ t. T_not (every_below k p) (of_false e) (every_intro k p (λ i l. every_at n p t i (lt_of_lt_of_le l h)))))
+    (not_T (every_below n p) (λ t. T_not (every_below k p) (of_false e)
+    (every_intro k p (λ i l. every_at n p t i (lt_of_lt_of_le l h)))))
 
 pub some_none : (n : ℕ) (p : ℕ → Bool) → ((i : ℕ) → i < n → p i ≡ false) → some_below n p ≡ false
 some_none n p h =
-    is_false (some_below n p) (not_T (some_below n p) (λ t. let (i, l, u) = some_found n p t in T_not (p i) (of_false (h i l)) u))
+    is_false (some_below n p) (not_T (some_below n p) (λ t. let (i, l, u) =
+    some_found n p t in T_not (p i) (of_false (h i l)) u))
 
 -- over a longer range
 pub some_add : (a b : ℕ) (p : ℕ → Bool) → some_below (a + b) p ≡ (some_below a p || some_below b (λ i. p (a + i)))
 some_add a b p =
     same_test (some_below (a + b) p) (some_below a p || some_below b (λ i. p (a + i)))
-    (λ t. let (i, l, u) = some_found (a + b) p t in part i l u (dec_lt i a)) (λ t. whole (or_cases (some_below a p) (some_below b (λ i. p (a + i))) t))
+    (λ t. let (i, l, u) = some_found (a + b) p t in part i l u (dec_lt i a))
+    (λ t. whole (or_cases (some_below a p) (some_below b (λ i. p (a + i))) t))
   where
     part : (i : ℕ) → i < a + b → T (p i) → Dec (i < a) → T (some_below a p || some_below b (λ i. p (a + i)))
     part i l u (yes h) = or_left (some_below a p) (some_below b (λ i. p (a + i))) (some_intro a p i h u)
@@ -103,7 +114,8 @@ some_or n p = go (passes (some_below n p))
 pub every_or : (n : ℕ) (p : ℕ → Bool) → ((i : ℕ) → i < n → T (p i)) ⊎ Below n (λ i. not (p i))
 every_or n p = go (some_or n (λ i. not (p i)))
   where
-    go : Below n (λ i. not (p i)) ⊎ ((i : ℕ) → i < n → T (not (not (p i)))) → ((i : ℕ) → i < n → T (p i)) ⊎ Below n (λ i. not (p i))
+    go : Below n (λ i. not (p i)) ⊎ ((i : ℕ) → i < n → T (not (not (p i))))
+        → ((i : ℕ) → i < n → T (p i)) ⊎ Below n (λ i. not (p i))
     go (inl b) = inr b
     go (inr f) = inl (λ i l. holds (p i) (λ u. T_not (not (p i)) (f i l) u))
 
@@ -130,7 +142,8 @@ unfolding first_below
 first_later n p t = go (p zero) t
   where
     go : (b : Bool) → T (not b)
-        → elim b as (λ _. ℕ) [ true ↦ zero | false ↦ suc (first_below n (λ i. p (suc i))) ] ≡ suc (first_below n (λ i. p (suc i)))
+        → elim b as (λ _. ℕ) [ true ↦ zero | false ↦ suc (first_below n (λ i. p (suc i))) ]
+        ≡ suc (first_below n (λ i. p (suc i)))
     go true u = absurd u
     go false u = refl
 
@@ -149,7 +162,8 @@ unfolding first_below
 first_below_lem zero p h = absurd (not-suc-le-zero h)
 first_below_lem (suc n) p h = step (passes (p zero)) (first_below_lem n (λ k. p (suc k))) h
   where
-    step : T (p zero) ⊎ T (not (p zero)) → (first_below n (λ k. p (suc k)) < n → T (p (suc (first_below n (λ k. p (suc k))))))
+    step : T (p zero) ⊎ T (not (p zero))
+        → (first_below n (λ k. p (suc k)) < n → T (p (suc (first_below n (λ k. p (suc k))))))
         → first_below (suc n) p < suc n → T (p (first_below (suc n) p))
     step (inl u) ih l = rw (first_here n p u) u
     step (inr u) ih l = rw (first_later n p u) (ih (le_of_suc-le-suc (rw (first_later n p u) at l)))
@@ -177,12 +191,14 @@ pub first_some : (m : ℕ) (p : ℕ → Bool) → first_below m p < m → T (som
 first_some m p l = some_intro m p (first_below m p) l (first_below_lem m p l)
 
 -- it is the one number that passes with none below it
-pub first_is : (n : ℕ) (p : ℕ → Bool) (r : ℕ) → r < n → ((i : ℕ) → i < r → p i ≡ false) → p r ≡ true → first_below n p ≡ r
+pub first_is : (n : ℕ) (p : ℕ → Bool) (r : ℕ) → r < n → ((i : ℕ) → i < r → p i ≡ false) → p r ≡ true
+    → first_below n p ≡ r
 first_is n p r h before found =
     le_antisymm (first_min n p r (of_true found)) (low (dec_lt (first_below n p) r))
   where
     low : Dec (first_below n p < r) → r ≤ first_below n p
-    low (yes l) = absurd (T_not (p (first_below n p)) (of_false (before (first_below n p) l)) (first_below_lem n p (omega arith)))
+    low (yes l) = absurd (T_not (p (first_below n p)) (of_false (before (first_below n p) l))
+        (first_below_lem n p (omega arith)))
     low (no g) = omega arith
 
 pub first_none : (n : ℕ) (p : ℕ → Bool) → ((i : ℕ) → i < n → p i ≡ false) → first_below n p ≡ n
@@ -196,10 +212,12 @@ first_none n p none = le_antisymm (first_le n p) (low (dec_lt (first_below n p) 
 pub every_first : (n : ℕ) (p : ℕ → Bool) → every_below n p ≡ eqb (first_below n (λ i. not (p i))) n
 every_first n p = go (every_or n p)
   where
-    go : ((i : ℕ) → i < n → T (p i)) ⊎ Below n (λ i. not (p i)) → every_below n p ≡ eqb (first_below n (λ i. not (p i))) n
+    go : ((i : ℕ) → i < n → T (p i)) ⊎ Below n (λ i. not (p i))
+        → every_below n p ≡ eqb (first_below n (λ i. not (p i))) n
     go (inl f) =
         is_true (every_below n p) (every_intro n p f)
-        ∙ sym (eq-eqb (first_below n (λ i. not (p i))) n (first_none n (λ i. not (p i)) (λ i l. ap not (is_true (p i) (f i l)))))
+        ∙ sym (eq-eqb (first_below n (λ i. not (p i))) n
+        (first_none n (λ i. not (p i)) (λ i l. ap not (is_true (p i) (f i l)))))
     go (inr (i, l, t)) =
         let below = (first_passes n (λ i. not (p i)) i l t).0 in
         is_false (every_below n p) (not_T (every_below n p) (λ u. T_not (p i) t (every_at n p u i l)))
@@ -210,7 +228,8 @@ pub first_longer : (a b : ℕ) (p : ℕ → Bool) → a ≤ b → T (some_below 
 first_longer a b p h t =
     let (i, l, u) = some_found a p t in
     let (below, passed) = first_passes a p i l u in
-    first_is b p (first_below a p) (omega arith) (λ k v. is_false (p k) (first_least a p k v)) (is_true (p (first_below a p)) passed)
+    first_is b p (first_below a p) (omega arith) (λ k v. is_false (p k) (first_least a p k v))
+    (is_true (p (first_below a p)) passed)
 
 pub first_ext : (n : ℕ) (p q : ℕ → Bool) → ((i : ℕ) → i < n → p i ≡ q i) → first_below n p ≡ first_below n q
 unfolding first_below

@@ -1,6 +1,8 @@
 -- Laws of the bits of a number, for every width. Assumes nothing.
-use Rattle.std.specs.Prelude.{◌≡◌, refl, Bool, true, false, ◌&&◌, ◌||◌, ℕ, zero, suc, ◌+◌, ◌*◌, ◌/◌, ◌%◌, ◌^◌, ◌≤◌, ◌<◌, min, max}
-use Rattle.std.proofs.Common.{sym, ◌∙◌, not-suc-le-zero, le_of_suc-le-suc, mod-lt, div-one, add-one, one-add, arith, lit<, pow_pos, shr-shr, shr_lt}
+use Rattle.std.specs.Prelude.{◌≡◌, refl, Bool, true, false, ◌&&◌, ◌||◌, ℕ, zero, suc, ◌+◌, ◌*◌, ◌/◌, ◌%◌, ◌^◌, ◌≤◌, ◌<◌}
+use Rattle.std.specs.Prelude.{min, max}
+use Rattle.std.proofs.Common.{sym, ◌∙◌, not-suc-le-zero, le_of_suc-le-suc, mod-lt, div-one, add-one, one-add, arith}
+use Rattle.std.proofs.Common.{lit<, pow_pos, shr-shr, shr_lt}
 use Rattle.std.proofs.Math.Path.{ap}
 use Rattle.std.proofs.Math.Bool.{xor}
 use Rattle.std.proofs.Math.Nat.{two-pow-succ, zero-div}
@@ -41,14 +43,17 @@ module _ (op f : ℕ → ℕ → ℕ) (g : Bool → Bool → Bool)
   bit_op a b i = ap (λ (x : ℕ). eqb (x % 2) 1) (shr a b i) ∙ odd_op (a / 2 ^ i) (b / 2 ^ i)
 
 pub bit_of_and : (a b i : ℕ) → bit (bit_and a b) i ≡ (bit a i && bit b i)
-bit_of_and = bit_op bit_and min ◌&&◌ and_step and_shr (two (Digit min ◌&&◌) (lit< tt, refl) (lit< tt, refl) (lit< tt, refl) (lit< tt, refl))
+bit_of_and = bit_op bit_and min ◌&&◌ and_step and_shr
+    (two (Digit min ◌&&◌) (lit< tt, refl) (lit< tt, refl) (lit< tt, refl) (lit< tt, refl))
 
 pub bit_of_or : (a b i : ℕ) → bit (bit_or a b) i ≡ (bit a i || bit b i)
-bit_of_or = bit_op bit_or max ◌||◌ or_step or_shr (two (Digit max ◌||◌) (lit< tt, refl) (lit< tt, refl) (lit< tt, refl) (lit< tt, refl))
+bit_of_or = bit_op bit_or max ◌||◌ or_step or_shr
+    (two (Digit max ◌||◌) (lit< tt, refl) (lit< tt, refl) (lit< tt, refl) (lit< tt, refl))
 
 pub bit_of_xor : (a b i : ℕ) → bit (bit_xor a b) i ≡ xor (bit a i) (bit b i)
 unfolding xor
-bit_of_xor = bit_op bit_xor differ xor xor_step xor_shr (two (Digit differ xor) (lit< tt, refl) (lit< tt, refl) (lit< tt, refl) (lit< tt, refl))
+bit_of_xor = bit_op bit_xor differ xor xor_step xor_shr
+    (two (Digit differ xor) (lit< tt, refl) (lit< tt, refl) (lit< tt, refl) (lit< tt, refl))
 
 -- ---- the bits of 0 and of x / 2
 
@@ -75,7 +80,8 @@ bits_same (suc w) x y hx hy e =
     bits_same w (x / 2) (y / 2) (shr_lt w 1 (rw (add-one w) hx)) (shr_lt w 1 (rw (add-one w) hy))
     (λ i l. bit_half x i ∙ e (suc i) (omega arith) ∙ sym (bit_half y i)) in
     let odd : x % 2 ≡ y % 2 =
-    odd_same (x % 2) (y % 2) (mod-lt x (omega arith)) (mod-lt y (omega arith)) (rw (div-one x, div-one y) at (e 0 (omega arith))) in
+    odd_same (x % 2) (y % 2) (mod-lt x (omega arith)) (mod-lt y (omega arith))
+    (rw (div-one x, div-one y) at (e 0 (omega arith))) in
     omega arith
 
 -- with none set it is 0
@@ -104,4 +110,5 @@ bit_number zero f i h = absurd (not-suc-le-zero h)
 bit_number (suc w) f zero h = bit_first (number_of w (λ i. f (suc i))) (f 0)
 bit_number (suc w) f (suc i) h =
     let x = number_of w (λ i. f (suc i)) in
-    sym (bit_half (x * 2 + one (f 0)) i) ∙ ap (λ n. bit n i) (omega (arith, one_le (f 0))) ∙ bit_number w (λ i. f (suc i)) i (le_of_suc-le-suc h)
+    sym (bit_half (x * 2 + one (f 0)) i) ∙ ap (λ n. bit n i) (omega (arith, one_le (f 0)))
+    ∙ bit_number w (λ i. f (suc i)) i (le_of_suc-le-suc h)

@@ -1,6 +1,8 @@
 -- Bits of parts of a number, of a number of ones and of a complement, for every width. Assumes nothing.
-use Rattle.std.specs.Prelude.{◌≡◌, refl, Bool, true, false, not, ◌&&◌, List, [], ◌∷◌, ℕ, suc, ◌+◌, ◌-◌, ◌*◌, ◌/◌, ◌%◌, ◌^◌, ◌≤◌, ◌<◌, eqb, get_or}
-use Rattle.std.proofs.Common.{sym, ap, ap₂, ◌∙◌, subst, add-zero, pow-suc, mod-eq_of_lt, lt_of_lt_of_le, arith, lit<, pow_pos, pow_mono, shr-shr, eq-eqb, ne_eqb}
+use Rattle.std.specs.Prelude.{◌≡◌, refl, Bool, true, false, not, ◌&&◌, List, [], ◌∷◌, ℕ, suc, ◌+◌, ◌-◌, ◌*◌, ◌/◌, ◌%◌}
+use Rattle.std.specs.Prelude.{◌^◌, ◌≤◌, ◌<◌, eqb, get_or}
+use Rattle.std.proofs.Common.{sym, ap, ap₂, ◌∙◌, subst, add-zero, pow-suc, mod-eq_of_lt, lt_of_lt_of_le, arith, lit<}
+use Rattle.std.proofs.Common.{pow_pos, pow_mono, shr-shr, eq-eqb, ne_eqb}
 use Rattle.std.proofs.Math.Bool.{xor}
 use Rattle.std.proofs.Math.Nat.{div-eq_of_lt}
 use Rattle.std.proofs.Math.Decide.{dec_lt, ℕ_discrete}
@@ -62,7 +64,8 @@ odd_ones k =
 pub bit_ones : (w i : ℕ) → i < w → bit (2 ^ w - 1) i ≡ true
 unfolding bit
 bit_ones w i h =
-    ap (λ n. eqb (n % 2) 1) (ap (λ e. (2 ^ e - 1) / 2 ^ i) up ∙ ap (λ n. n / 2 ^ i) (ones_split (suc (w - i - 1)) i) ∙ high (2 ^ suc (w - i - 1) - 1) i (ones_lt i))
+    ap (λ n. eqb (n % 2) 1) (ap (λ e. (2 ^ e - 1) / 2 ^ i) up ∙ ap (λ n. n / 2 ^ i) (ones_split (suc (w - i - 1)) i)
+    ∙ high (2 ^ suc (w - i - 1) - 1) i (ones_lt i))
     ∙ ap (λ n. eqb n 1) (odd_ones (w - i - 1))
   where
     up : w ≡ suc (w - i - 1) + i
@@ -81,7 +84,8 @@ xor_true false = refl
 
 pub bit_not : (w a i : ℕ) → a < 2 ^ w → i < w → bit ((2 ^ w - 1) - a) i ≡ not (bit a i)
 bit_not w a i h l =
-    ap (λ x. bit x i) (complement w a h) ∙ bit_of_xor a (2 ^ w - 1) i ∙ ap (xor (bit a i)) (bit_ones w i l) ∙ xor_true (bit a i)
+    ap (λ x. bit x i) (complement w a h) ∙ bit_of_xor a (2 ^ w - 1) i ∙ ap (xor (bit a i)) (bit_ones w i l)
+    ∙ xor_true (bit a i)
 
 -- ---- one binary digit, at bit k
 
@@ -93,7 +97,8 @@ bit_digit v k j h = go (dec_lt j k) (ℕ_discrete j k)
     go (no g) (yes q) = rw (eq-eqb j k q) (ap (bit (v * 2 ^ k)) (q ∙ sym (add-zero k)) ∙ bit_raised v k 0)
     go (no g) (no n) =
         let e : k + (j - k) ≡ j = omega arith in
-        rw (ne_eqb j k n) (ap (bit (v * 2 ^ k)) (sym e) ∙ bit_raised v k (j - k) ∙ bit_beyond 1 v (j - k) h (omega arith))
+        rw (ne_eqb j k n) (ap (bit (v * 2 ^ k)) (sym e) ∙ bit_raised v k (j - k)
+        ∙ bit_beyond 1 v (j - k) h (omega arith))
 
 -- bit p of x as a digit
 pub digit_of : (x p : ℕ) → bit (x / 2 ^ p % 2) 0 ≡ bit x p
@@ -102,7 +107,8 @@ digit_of x p = bit_mod (x / 2 ^ p) 1 0 (lit< tt) ∙ bit_shift x p 0 ∙ ap (bit
 -- ---- bytes, the lowest first
 
 -- bit i of the number that bytes make is bit i mod 8 of byte i div 8
-pub bit_bytes : (bs : List ℕ) → ((j : ℕ) → get_or bs j 0 < 2 ^ 8) → (i : ℕ) → bit (number bs) i ≡ bit (get_or bs (i / 8) 0) (i % 8)
+pub bit_bytes : (bs : List ℕ) → ((j : ℕ) → get_or bs j 0 < 2 ^ 8) → (i : ℕ)
+    → bit (number bs) i ≡ bit (get_or bs (i / 8) 0) (i % 8)
 unfolding number
 bit_bytes [] h i = bit_zero i ∙ sym (bit_zero (i % 8))
 bit_bytes (b ∷ bs) h i = pick (bit_bytes bs (λ j. h (suc j))) (dec_lt i 8)

@@ -1,4 +1,5 @@
--- Blocks of leaves: where 2 ^ w leaves make up 2 ^ h blocks, leaf b * 2 ^ (w - h) + r is sub-leaf r of block b. Assumes nothing.
+-- Blocks of leaves: where 2 ^ w leaves make up 2 ^ h blocks, leaf b * 2 ^ (w - h) + r is sub-leaf r of block b. Assumes
+-- nothing.
 use Rattle.std.specs.Prelude.{ℕ, ◌-◌, ◌*◌, ◌/◌, ◌^◌}
 
 -- the block, of 2 ^ h, that leaf i of 2 ^ w lies in

@@ -16,7 +16,8 @@ inner h w i = ltb (suc i) (2 ^ w) && eqb (block_of h w i) (block_of h w (suc i))
 unfoldable pub inner_mask : ℕ → ℕ → ℕ
 inner_mask h w = number_of (2 ^ w) (inner h w)
 
--- where d has the unlike ones of 2 ^ w leaves: one more than the greatest height below h at which some is unlike its neighbour in its block; 0 if none is
+-- where d has the unlike ones of 2 ^ w leaves: one more than the greatest height below h at which some is unlike its
+-- neighbour in its block; 0 if none is
 unfoldable pub raised : ℕ → ℕ → ℕ → ℕ
 raised w zero d = 0
 raised w (suc h) d = cond (eqb (bit_and d (inner_mask h w)) 0) (raised w h d) (suc h)

@@ -1,4 +1,5 @@
-// Constants are shares of 32 leaves, held in one number with leaf i at bit i: their join and their height, both without a loop.
+// Constants are shares of 32 leaves, held in one number with leaf i at bit i: their join and their height, both without
+// a loop.
 #![tactic(auto)]
 
 ghost use Rattle.std.specs.Prelude.{◌≡◌, cond, ◌+◌, ◌^◌, eqb, None, Some};
@@ -7,11 +8,12 @@ ghost use Rattle.shares.specs.Constant.{constant_levels, number_tree, set_in_bot
 ghost use Rattle.shares.specs.Unlike as Unlike;
 ghost use Rattle.shares.specs.Answer.{join_of};
 
-// The join of two constants, all leaves at once: none, where it is undefined, exactly where some bit is set in both, and otherwise
-// their sum.
+// The join of two constants, all leaves at once: none, where it is undefined, exactly where some bit is set in both,
+// and otherwise their sum.
 #[tactic(auto, using(crate::proofs::ConstantLaws::sum_fits))]
 pub fn join_constants(a: u32, b: u32) -> Option<u32>
-    ensures tree { join_of constant_levels result ≡ join (number_tree constant_levels a) (number_tree constant_levels b) }
+    ensures tree { join_of constant_levels result
+        ≡ join (number_tree constant_levels a) (number_tree constant_levels b) }
     ensures numbers { result ≡ cond (set_in_both (2 ^ constant_levels) a b) None (Some (a + b)) }
 {
     if overlap(a, b) {
@@ -27,8 +29,8 @@ fn overlap(a: u32, b: u32) -> bool
     a & b != 0
 }
 
-// How the test of a join comes out at one leaf. It holds, or fails by overlap: both parts are full; by surplus: just one part is full and the sum is empty; or by
-// shortfall: both parts are empty and the sum is full.
+// How the test of a join comes out at one leaf. It holds, or fails by overlap: both parts are full; by surplus: just
+// one part is full and the sum is empty; or by shortfall: both parts are empty and the sum is full.
 #[derive(Clone, Copy, Debug, PartialEq, Eq)]
 pub enum Way {
     Holds,
@@ -65,8 +67,9 @@ pub fn unlike(a: u32) -> u32
     a ^ (a >> 1)
 }
 
-// The height of a constant by its unlike leaves, or that of the tallest of several by all of theirs. Bit i of a mask is set where leaves i
-// and i + 1 lie in one of the 2^h equal blocks that the 32 leaves make up: if some are unlike there, the height is above h.
+// The height of a constant by its unlike leaves, or that of the tallest of several by all of theirs. Bit i of a mask is
+// set where leaves i and i + 1 lie in one of the 2^h equal blocks that the 32 leaves make up: if some are unlike there,
+// the height is above h.
 pub fn unlike_height(leaves: u32) -> u32
     ensures { result ≡ Unlike.raised constant_levels constant_levels leaves }
 {

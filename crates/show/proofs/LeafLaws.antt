@@ -1,5 +1,6 @@
 -- The leaves of a plan. Assumes nothing.
-use Rattle.std.proofs.Common.{ℕ, ◌≡◌, ◌-◌, ◌*◌, ◌/◌, ◌^◌, ◌≤◌, List, length, take, sym, ap, add-sub_of_le, ◌∙◌, pow-add, pow_pos, pow_mono, arith}
+use Rattle.std.proofs.Common.{ℕ, ◌≡◌, ◌-◌, ◌*◌, ◌/◌, ◌^◌, ◌≤◌, List, length, take, sym, ap, add-sub_of_le, ◌∙◌, pow-add}
+use Rattle.std.proofs.Common.{pow_pos, pow_mono, arith}
 use Rattle.std.proofs.Math.Nat.{mul-div_cancel}
 use Rattle.std.proofs.lemmas.List.{length-take-le}
 
@@ -15,4 +16,5 @@ leaves_few h l = let few : 2 ^ h ≤ 2 ^ 6 = pow_mono l in omega (arith, leaves_
 
 -- so many are taken of a list of 64
 pub leaves_taken : (h : ℕ) (plain : List ℕ) → h ≤ 6 → length plain ≡ 64 → length (take (64 / 2 ^ (6 - h)) plain) ≡ 2 ^ h
-leaves_taken h plain low room = length-take-le (64 / 2 ^ (6 - h)) plain (omega (arith, leaves_few h low)) ∙ leaves_are h low
+leaves_taken h plain low room = length-take-le (64 / 2 ^ (6 - h)) plain (omega (arith, leaves_few h low))
+    ∙ leaves_are h low

@@ -1,4 +1,5 @@
--- Writing shows one choice more at a time, and the row that shows them all is that of the tree, for every height. Assumes nothing.
+-- Writing shows one choice more at a time, and the row that shows them all is that of the tree, for every height.
+-- Assumes nothing.
 use Rattle.std.specs.Prelude.{◌≡◌, refl, true, false, cond, List, eqb, length, get_or}
 use Rattle.std.proofs.Common.{sym, ◌∙◌, le_trans, add-sub_of_le, div-lt_iff_lt-mul, pow_pos, pow-add, pow_mono}
 use Rattle.std.proofs.Math.Path.{ap}
@@ -23,36 +24,47 @@ bit_cond true a b p = refl
 bit_cond false a b p = refl
 
 block_inside : {h w i : ℕ} → h ≤ w → block_of h w i < 2 ^ h → i < 2 ^ w
-block_inside {h} {w} {i} l u = rw (← pow-add 2 h (w - h), add-sub_of_le l) at ((div-lt_iff_lt-mul {x = i} {y = 2 ^ h} (pow_pos (w - h))).0 u)
+block_inside {h} {w} {i} l u =
+    rw (← pow-add 2 h (w - h), add-sub_of_le l) at ((div-lt_iff_lt-mul {x = i} {y = 2 ^ h} (pow_pos (w - h))).0 u)
 
 module _ (k : ℕ) (plan : Plan) (ok : Showable k plan) where
   pub sub_leaf_small : (n : ℕ) → n < plan.count → (entry_at plan.entries n).subleaf < 2 ^ k
   sub_leaf_small n l = le_trans (ok.sub_leaves n l) (pow_mono ok.within)
 
   -- a sub-leaf is a block of the row
-  pub sub_leaf_inside : 3 ≤ k → k ≤ 32 → (n bytes : ℕ) → n < plan.count → bytes ≡ bytes_at k → Inside (k - plan.high) (entry_at plan.entries n).subleaf bytes
+  pub sub_leaf_inside : 3 ≤ k → k ≤ 32 → (n bytes : ℕ) → n < plan.count → bytes ≡ bytes_at k
+      → Inside (k - plan.high) (entry_at plan.entries n).subleaf bytes
   sub_leaf_inside from to n bytes l e = rw e (leaf_inside from to ok.within (ok.sub_leaves n l))
 
   module _ (p : ℕ) where
-    pub shows_plain : (row : List ℕ) → ((i : ℕ) → i < 2 ^ k → row_leaf row i ≡ bit (get_or plan.plain (i / 2 ^ (k - plan.low)) 0) p) → Shows k plan 0 p row
+    pub shows_plain : (row : List ℕ)
+        → ((i : ℕ) → i < 2 ^ k → row_leaf row i ≡ bit (get_or plan.plain (i / 2 ^ (k - plan.low)) 0) p)
+        → Shows k plan 0 p row
     unfolding plan_choice_after
-    shows_plain row given i l = given i l ∙ ap (λ (x : ℕ). bit (get_or plan.plain x 0) p) (sym (block_block i ok.below ok.within))
+    shows_plain row given i l = given i l
+        ∙ ap (λ (x : ℕ). bit (get_or plan.plain x 0) p) (sym (block_block i ok.below ok.within))
 
     -- the leaves of a sub-leaf are all as its first
-    pub shows_even : (n s : ℕ) (v : Bool) (row : List ℕ) → Shows k plan n p row → s < 2 ^ plan.high → v ≡ row_leaf row (first_of plan.high k s)
+    pub shows_even : (n s : ℕ) (v : Bool) (row : List ℕ) → Shows k plan n p row → s < 2 ^ plan.high
+        → v ≡ row_leaf row (first_of plan.high k s)
         → AllLeaves row (k - plan.high) s v
     shows_even n s v row shows small e i at =
-        shows i (block_inside ok.within (rw at small)) ∙ ap (λ (b : ℕ). bit (plan_choice_after plan n b) p) (at ∙ sym (block_first plan.high k s))
+        shows i (block_inside ok.within (rw at small))
+        ∙ ap (λ (b : ℕ). bit (plan_choice_after plan n b) p) (at ∙ sym (block_first plan.high k s))
         ∙ sym (shows (first_of plan.high k s) (first_lt ok.within small)) ∙ sym e
 
     pub shows_more : (n : ℕ) (v : Bool) (row after : List ℕ) → Shows k plan n p row
-        → BlockSet row after (k - plan.high) (entry_at plan.entries n).subleaf v → v ≡ bit (entry_at plan.entries n).choice p → Shows k plan (n + 1) p after
+        → BlockSet row after (k - plan.high) (entry_at plan.entries n).subleaf v
+        → v ≡ bit (entry_at plan.entries n).choice p → Shows k plan (n + 1) p after
     unfolding plan_choice_after
     shows_more n v row after old step e i l =
         let s = block_of plan.high k i in
-        step i ∙ rw (e, old i l, add-one n) (sym (bit_cond (eqb s (entry_at plan.entries n).subleaf) (entry_at plan.entries n).choice (plan_choice_after plan n s) p))
+        step i ∙ rw (e, old i l, add-one n)
+        (sym (bit_cond (eqb s (entry_at plan.entries n).subleaf) (entry_at plan.entries n).choice
+        (plan_choice_after plan n s) p))
 
-    pub shows_all : 3 ≤ k → (row : List ℕ) → length row ≡ bytes_at k → ((j : ℕ) → get_or row j 0 < 256) → Shows k plan plan.count p row
+    pub shows_all : 3 ≤ k → (row : List ℕ) → length row ≡ bytes_at k → ((j : ℕ) → get_or row j 0 < 256)
+        → Shows k plan plan.count p row
         → row ≡ row_of k (plan_tree plan p)
     unfolding plan_tree
     shows_all h row len byte given = row_is k h row (plan_tree plan p) len byte same

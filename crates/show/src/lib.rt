@@ -20,12 +20,13 @@ fn digit_of(choice: u16, p: usize) -> bool
     basics::digit(u64::from(choice), p)
 }
 
-// Writes the 2^low leaves, each with digit p of its choice, to a row that is empty. Their number is shifted down from 64,
-// since with `1 << low` the end of the loop is made a shift and a test at each turn.
+// Writes the 2^low leaves, each with digit p of its choice, to a row that is empty. Their number is shifted down from
+// 64, since with `1 << low` the end of the loop is made a shift and a test at each turn.
 #[tactic(auto, using(crate::proofs::LeafLaws::leaves_few))]
 fn write_leaves(row: &mut [u8], plan: &Plan, p: usize)
     requires { (plan.now.low ≤ 6) × (row.old ≡ zeros (row_bytes constant_levels)) × (p < 16) }
-    ensures { (i : ℕ) → i < 2 ^ row_levels constant_levels → row_leaf row.new i ≡ bit (get_or plan.now.plain (i / 2 ^ (row_levels constant_levels - plan.now.low)) 0) p }
+    ensures { (i : ℕ) → i < 2 ^ row_levels constant_levels
+        → row_leaf row.new i ≡ bit (get_or plan.now.plain (i / 2 ^ (row_levels constant_levels - plan.now.low)) 0) p }
 {
     let height = ROW_LEVELS - plan.low;
     let count = 64 >> (6 - plan.low);
@@ -37,7 +38,8 @@ fn write_leaves(row: &mut [u8], plan: &Plan, p: usize)
 // Sets the sub-leaves that hold another choice, in order.
 fn write_sub_leaves(row: &mut [u8], plan: &Plan, p: usize)
     requires showable { Showable (row_levels constant_levels) plan.now }
-    requires row_len { (length row.old ≡ row_bytes constant_levels) × (p < 16) × Shows (row_levels constant_levels) plan.now 0 p row.old }
+    requires row_len { (length row.old ≡ row_bytes constant_levels) × (p < 16)
+        × Shows (row_levels constant_levels) plan.now 0 p row.old }
     ensures { Shows (row_levels constant_levels) plan.now plan.now.count p row.new }
 {
     let height = ROW_LEVELS - plan.high;

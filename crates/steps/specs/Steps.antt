@@ -1,5 +1,5 @@
--- What is known in the middle of a leaf, after some of its words. A pair of leaf b and choice z is the number b * leaf_width n + z, so that word w of leaf
--- b is word b * word_count n + w of all. Assumes nothing.
+-- What is known in the middle of a leaf, after some of its words. A pair of leaf b and choice z is the number b *
+-- leaf_width n + z, so that word w of leaf b is word b * word_count n + w of all. Assumes nothing.
 use Rattle.std.specs.Prelude.{◌≡◌, Bool, true, false, not, ◌&&◌, ◌||◌, List, ℕ, ◌+◌, ◌*◌, ◌/◌, ◌%◌, ◌<◌, T, get_or}
 use Rattle.shares.specs.Below.{some_below}
 use Rattle.shares.specs.Constant.{bit}
@@ -53,33 +53,41 @@ unmet_here S values z = first_meets S values z && not (second_meets S values z)
 
 -- ---- in the middle of leaf b, after its first w words
 
--- there is nothing more to learn at a leaf of a disequation that is no longer wanted: some choice misses it, and each of the first system's was met with it
+-- there is nothing more to learn at a leaf of a disequation that is no longer wanted: some choice misses it, and each
+-- of the first system's was met with it
 abbrev pub Settled : Stored → Seen → List ℕ → Type 0
 Settled S seen rows = (j : ℕ) → j < get_or S.counts 3 0 → T (bit seen.possible j) → bit seen.wanted j ≡ false
     → (bit seen.here j ≡ true) × FullMark (get_or S.counts 1 0) (get_or rows (64 + j) 0)
 
-pub record Amid (S : Stored) (h : ℕ) (search : Search) (b w : ℕ) (seen : Seen) (firsts : List Passing) (rows : List ℕ) : Type 0 where
+pub record Amid (S : Stored) (h : ℕ) (search : Search) (b w : ℕ) (seen : Seen) (firsts : List Passing) (rows : List ℕ)
+    : Type 0 where
   -- the least choice of the leaf, in entry 32
   pub plain : Entry (allowed_in S search (leaf_values S h b)) w seen.met firsts 32
   -- the least pair of each disequation of the first system, and of an unmet choice
-  pub entries : (i : ℕ) → i < get_or S.counts 1 0 → Entry (on_pairs S h (meets_here S search i)) (b * word_count S.free + w) seen.met firsts i
+  pub entries : (i : ℕ) → i < get_or S.counts 1 0
+      → Entry (on_pairs S h (meets_here S search i)) (b * word_count S.free + w) seen.met firsts i
   pub unmet : search ≡ Unmet → Entry (on_pairs S h (unmet_here S)) (b * word_count S.free + w) seen.met firsts 31
-  -- unless there is an unmet choice: which disequations of the second system some choice of this leaf misses, and which of the first
-  -- system's were met by such a choice of any leaf
+  -- unless there is an unmet choice: which disequations of the second system some choice of this leaf misses, and which
+  -- of the first system's were met by such a choice of any leaf
   pub here : search ≡ Unmet → T (not (bit seen.met 31)) → (j : ℕ) → j < get_or S.counts 3 0 → T (bit seen.possible j)
       → bit seen.here j ≡ some_below (64 * w) (allowed_in S (Missed j) (leaf_values S h b))
   pub marks : search ≡ Unmet → T (not (bit seen.met 31)) → (j : ℕ) → j < get_or S.counts 3 0 → T (bit seen.possible j)
-      → (i : ℕ) → i < get_or S.counts 1 0 → bit (get_or rows (64 + j) 0) i ≡ some_below (64 * (b * word_count S.free + w)) (on_pairs S h (meets_here S (Missed j) i))
+      → (i : ℕ) → i < get_or S.counts 1 0 → bit (get_or rows (64 + j) 0) i
+      ≡ some_below (64 * (b * word_count S.free + w)) (on_pairs S h (meets_here S (Missed j) i))
   pub settled : search ≡ Unmet → Settled S seen rows
 
--- what the second system says of one word, whose choices the first system allows: the search for an unmet choice has seen it and, unless there is one, each
--- disequation of the second that is possible has its bit and its mark for it
-pub record Second (S : Stored) (values : ℕ) (at : Allowed) (seen : Seen) (firsts : List Passing) (rows : List ℕ) (seen' : Seen) (firsts' : List Passing) (rows' : List ℕ) : Type 0 where
-  pub unmet : (p : ℕ → Bool) → WordOf (λ i. unmet_here S values (64 * at.word + i)) p at.turn → Entry p at.turn seen.met firsts 31
+-- what the second system says of one word, whose choices the first system allows: the search for an unmet choice has
+-- seen it and, unless there is one, each disequation of the second that is possible has its bit and its mark for it
+pub record Second (S : Stored) (values : ℕ) (at : Allowed) (seen : Seen) (firsts : List Passing) (rows : List ℕ)
+    (seen' : Seen) (firsts' : List Passing) (rows' : List ℕ) : Type 0 where
+  pub unmet : (p : ℕ → Bool) → WordOf (λ i. unmet_here S values (64 * at.word + i)) p at.turn
+      → Entry p at.turn seen.met firsts 31
       → Entry p (at.turn + 1) seen'.met firsts' 31
   pub stays : T (not (bit seen'.met 31)) → T (not (bit seen.met 31))
   pub here : T (not (bit seen'.met 31)) → (j : ℕ) → j < get_or S.counts 3 0 → T (bit seen.possible j)
       → bit seen'.here j ≡ (bit seen.here j || some_below 64 (λ i. allowed_in S (Missed j) values (64 * at.word + i)))
-  pub marks : T (not (bit seen'.met 31)) → (j : ℕ) → j < get_or S.counts 3 0 → T (bit seen.possible j) → (i : ℕ) → i < get_or S.counts 1 0
-      → bit (get_or rows' (64 + j) 0) i ≡ (bit (get_or rows (64 + j) 0) i || some_below 64 (λ k. meets_here S (Missed j) i values (64 * at.word + k)))
+  pub marks : T (not (bit seen'.met 31)) → (j : ℕ) → j < get_or S.counts 3 0 → T (bit seen.possible j) → (i : ℕ)
+      → i < get_or S.counts 1 0
+      → bit (get_or rows' (64 + j) 0) i
+      ≡ (bit (get_or rows (64 + j) 0) i || some_below 64 (λ k. meets_here S (Missed j) i values (64 * at.word + k)))
   pub settled : Settled S seen' rows'

@@ -1,4 +1,5 @@
--- Laws of the tests at a leaf: only the digits of the free variables count, and the words of a table of terms have them. Assumes nothing.
+-- Laws of the tests at a leaf: only the digits of the free variables count, and the words of a table of terms have
+-- them. Assumes nothing.
 use Rattle.std.specs.Prelude.{◌≡◌, Bool, ◌&&◌, List, ℕ, ◌+◌, ◌*◌, ◌%◌, ◌^◌, ◌≤◌, ◌<◌, get_or}
 use Rattle.std.proofs.Common.{sym, ap₂, ◌∙◌, arith}
 use Rattle.std.proofs.Math.Path.{ap}
@@ -44,13 +45,16 @@ differs_periodic S values j = low_periodic S.free (some_own S.free S.own _)
 pub allowed_periodic : (S : Stored) (search : Search) (values : ℕ) → Periodic S.free (allowed_in S search values)
 allowed_periodic S First values = first_periodic S values
 allowed_periodic S Unmet values = first_periodic S values
-allowed_periodic S (Missed j) values = λ z. ap₂ (λ x y. x && not y) (first_periodic S values z) (differs_periodic S values j z)
+allowed_periodic S (Missed j) values =
+    λ z. ap₂ (λ x y. x && not y) (first_periodic S values z) (differs_periodic S values j z)
 
 -- so the bits of a word whose numbers have the same low digits are equal
-pub word_free : (n w x : ℕ) (p : ℕ → Bool) → w < word_count n → Periodic n p → ((i : ℕ) → i < 64 → bit x i ≡ p (64 * w + i)) → SameFree n x
+pub word_free : (n w x : ℕ) (p : ℕ → Bool) → w < word_count n → Periodic n p
+    → ((i : ℕ) → i < 64 → bit x i ≡ p (64 * w + i)) → SameFree n x
 word_free n w x p l periodic bits i j hi hj e =
     bits i hi ∙ periodic (64 * w + i)
-    ∙ ap p ((same_free n w w j i l hj hi).1 (native.Mathlib.Nat.mod-eq_of_lt l, e)) ∙ sym (periodic (64 * w + j)) ∙ sym (bits j hj)
+    ∙ ap p ((same_free n w w j i l hj hi).1 (native.Mathlib.Nat.mod-eq_of_lt l, e)) ∙ sym (periodic (64 * w + j))
+    ∙ sym (bits j hj)
 
 -- ---- the first system's clauses read no own variable
 
@@ -62,27 +66,33 @@ free_same n m values z t l =
 fixed_same : (n m values z t : ℕ) → n + m ≤ 12 → 12 ≤ t → term_value n m values z t ≡ term_value n 0 values z t
 fixed_same n m values z t h l = value_fixed n m n 0 values z z t (omega arith) (omega arith)
 
-module _ (sizes : Sizes) (clauses constants : List ℕ) (R : Readable clauses sizes.counts sizes.free sizes.own) (values w : ℕ) (terms : List ℕ)
+module _ (sizes : Sizes) (clauses constants : List ℕ) (R : Readable clauses sizes.counts sizes.free sizes.own)
+    (values w : ℕ) (terms : List ℕ)
     (table : Terms sizes.free sizes.own values w terms) where
   -- the word of its positive clauses
   pub first_bits : (i : ℕ) → i < 64
-      → all_clauses clauses (λ t. bit (get_or terms t 0) i) 0 (get_or sizes.counts 0 0) ≡ first_meets (stored_by sizes clauses constants) values (64 * w + i)
+      → all_clauses clauses (λ t. bit (get_or terms t 0) i) 0 (get_or sizes.counts 0 0)
+      ≡ first_meets (stored_by sizes clauses constants) values (64 * w + i)
   unfolding all_pass all_clauses
   first_bits i l =
       table_section sizes.free sizes.own values w terms clauses table 0 (get_or sizes.counts 0 0) R.first_positive i l
       ∙ every_ext (get_or sizes.counts 0 0) _ _ (λ k m.
-      R.positive_free k m (term_value sizes.free sizes.own values (64 * w + i)) (term_value sizes.free 0 values (64 * w + i))
+      R.positive_free k m (term_value sizes.free sizes.own values (64 * w + i))
+      (term_value sizes.free 0 values (64 * w + i))
       (λ t. free_same sizes.free sizes.own values (64 * w + i) t)
       (λ t. fixed_same sizes.free sizes.own values (64 * w + i) t R.variables))
 
   -- the word of its disequation j
   pub differs_bits : (j : ℕ) → j < get_or sizes.counts 1 0 → (i : ℕ) → i < 64
-      → not (clause_test clauses (λ t. bit (get_or terms t 0) i) (256 + 4 * j)) ≡ first_differs (stored_by sizes clauses constants) values j (64 * w + i)
+      → not (clause_test clauses (λ t. bit (get_or terms t 0) i) (256 + 4 * j))
+      ≡ first_differs (stored_by sizes clauses constants) values j (64 * w + i)
   unfolding clause_fails
   differs_bits j k i l =
       ap not
-      (table_clause sizes.free sizes.own values w terms clauses table (256 + 4 * j) (clauses_at R.first_disequation j k) i l
-      ∙ R.disequation_free j k (term_value sizes.free sizes.own values (64 * w + i)) (term_value sizes.free 0 values (64 * w + i))
+      (table_clause sizes.free sizes.own values w terms clauses table (256 + 4 * j) (clauses_at R.first_disequation j k)
+      i l
+      ∙ R.disequation_free j k (term_value sizes.free sizes.own values (64 * w + i))
+      (term_value sizes.free 0 values (64 * w + i))
       (λ t. free_same sizes.free sizes.own values (64 * w + i) t)
       (λ t. fixed_same sizes.free sizes.own values (64 * w + i) t R.variables))
 

@@ -20,16 +20,20 @@ first_differs S values j x = clause_fails S.clauses (256 + 4 * j) S.free 0 value
 
 -- beside x some own choice meets the second system's positive clauses
 abbrev pub second_meets : Stored → ℕ → ℕ → Bool
-second_meets S values x = some_own S.free S.own (all_pass S.clauses 384 (get_or S.counts 2 0) S.free S.own values) (x % 2 ^ S.free)
+second_meets S values x = some_own S.free S.own (all_pass S.clauses 384 (get_or S.counts 2 0) S.free S.own values)
+    (x % 2 ^ S.free)
 
 -- and its disequation j
 abbrev pub second_differs : Stored → ℕ → ℕ → ℕ → Bool
 second_differs S values j x =
-    some_own S.free S.own (all_pass_but S.clauses 384 (get_or S.counts 2 0) (640 + 4 * j) S.free S.own values) (x % 2 ^ S.free)
+    some_own S.free S.own (all_pass_but S.clauses 384 (get_or S.counts 2 0) (640 + 4 * j) S.free S.own values)
+    (x % 2 ^ S.free)
 
--- disequation e of a search holds in choice z: the first `extra` ones say that z is not in the set `other`, the rest are the stored ones
+-- disequation e of a search holds in choice z: the first `extra` ones say that z is not in the set `other`, the rest
+-- are the stored ones
 unfoldable pub special_in : List ℕ → ℕ → ℕ → (ℕ → Bool) → ℕ → ℕ → ℕ → Bool
-special_in clauses n values other extra e z = cond (ltb e extra) (not (other z)) (clause_fails clauses (256 + 4 * (e - extra)) n 0 values z)
+special_in clauses n values other extra e z =
+    cond (ltb e extra) (not (other z)) (clause_fails clauses (256 + 4 * (e - extra)) n 0 values z)
 
 -- how many disequations a search has before the stored ones
 abbrev pub extra_of : Search → ℕ
@@ -37,7 +41,8 @@ extra_of First = 0
 extra_of Unmet = 1
 extra_of (Missed j) = 0
 
--- how many sub-leaves a leaf has room for, where the first system has d disequations: `needed` of the kind of question that it serves
+-- how many sub-leaves a leaf has room for, where the first system has d disequations: `needed` of the kind of question
+-- that it serves
 abbrev pub room_of : Search → ℕ → ℕ
 room_of First d = d
 room_of Unmet d = d + 1

@@ -28,7 +28,8 @@ pub enum Search {
 // What a pass has seen.
 #[derive(Clone, Copy)]
 pub struct Seen {
-    // which searches have found a choice: bit i for disequation i of the first system, bit 31 for an unmet choice, bit 32 for the least of this leaf
+    // which searches have found a choice: bit i for disequation i of the first system, bit 31 for an unmet choice, bit
+    // 32 for the least of this leaf
     pub met: u64,
     // which disequations of the second system every leaf so far has a choice that misses
     pub possible: u64,
@@ -54,7 +55,8 @@ pub struct Allowed {
     pub choices: u64,
 }
 
-// Of the choices x of word w those beside which no own choice meets the second system's positive clauses and its disequation j.
+// Of the choices x of word w those beside which no own choice meets the second system's positive clauses and its
+// disequation j.
 fn missed_word(
     question: &Searchable<'_>,
     terms: &mut [u64; 64],
@@ -63,8 +65,12 @@ fn missed_word(
     x: u64,
     rows: &mut [u64; 96],
 ) -> u64
-    requires { (w < word_count question.now.sizes.free) × (j < get_or question.now.sizes.counts 3 0) × SameFree question.now.sizes.free x }
-    ensures { (values : ℕ) → Terms question.now.sizes.free question.now.sizes.own values w terms.old → ((i : ℕ) → i < 64 → bit x i ≡ first_meets (posed question.now) values (64 * w + i)) → Terms question.now.sizes.free question.now.sizes.own values w terms.new × ((i : ℕ) → i < 64 → bit result i ≡ allowed_in (posed question.now) (Search.Missed j) values (64 * w + i)) }
+    requires { (w < word_count question.now.sizes.free) × (j < get_or question.now.sizes.counts 3 0)
+        × SameFree question.now.sizes.free x }
+    ensures { (values : ℕ) → Terms question.now.sizes.free question.now.sizes.own values w terms.old
+        → ((i : ℕ) → i < 64 → bit x i ≡ first_meets (posed question.now) values (64 * w + i))
+        → Terms question.now.sizes.free question.now.sizes.own values w terms.new
+        × ((i : ℕ) → i < 64 → bit result i ≡ allowed_in (posed question.now) (Search.Missed j) values (64 * w + i)) }
 {
     if x == 0 {
         return 0;
@@ -75,8 +81,11 @@ fn missed_word(
 
 // The choices of word w that the first system's positive clauses allow.
 fn first_word(question: &Searchable<'_>, terms: &[u64; 64], w: usize) -> u64
-    requires { (w < word_count question.now.sizes.free) × Tabled question.now.sizes.free question.now.sizes.own w terms.now }
-    ensures { SameFree question.now.sizes.free result × ((values : ℕ) → Terms question.now.sizes.free question.now.sizes.own values w terms.now → (i : ℕ) → i < 64 → bit result i ≡ first_meets (posed question.now) values (64 * w + i)) }
+    requires { (w < word_count question.now.sizes.free)
+        × Tabled question.now.sizes.free question.now.sizes.own w terms.now }
+    ensures { SameFree question.now.sizes.free result
+        × ((values : ℕ) → Terms question.now.sizes.free question.now.sizes.own values w terms.now → (i : ℕ) → i < 64
+        → bit result i ≡ first_meets (posed question.now) values (64 * w + i)) }
 {
     words::section_word(
         terms,
@@ -95,8 +104,11 @@ fn allowed_word(
     w: usize,
     rows: &mut [u64; 96],
 ) -> u64
-    requires { (w < word_count question.now.sizes.free) × Named question.now.sizes.counts search × Tabled question.now.sizes.free question.now.sizes.own w terms.old }
-    ensures by_index { (values : ℕ) → Terms question.now.sizes.free question.now.sizes.own values w terms.old → Terms question.now.sizes.free question.now.sizes.own values w terms.new × ((i : ℕ) → i < 64 → bit result i ≡ allowed_in (posed question.now) search values (64 * w + i)) }
+    requires { (w < word_count question.now.sizes.free) × Named question.now.sizes.counts search
+        × Tabled question.now.sizes.free question.now.sizes.own w terms.old }
+    ensures by_index { (values : ℕ) → Terms question.now.sizes.free question.now.sizes.own values w terms.old
+        → Terms question.now.sizes.free question.now.sizes.own values w terms.new
+        × ((i : ℕ) → i < 64 → bit result i ≡ allowed_in (posed question.now) search values (64 * w + i)) }
     ensures same_free { search ≡ Search.Unmet → (SameFree question.now.sizes.free result × (rows.new ≡ rows.old)) }
 {
     let x = first_word(question, terms, w);
@@ -116,8 +128,16 @@ fn second_word(
     rows: &mut [u64; 96],
 ) -> Seen
     requires { (at.word < word_count question.now.sizes.free) × SameFree question.now.sizes.free at.choices }
-    ensures by_index { (values : ℕ) → Terms question.now.sizes.free question.now.sizes.own values at.word terms.old → Terms question.now.sizes.free question.now.sizes.own values at.word terms.new × ((constants : List ℕ) → ((i : ℕ) → i < 64 → bit at.choices i ≡ first_meets (stored_by question.now.sizes question.now.clauses.now constants) values (64 * at.word + i)) → Settled (stored_by question.now.sizes question.now.clauses.now constants) seen rows.old → Second (stored_by question.now.sizes question.now.clauses.now constants) values at seen firsts.old rows.old result firsts.new rows.new) }
-    ensures possible_value { (result.possible ≡ seen.possible) × ((k : ℕ) → (k ≡ 31 → ⊥) → bit result.met k ≡ bit seen.met k) × ((k : ℕ) → (k ≡ 31 → ⊥) → number_at firsts.new k ≡ number_at firsts.old k) }
+    ensures by_index { (values : ℕ) → Terms question.now.sizes.free question.now.sizes.own values at.word terms.old
+        → Terms question.now.sizes.free question.now.sizes.own values at.word terms.new
+        × ((constants : List ℕ) → ((i : ℕ) → i < 64
+        → bit at.choices i ≡ first_meets (stored_by question.now.sizes question.now.clauses.now constants) values
+        (64 * at.word + i)) → Settled (stored_by question.now.sizes question.now.clauses.now constants) seen rows.old
+        → Second (stored_by question.now.sizes question.now.clauses.now constants) values at seen firsts.old rows.old
+        result firsts.new rows.new) }
+    ensures possible_value { (result.possible ≡ seen.possible)
+        × ((k : ℕ) → (k ≡ 31 → ⊥) → bit result.met k ≡ bit seen.met k)
+        × ((k : ℕ) → (k ≡ 31 → ⊥) → number_at firsts.new k ≡ number_at firsts.old k) }
 {
     if basics::digit(seen.met, 31) {
         return seen;
@@ -151,9 +171,17 @@ pub fn pass_word(
     firsts: &mut [Passing; FIRST_WORDS],
     rows: &mut [u64; 96],
 ) -> Seen
-    requires { Named question.now.sizes.counts spot.search × (spot.leaf < 64) × (spot.word < word_count question.now.sizes.free) × Tabled question.now.sizes.free question.now.sizes.own spot.word terms.old }
-    ensures by_index { (values : ℕ) → Terms question.now.sizes.free question.now.sizes.own values spot.word terms.old → Terms question.now.sizes.free question.now.sizes.own values spot.word terms.new }
-    ensures by_index_2 { (h : ℕ) (constants : List ℕ) → Terms question.now.sizes.free question.now.sizes.own (leaf_values (stored_by question.now.sizes question.now.clauses.now constants) h spot.leaf) spot.word terms.old → Amid (stored_by question.now.sizes question.now.clauses.now constants) h spot.search spot.leaf spot.word seen firsts.old rows.old → Amid (stored_by question.now.sizes question.now.clauses.now constants) h spot.search spot.leaf (spot.word + 1) result firsts.new rows.new }
+    requires { Named question.now.sizes.counts spot.search × (spot.leaf < 64)
+        × (spot.word < word_count question.now.sizes.free)
+        × Tabled question.now.sizes.free question.now.sizes.own spot.word terms.old }
+    ensures by_index { (values : ℕ) → Terms question.now.sizes.free question.now.sizes.own values spot.word terms.old
+        → Terms question.now.sizes.free question.now.sizes.own values spot.word terms.new }
+    ensures by_index_2 { (h : ℕ) (constants : List ℕ)
+        → Terms question.now.sizes.free question.now.sizes.own
+        (leaf_values (stored_by question.now.sizes question.now.clauses.now constants) h spot.leaf) spot.word terms.old
+        → Amid (stored_by question.now.sizes question.now.clauses.now constants) h spot.search spot.leaf spot.word seen
+        firsts.old rows.old → Amid (stored_by question.now.sizes question.now.clauses.now constants) h spot.search
+        spot.leaf (spot.word + 1) result firsts.new rows.new }
     ensures possible_value { result.possible ≡ seen.possible }
 {
     let search = spot.search;

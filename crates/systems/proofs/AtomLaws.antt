@@ -1,5 +1,5 @@
--- Terms and atoms at the leaves of trees: an atom holds exactly if its reading does, and that exactly if it does at every leaf, for every
--- height from h up. Assumes nothing.
+-- Terms and atoms at the leaves of trees: an atom holds exactly if its reading does, and that exactly if it does at
+-- every leaf, for every height from h up. Assumes nothing.
 use Rattle.std.specs.Prelude.{◌≡◌, Bool, true, false, not, ◌↔◌, T, length, get_or}
 use Rattle.std.proofs.Math.Path.{refl, sym}
 use Rattle.std.proofs.Common.{ap, ◌∙◌, le_trans}
@@ -20,11 +20,14 @@ use Rattle.shares.proofs.JoinLaws.{join_iff, join_defined_iff, join_empty_iff}
 use Rattle.shares.specs.Constant.{bit, number_tree}
 use Rattle.shares.proofs.ConstantLaws.{leaf_number}
 use Rattle.leaves.specs.Choices.{nil}
-use Rattle.systems.specs.Clauses.{Term, variable, constant, Atom, joined, equal, is_full, is_empty, together, negated, System, positives, disequations, disequation, Constants, constant_tree, Assignment, value_of, Holds, AllHold}
+use Rattle.systems.specs.Clauses.{Term, variable, constant, Atom, joined, equal, is_full, is_empty, together, negated}
+use Rattle.systems.specs.Clauses.{System, positives, disequations, disequation, Constants, constant_tree, Assignment}
+use Rattle.systems.specs.Clauses.{value_of, Holds, AllHold}
 use Rattle.systems.specs.Questions.{satisfiability, Question, Defined, InAtom, InSystem}
 use Rattle.systems.specs.Bounds.{Within}
 use Rattle.systems.specs.SystemLaws.{value_folded, InAtoms, in_positives, in_disequation}
-use Rattle.systems.specs.AtLeaves.{Part, of, always, LeafReading, joins_to, apart, read_as, term_at, reading_way, part_at, atom_way, atom_at, all_at, part_tree, tree_way, first_at}
+use Rattle.systems.specs.AtLeaves.{Part, of, always, LeafReading, joins_to, apart, read_as, term_at, reading_way}
+use Rattle.systems.specs.AtLeaves.{part_at, atom_way, atom_at, all_at, part_tree, tree_way, first_at}
 
 -- ---- an example, computed: full join full is undefined, so its negation holds
 
@@ -95,18 +98,21 @@ pub record Reads (n k : ℕ) (ρ : Assignment) (x : ℕ → ℕ → Bool) : Type
   pub bits : (i : ℕ) → i < 2 ^ k → (v : ℕ) → v < n → x i v ≡ leaf_at k (ρ v).tree i
 
 -- a constant of 2 ^ w leaves, no taller than h, at leaf b
-constant_at_lem : (w h m b : ℕ) → h ≤ w → height (number_tree w m) ≤ h → b < 2 ^ h → bit m (first_of h w b) ≡ leaf_at h (number_tree w m) b
+constant_at_lem : (w h m b : ℕ) → h ≤ w → height (number_tree w m) ≤ h → b < 2 ^ h
+    → bit m (first_of h w b) ≡ leaf_at h (number_tree w m) b
 constant_at_lem w h m b hw low l =
     sym (leaf_number w m (first_of h w b) (first_lt hw l))
     ∙ blocks h w (number_tree w m) (first_of h w b) low hw
     ∙ ap (leaf_at h (number_tree w m)) (block_first h w b)
 
-module _ (n h : ℕ) (cs : Constants) (hw : h ≤ cs.levels) (k : ℕ) (hk : h ≤ k) (ρ : Assignment) (x : ℕ → ℕ → Bool) (R : Reads n k ρ x) where
+module _ (n h : ℕ) (cs : Constants) (hw : h ≤ cs.levels) (k : ℕ) (hk : h ≤ k) (ρ : Assignment) (x : ℕ → ℕ
+    → Bool) (R : Reads n k ρ x) where
   term_low : (t : Term) → Good n h cs t → height (value_of cs ρ t) ≤ k
   term_low (variable v) g = R.low v g.0
   term_low (constant i) g = le_trans g.1 hk
 
-  term_at_lem : (t : Term) → Good n h cs t → (i : ℕ) → i < 2 ^ k → term_at h cs (block_of h k i) (x i) t ≡ leaf_at k (value_of cs ρ t) i
+  term_at_lem : (t : Term) → Good n h cs t → (i : ℕ) → i < 2 ^ k
+      → term_at h cs (block_of h k i) (x i) t ≡ leaf_at k (value_of cs ρ t) i
   unfolding term_at
   term_at_lem (variable v) g i l = R.bits i l v g.0
   term_at_lem (constant m) g i l =
@@ -124,7 +130,8 @@ module _ (n h : ℕ) (cs : Constants) (hw : h ≤ cs.levels) (k : ℕ) (hk : h �
   part_low (of t) g = term_low t g
   part_low (always b) g = zero-le
 
-  part_at_lem : (p : Part) → InPart (Good n h cs) p → (i : ℕ) → i < 2 ^ k → part_at h cs (block_of h k i) (x i) p ≡ leaf_at k (part_tree cs ρ p) i
+  part_at_lem : (p : Part) → InPart (Good n h cs) p → (i : ℕ) → i < 2 ^ k
+      → part_at h cs (block_of h k i) (x i) p ≡ leaf_at k (part_tree cs ρ p) i
   unfolding part_at
   part_at_lem (of t) g i l = term_at_lem t g i l
   part_at_lem (always b) g i l = sym (leaf_at_leaf k b i)
@@ -141,34 +148,40 @@ module _ (n h : ℕ) (cs : Constants) (hw : h ≤ cs.levels) (k : ℕ) (hk : h �
       → ReadingHolds cs ρ t ↔ ((i : ℕ) → i < 2 ^ k → reading_way (λ p. leaf_at k (part_tree cs ρ p) i) t ≡ way.Holds)
   unfolding reading_way
   reading_iff (joins_to u v w) g =
-      join_iff k (part_tree cs ρ u) (part_tree cs ρ v) (part_tree cs ρ w) (part_folded w) (part_low u g.0) (part_low v g.1) (part_low w g.2)
+      join_iff k (part_tree cs ρ u) (part_tree cs ρ v) (part_tree cs ρ w) (part_folded w) (part_low u g.0)
+      (part_low v g.1) (part_low w g.2)
   reading_iff (apart u v) g = join_defined_iff k (part_tree cs ρ u) (part_tree cs ρ v) (part_low u g.0) (part_low v g.1)
 
   -- an atom holds of trees exactly if its reading does
   reads_iff : (a : Atom) → Holds cs ρ a ↔ ReadingHolds cs ρ (read_as a)
   reads_iff (joined u v w) = Iff.rfl
-  reads_iff (equal u v) = Iff.symm (join_empty_iff (value_of cs ρ u) (value_of cs ρ v) (value_folded cs ρ u) (value_folded cs ρ v))
+  reads_iff (equal u v) = Iff.symm
+      (join_empty_iff (value_of cs ρ u) (value_of cs ρ v) (value_folded cs ρ u) (value_folded cs ρ v))
   reads_iff (is_full u) = Iff.symm (join_empty_iff (value_of cs ρ u) (leaf true) (value_folded cs ρ u) tt)
   reads_iff (is_empty u) = Iff.symm (join_empty_iff (value_of cs ρ u) (leaf false) (value_folded cs ρ u) tt)
   reads_iff (together u v) = Iff.rfl
 
   -- an atom comes out at a leaf as it does at that leaf of trees
-  pub atom_way_lem : (a : Atom) → InAtom (Good n h cs) a → (i : ℕ) → i < 2 ^ k → atom_way h cs (block_of h k i) (x i) a ≡ tree_way k cs ρ a i
+  pub atom_way_lem : (a : Atom) → InAtom (Good n h cs) a → (i : ℕ) → i < 2 ^ k
+      → atom_way h cs (block_of h k i) (x i) a ≡ tree_way k cs ρ a i
   atom_way_lem a g = reading_at_lem (read_as a) (in_reading (Good n h cs) a g)
 
   -- it holds exactly if it does at every leaf
-  pub atom_iff : (a : Atom) → InAtom (Good n h cs) a → Holds cs ρ a ↔ ((i : ℕ) → i < 2 ^ k → T (atom_at h cs (block_of h k i) (x i) a))
+  pub atom_iff : (a : Atom) → InAtom (Good n h cs) a
+      → Holds cs ρ a ↔ ((i : ℕ) → i < 2 ^ k → T (atom_at h cs (block_of h k i) (x i) a))
   atom_iff a g =
       let E = Iff.trans (reads_iff a) (reading_iff (read_as a) (in_reading (Good n h cs) a g)) in (
         λ e i l. (is_way_iff way.Holds _).1 (atom_way_lem a g i l ∙ E.0 e i l),
         λ f. E.1 (λ i l. sym (atom_way_lem a g i l) ∙ (is_way_iff way.Holds _).0 (f i l)),
       )
 
-  all_iff : (l : List Atom) → InAtoms (Good n h cs) l → AllHold cs ρ l ↔ ((i : ℕ) → i < 2 ^ k → T (all_at h cs (block_of h k i) (x i) l))
+  all_iff : (l : List Atom) → InAtoms (Good n h cs) l
+      → AllHold cs ρ l ↔ ((i : ℕ) → i < 2 ^ k → T (all_at h cs (block_of h k i) (x i) l))
   unfolding all_at
   all_iff [] g = (λ e i m. tt, λ f. tt)
   all_iff (a ∷ l) g = (
-    λ e i m. and_intro (atom_at h cs (block_of h k i) (x i) a) _ ((atom_iff a g.0).0 e.0 i m) ((all_iff l g.1).0 e.1 i m),
+    λ e i m. and_intro (atom_at h cs (block_of h k i) (x i) a) _ ((atom_iff a g.0).0 e.0 i m)
+        ((all_iff l g.1).0 e.1 i m),
     λ f. (
       (atom_iff a g.0).1 (λ i m. and_left (atom_at h cs (block_of h k i) (x i) a) _ (f i m)),
       (all_iff l g.1).1 (λ i m. and_right (atom_at h cs (block_of h k i) (x i) a) _ (f i m)),
@@ -177,12 +190,14 @@ module _ (n h : ℕ) (cs : Constants) (hw : h ≤ cs.levels) (k : ℕ) (hk : h �
 
   module _ (s : System) (g : InSystem (Good n h cs) s) where
     -- positive clauses hold exactly if they do at every leaf
-    pub positives_iff : AllHold cs ρ (positives s) ↔ ((i : ℕ) → i < 2 ^ k → T (all_at h cs (block_of h k i) (x i) (positives s)))
+    pub positives_iff : AllHold cs ρ (positives s) ↔ ((i : ℕ) → i < 2 ^ k
+        → T (all_at h cs (block_of h k i) (x i) (positives s)))
     positives_iff = all_iff (positives s) (in_positives (Good n h cs) s g)
 
     -- a disequation holds exactly if it does at one leaf
     pub disequation_iff : (j : ℕ) → j < length (disequations s)
-        → (¬ Holds cs ρ (disequation s j)) ↔ Below (2 ^ k) (λ i. not (atom_at h cs (block_of h k i) (x i) (disequation s j)))
+        → (¬ Holds cs ρ (disequation s j)) ↔ Below (2 ^ k)
+        (λ i. not (atom_at h cs (block_of h k i) (x i) (disequation s j)))
     disequation_iff j l =
         fails_iff (2 ^ k) (λ i. atom_at h cs (block_of h k i) (x i) (disequation s j))
         (atom_iff (disequation s j) (in_disequation (Good n h cs) s g j l))

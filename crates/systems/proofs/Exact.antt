@@ -1,4 +1,5 @@
--- The decision is right, of the solutions of every height and of those held to heights with room, and no other answer is. Assumes nothing.
+-- The decision is right, of the solutions of every height and of those held to heights with room, and no other answer
+-- is. Assumes nothing.
 use Rattle.std.specs.Prelude.{◌≡◌, refl, Bool, false, not, ◌↔◌, ℕ, suc, ◌≤◌, ◌<◌, ltb}
 use Rattle.std.proofs.Common.{sym, ◌∙◌, subst, le_trans, T_not, lt→ltb}
 use Rattle.std.proofs.Math.Path.{ap}
@@ -20,17 +21,25 @@ use Rattle.systems.specs.DecideExamples
 use Rattle.systems.specs.Clauses.{Assignment}
 use Rattle.systems.specs.Questions.{Kind, satisfiability, entailment, Question, WellFormed, first_count, second_count}
 use Rattle.systems.specs.Bounds.{Bounds}
-use Rattle.systems.specs.Solutions.{tallest, both, Solution, Extends, MeetsPositives, MeetsWith, Every, SomeNot, Entails}
-use Rattle.systems.specs.Answers.{Answer, satisfied, unsatisfied, vacuous, entailed, unmet, missed, kind_of, Says, Answers, needed}
+use Rattle.systems.specs.Solutions.{tallest, both, Solution, Extends, MeetsPositives, MeetsWith, Every, SomeNot}
+use Rattle.systems.specs.Solutions.{Entails}
+use Rattle.systems.specs.Answers.{Answer, satisfied, unsatisfied, vacuous, entailed, unmet, missed, kind_of, Says}
+use Rattle.systems.specs.Answers.{Answers, needed}
 use Rattle.systems.specs.SystemLaws.{parts}
 use Rattle.systems.specs.AtLeaves.{first_at, second_at}
 use Rattle.systems.proofs.AtomLaws.{Reads}
-use Rattle.systems.proofs.Link.{rows_at, rows_read, shares_read, shares_low, Read, read_any, first_iff, extension_iff, meets_iff, with_iff}
+use Rattle.systems.proofs.Link.{rows_at, rows_read, shares_read, shares_low, Read, read_any, first_iff, extension_iff}
+use Rattle.systems.proofs.Link.{meets_iff, with_iff}
 use Rattle.systems.specs.Decide.{can_solve, some_unmet, lowest_missed, decide_kind, decide_at, shares_of}
 
 -- what extends can meet the positive clauses, and have each disequation beside them
 pub extends_positives : (q : Question) (σ : Assignment) → Extends q σ → MeetsPositives q σ
-extends_positives q σ E = record { own = E.own; allowed = tt; holds = (parts q.constants (both q.free σ E.own) q.second E.holds).0 }
+extends_positives q σ E = record {
+  own = E.own;
+  allowed = tt;
+  holds =
+      (parts q.constants (both q.free σ E.own) q.second E.holds).0;
+}
 
 pub extends_with_lem : (q : Question) (σ : Assignment) (j : ℕ) → j < second_count q → Extends q σ → MeetsWith j q σ
 extends_with_lem q σ j l E =
@@ -87,7 +96,8 @@ module _ (h : ℕ) (q : Question) (F : WellFormed q) (B : Bounds h q) (A A' : �
       let L = to_leaves S in
       T_not (can_solve h q) t (cut_solvable (least q.free) h (first_at h q) L.height L.leaves L.solves)
 
-  some_unmet_lem : Room A' h (suc (first_count q)) → T (can_solve h q) → T (some_unmet h q) → SomeNot A q (MeetsPositives q)
+  some_unmet_lem : Room A' h (suc (first_count q)) → T (can_solve h q) → T (some_unmet h q)
+      → SomeNot A q (MeetsPositives q)
   some_unmet_lem r t u =
       some_not_from (MeetsPositives q) (positives_only (second_at h q)) (meets_iff h q F B)
       (can_be_unmet_lem (least q.free) (least q.own) h (first_at h q) (second_at h q) A' r t u)
@@ -97,24 +107,29 @@ module _ (h : ℕ) (q : Question) (F : WellFormed q) (B : Bounds h q) (A A' : �
       every_from (MeetsPositives q) (positives_only (second_at h q)) (meets_iff h q F B)
       (always_met (least q.free) (least q.own) h (first_at h q) (second_at h q) A' u)
 
-  some_missed_lem : Room A' h (first_count q) → (j : ℕ) → j < second_count q → T (some_missed h q j) → SomeNot A q (MeetsWith j q)
+  some_missed_lem : Room A' h (first_count q) → (j : ℕ) → j < second_count q → T (some_missed h q j)
+      → SomeNot A q (MeetsWith j q)
   some_missed_lem r j l t =
       some_not_from (MeetsWith j q) (only j (second_at h q)) (λ w hw σ s R. with_iff h q F B w hw σ s R j l)
       (can_be_missed_lem (least q.free) (least q.own) h (first_at h q) (second_at h q) A' r j t)
 
   -- each solution meets disequation j at the leaves, where none leaves the positive clauses unmet and none misses j
-  never_misses : T (not (some_unmet h q)) → (j : ℕ) → T (not (some_missed h q j)) → EntailsLeaves A' h (first_at h q) (only j (second_at h q))
+  never_misses : T (not (some_unmet h q)) → (j : ℕ) → T (not (some_missed h q j))
+      → EntailsLeaves A' h (first_at h q) (only j (second_at h q))
   never_misses u j t =
       never_missed (least q.free) (least q.own) h (first_at h q) (second_at h q) A' j t
       (always_met (least q.free) (least q.own) h (first_at h q) (second_at h q) A' u)
 
-  none_missed : T (not (some_unmet h q)) → (j : ℕ) → j < second_count q → T (not (some_missed h q j)) → Every A q (MeetsWith j q)
+  none_missed : T (not (some_unmet h q)) → (j : ℕ) → j < second_count q → T (not (some_missed h q j))
+      → Every A q (MeetsWith j q)
   none_missed u j l t =
-      every_from (MeetsWith j q) (only j (second_at h q)) (λ w hw σ s R. with_iff h q F B w hw σ s R j l) (never_misses u j t)
+      every_from (MeetsWith j q) (only j (second_at h q)) (λ w hw σ s R. with_iff h q F B w hw σ s R j l)
+      (never_misses u j t)
 
   all_extend : T (not (some_unmet h q)) → ((j : ℕ) → j < second_count q → T (not (some_missed h q j))) → Entails A q
   all_extend u f =
-      every_from (Extends q) (second_at h q) (λ w hw σ s R. extension_iff h q F B w hw σ s R any_height any_height (read_any w))
+      every_from (Extends q) (second_at h q)
+      (λ w hw σ s R. extension_iff h q F B w hw σ s R any_height any_height (read_any w))
       (λ S. one_at_a_time (least q.own) h (second_at h q) S.height S.leaves S.solves.tall
       (always_met (least q.free) (least q.own) h (first_at h q) (second_at h q) A' u S)
       (λ j l. never_misses u j (f j l) S))
@@ -157,16 +172,21 @@ module _ (h : ℕ) (q : Question) (F : WellFormed q) (B : Bounds h q) (A A' : �
 
   -- ---- and whatever answer says what is so is the decision
 
-  says_only : (a : Answer) → Room A' h (needed (kind_of a) (first_count q)) → Says A q a → decide_kind h q (kind_of a) ≡ a
+  says_only : (a : Answer) → Room A' h (needed (kind_of a) (first_count q)) → Says A q a
+      → decide_kind h q (kind_of a) ≡ a
   unfolding decide_kind
-  says_only satisfied r S = cond_law (λ x. x ≡ satisfied) (can_solve h q) _ _ (λ t. refl) (λ t. absurd (cannot_solve t S))
-  says_only unsatisfied r n = cond_law (λ x. x ≡ unsatisfied) (can_solve h q) _ _ (λ t. absurd (n (can_solve_lem r t))) (λ t. refl)
+  says_only satisfied r S = cond_law (λ x. x ≡ satisfied) (can_solve h q) _ _ (λ t. refl)
+      (λ t. absurd (cannot_solve t S))
+  says_only unsatisfied r n = cond_law (λ x. x ≡ unsatisfied) (can_solve h q) _ _ (λ t. absurd (n (can_solve_lem r t)))
+      (λ t. refl)
   says_only vacuous r n =
-      cond_law (λ x. x ≡ vacuous) (can_solve h q) _ _ (λ t. absurd (n (can_solve_lem (room_less (omega arith) r) t))) (λ t. refl)
+      cond_law (λ x. x ≡ vacuous) (can_solve h q) _ _ (λ t. absurd (n (can_solve_lem (room_less (omega arith) r) t)))
+      (λ t. refl)
   says_only entailed r (S, E) =
       cond_law (λ x. x ≡ entailed) (can_solve h q) _ _
       (λ t. cond_law (λ x. x ≡ entailed) (some_unmet h q) _ _
-      (λ u. let (N, n) = some_unmet_lem (room_less (omega arith) r) t u in absurd (n (extends_positives q N.values (E N))))
+      (λ u. let (N, n) = some_unmet_lem (room_less (omega arith) r) t u in
+      absurd (n (extends_positives q N.values (E N))))
       (λ u. cond_law (λ x. x ≡ entailed) (ltb (lowest_missed h q) (second_count q)) _ _
       (λ v.
       let l = ltb→lt (lowest_missed h q) (second_count q) v in
@@ -199,17 +219,20 @@ module _ (h : ℕ) (q : Question) (F : WellFormed q) (B : Bounds h q) (A A' : �
 -- the decision has the question's kind
 pub decide_kind_lem : (h : ℕ) (q : Question) (k : Kind) → kind_of (decide_kind h q k) ≡ k
 unfolding decide_kind
-decide_kind_lem h q satisfiability = cond_law (λ a. kind_of a ≡ satisfiability) (can_solve h q) _ _ (λ t. refl) (λ t. refl)
+decide_kind_lem h q satisfiability =
+    cond_law (λ a. kind_of a ≡ satisfiability) (can_solve h q) _ _ (λ t. refl) (λ t. refl)
 decide_kind_lem h q entailment =
     cond_law (λ a. kind_of a ≡ entailment) (can_solve h q) _ _
     (λ t. cond_law (λ a. kind_of a ≡ entailment) (some_unmet h q) _ _ (λ u. refl)
-    (λ u. cond_law (λ a. kind_of a ≡ entailment) (ltb (lowest_missed h q) (second_count q)) _ _ (λ v. refl) (λ v. refl)))
+    (λ u. cond_law (λ a. kind_of a ≡ entailment) (ltb (lowest_missed h q) (second_count q)) _ _ (λ v. refl)
+    (λ v. refl)))
     (λ t. refl)
 
 -- the decision is the right answer, and the only one, where the heights A have room
 module _ (h : ℕ) (q : Question) (F : WellFormed q) (B : Bounds h q) (A A' : ℕ → Type 0) (R : Read h A A') where
   pub answers_iff : Room A' h (needed q.kind (first_count q)) → (a : Answer) → Answers A q a ↔ (decide_at h q ≡ a)
   answers_iff r a = (
-    λ (k, s). subst (λ k. Room A' h (needed k (first_count q)) → decide_kind h q k ≡ a) k (λ r. says_only h q F B A A' R a r s) r,
+    λ (k, s). subst (λ k. Room A' h (needed k (first_count q)) → decide_kind h q k ≡ a) k
+        (λ r. says_only h q F B A A' R a r s) r,
     λ e. (ap kind_of (sym e) ∙ decide_kind_lem h q q.kind, subst (Says A q) e (says_right h q F B A A' R q.kind r)),
   )

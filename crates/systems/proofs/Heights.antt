@@ -1,6 +1,8 @@
 -- The rule of heights holds of every well-formed question, and so does exactness. Assumes nothing.
-use Rattle.std.specs.Prelude.{◌≡◌, refl, Bool, false, ◌↔◌, ◌⊎◌, List, [], ◌∷◌, ℕ, zero, suc, ◌+◌, ◌^◌, ◌≤◌, ◌<◌, max, T, length, get_or}
-use Rattle.std.proofs.Common.{sym, subst, inl, inr, le_refl, le_trans, le-add_right, not-suc-le-zero, le_of_suc-le-suc, arith}
+use Rattle.std.specs.Prelude.{◌≡◌, refl, Bool, false, ◌↔◌, ◌⊎◌, List, [], ◌∷◌, ℕ, zero, suc, ◌+◌, ◌^◌, ◌≤◌, ◌<◌, max, T}
+use Rattle.std.specs.Prelude.{length, get_or}
+use Rattle.std.proofs.Common.{sym, subst, inl, inr, le_refl, le_trans, le-add_right, not-suc-le-zero, le_of_suc-le-suc}
+use Rattle.std.proofs.Common.{arith}
 use Rattle.std.proofs.Math.Logic.Iff
 use Rattle.std.proofs.Math.Nat.{le-max_left, le-max_right, max-le}
 use Rattle.shares.specs.Tree.{height}
@@ -15,18 +17,24 @@ use Rattle.leaves.proofs.ProblemLaws.{cut_solvable, fixed_solves as solves-leave
 use Rattle.leaves.specs.Fixed.{fixed_at}
 use Rattle.leaves.proofs.SecondLaws.{extension_room, unmet_first, unmet_counter, missed_first, missed_counter}
 use Rattle.systems.specs.Clauses.{Term, variable, constant, Constants, constant_tree, Assignment}
-use Rattle.systems.specs.Questions.{Kind, satisfiability, entailment, Question, Defined, WellFormed, named_in, named_by, is_among, question_height, tallest_constant, height_of_all, first_count, second_count}
+use Rattle.systems.specs.Questions.{Kind, satisfiability, entailment, Question, Defined, WellFormed, named_in, named_by}
+use Rattle.systems.specs.Questions.{is_among, question_height, tallest_constant, height_of_all, first_count}
+use Rattle.systems.specs.Questions.{second_count}
 use Rattle.systems.specs.Bounds.{Within, Bounds}
-use Rattle.systems.specs.Solutions.{tallest, height_of, SolvesFirst, Solution, Extends, ExtendsBy, MeetsPositives, MeetsWith, SomeNot, Entails}
-use Rattle.systems.specs.Answers.{Answer, satisfied, unsatisfied, vacuous, entailed, unmet, missed, kind_of, Says, Answers, Yes, verdict, needed, shows, Fails, Shown}
+use Rattle.systems.specs.Solutions.{tallest, height_of, SolvesFirst, Solution, Extends, ExtendsBy, MeetsPositives}
+use Rattle.systems.specs.Solutions.{MeetsWith, SomeNot, Entails}
+use Rattle.systems.specs.Answers.{Answer, satisfied, unsatisfied, vacuous, entailed, unmet, missed, kind_of, Says}
+use Rattle.systems.specs.Answers.{Answers, Yes, verdict, needed, shows, Fails, Shown}
 use Rattle.systems.specs.SystemLaws.{in_system}
 use Rattle.systems.specs.NamedLaws.{among_left, among_right, among_low, among_least, system_named}
 use Rattle.systems.specs.AtLeaves.{first_at, second_at}
 use Rattle.systems.proofs.AtomLaws.{Reads}
 use Rattle.systems.specs.Decide.{can_solve, decide_kind, decide_at, decide, fixed, asked_for, shown_with, shown_at}
 use Rattle.systems.proofs.ShownLaws.{asked_solvable}
-use Rattle.systems.proofs.Link.{rows_read, shares_read, shares_low, Read, read_any, read_most, first_iff, extension_iff, meets_iff, with_iff}
-use Rattle.systems.proofs.Exact.{extends_positives, extends_with_lem, to_leaves, from_leaves, says_right, decide_kind_lem, answers_iff}
+use Rattle.systems.proofs.Link.{rows_read, shares_read, shares_low, Read, read_any, read_most, first_iff, extension_iff}
+use Rattle.systems.proofs.Link.{meets_iff, with_iff}
+use Rattle.systems.proofs.Exact.{extends_positives, extends_with_lem, to_leaves, from_leaves, says_right}
+use Rattle.systems.proofs.Exact.{decide_kind_lem, answers_iff}
 use Rattle.systems.specs.HeightRule.{HeightRule}
 
 -- ---- the tallest constant that is named bounds every one that is named
@@ -43,7 +51,8 @@ question_bounds q F = record {
 
 -- so does the tallest of all
 
-constant_low : (k : ℕ) (l : List ℕ) (i : ℕ) → i < length l → height (number_tree k (get_or l i 0)) ≤ tallest_constant k l
+constant_low : (k : ℕ) (l : List ℕ) (i : ℕ) → i < length l
+    → height (number_tree k (get_or l i 0)) ≤ tallest_constant k l
 unfolding tallest_constant
 constant_low k [] i u = absurd (not-suc-le-zero u)
 constant_low k (n ∷ l) zero u = omega arith
@@ -139,11 +148,13 @@ module _ (h : ℕ) (q : Question) (F : WellFormed q) (B : Bounds h q) where
     λ S.
         let L = to_leaves h q F B any_height any_height (read_any h) S in
         let t = cut_solvable (least q.free) h (first_at h q) L.height L.leaves L.solves in
-        from_leaves h q F B _ _ (read_from (first_count q) l) (solution_glued (least q.free) h (first_at h q) _ (room_at l) t),
+        from_leaves h q F B _ _ (read_from (first_count q) l)
+        (solution_glued (least q.free) h (first_at h q) _ (room_at l) t),
     raise,
   )
 
-  refutation_rule : (k : ℕ) → h + c (first_count q + 1) ≤ k → (¬ Entails any_height q) ↔ SomeNot (at_most k) q (Extends q)
+  refutation_rule : (k : ℕ) → h + c (first_count q + 1) ≤ k
+      → (¬ Entails any_height q) ↔ SomeNot (at_most k) q (Extends q)
   unfolding raise
   refutation_rule k l = (λ n. go n (verdict_or a), λ (S, n) E. n (E (raise S)))
     where
@@ -156,13 +167,15 @@ module _ (h : ℕ) (q : Question) (F : WellFormed q) (B : Bounds h q) where
       go : ¬ Entails any_height q → (verdict a ≡ 1) ⊎ (verdict a ≡ 2) → SomeNot (at_most k) q (Extends q)
       go n (inl e) =
           absurd (n (subst (λ k. Yes any_height k q) kind
-          (yes_means any_height q a (says_right h q F B any_height any_height (read_any h) entailment (room_any h _)) e)))
+          (yes_means any_height q a (says_right h q F B any_height any_height (read_any h) entailment (room_any h _))
+          e)))
       go n (inr e) =
           subst (λ a. No (at_most k) a q) kind
           (no_means _ q a (says_right h q F B _ _ (read_from (first_count q + 1) l) entailment (room_at l)) e)
 
   -- any assignment that extends, extends so
-  extension_rule : (σ : Assignment) → Extends q σ → (k : ℕ) → max (height_of q σ) h + c (second_count q) ≤ k → ExtendsBy (at_most k) q σ
+  extension_rule : (σ : Assignment) → Extends q σ → (k : ℕ) → max (height_of q σ) h + c (second_count q) ≤ k
+      → ExtendsBy (at_most k) q σ
   extension_rule σ E k m =
       let w = max (tallest q.free σ) h in
       let l = le-max_right (tallest q.free σ) h in
@@ -171,7 +184,8 @@ module _ (h : ℕ) (q : Question) (F : WellFormed q) (B : Bounds h q) where
       (extension_room (least q.own) h (second_at h q) w _ l any_height (exactly k) (room_at m)
       ((extension_iff h q F B w l σ _ r any_height any_height (read_any w)).0 E))
 
-  held_rule : (k : ℕ) → h + c (needed q.kind (first_count q)) ≤ k → (a : Answer) → Answers (at_most k) q a ↔ Answers any_height q a
+  held_rule : (k : ℕ) → h + c (needed q.kind (first_count q)) ≤ k → (a : Answer)
+      → Answers (at_most k) q a ↔ Answers any_height q a
   held_rule k l a =
       Iff.trans
       (answers_iff h q F B (at_most k) (exactly k) (read_from (needed q.kind (first_count q)) l) (room_at l) a)
@@ -179,7 +193,8 @@ module _ (h : ℕ) (q : Question) (F : WellFormed q) (B : Bounds h q) where
 
   -- ---- the solution that is shown
 
-  module _ (P : Problem (Row Bool q.free)) (k : ℕ) (S : SolvesLeaves h (first_at h q) (h + k) (fixed_at (least q.free) h P (h + k))) where
+  module _ (P : Problem (Row Bool q.free)) (k : ℕ)
+      (S : SolvesLeaves h (first_at h q) (h + k) (fixed_at (least q.free) h P (h + k))) where
     fixed_reads : Reads q.free (h + k) (fixed h q P (h + k)) (λ i. at false (fixed_at (least q.free) h P (h + k) i))
     fixed_reads = shares_read q.free (h + k) _
 
@@ -192,7 +207,12 @@ module _ (h : ℕ) (q : Question) (F : WellFormed q) (B : Bounds h q) where
   shown_satisfied : T (can_solve h q) → Shown h q satisfied (shown_with h q satisfied)
   shown_satisfied t =
       let S = solves-leaves (least q.free) h (first_at h q) t (c (first_count q)) (c_enough (first_count q)) in
-      record { solves = fixed_solves (first_at h q) (c (first_count q)) S; low = omega (arith, fixed_low (first_at h q) (c (first_count q)) S); fails = tt }
+      record {
+        solves = fixed_solves (first_at h q) (c (first_count q)) S;
+        low =
+            omega (arith, fixed_low (first_at h q) (c (first_count q)) S);
+        fails = tt;
+      }
 
   -- room for one more than the disequations
   room_more : suc (first_count q) ≤ 2 ^ c (first_count q + 1)
@@ -226,9 +246,11 @@ module _ (h : ℕ) (q : Question) (F : WellFormed q) (B : Bounds h q) where
       }
 
   shown_rule : T (shows (decide_at h q)) → Shown h q (decide_at h q) (shown_at h q)
-  shown_rule t = go (decide_at h q) t (asked_solvable h q t) (says_right h q F B any_height any_height (read_any h) q.kind (room_any h _))
+  shown_rule t = go (decide_at h q) t (asked_solvable h q t)
+      (says_right h q F B any_height any_height (read_any h) q.kind (room_any h _))
     where
-      go : (a : Answer) → T (shows a) → T (solvable (least q.free) h (asked_for h q a)) → Says any_height q a → Shown h q a (shown_with h q a)
+      go : (a : Answer) → T (shows a) → T (solvable (least q.free) h (asked_for h q a)) → Says any_height q a
+          → Shown h q a (shown_with h q a)
       go satisfied f u s = shown_satisfied u
       go unsatisfied f u s = absurd f
       go vacuous f u s = absurd f
@@ -272,7 +294,10 @@ decide_by_all q F = decide_same q F (height_of_all q) (all_bounds q F)
 -- yes exactly where the answer is yes, no exactly where it is not
 pub verdict_exact : (q : Question) → WellFormed q
     → ((verdict (decide q) ≡ 1) ↔ Yes any_height q.kind q) × ((verdict (decide q) ≡ 2) ↔ (¬ Yes any_height q.kind q))
-verdict_exact q F = ((yes, λ y. first y (verdict_or (decide q))), (λ e. no_yes any_height q.kind q (no e), λ n. second n (verdict_or (decide q))))
+verdict_exact q F = (
+  (yes, λ y. first y (verdict_or (decide q))),
+  (λ e. no_yes any_height q.kind q (no e), λ n. second n (verdict_or (decide q))),
+)
   where
     a : Answers any_height q (decide q)
     a = (exact q F (decide q)).1 refl

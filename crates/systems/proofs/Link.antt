@@ -1,14 +1,17 @@
--- Leaf by leaf: shares no taller than k are rows of leaves, and solutions and extensions by trees are those of the problems at the
--- leaves, for every height from h up. Assumes nothing.
-use Rattle.std.specs.Prelude.{◌≡◌, refl, Bool, true, false, cond, [], ◌∷◌, ◌↔◌, ◌⊎◌, ℕ, zero, suc, ◌+◌, ◌-◌, ◌^◌, ◌≤◌, ◌<◌, max, T, ltb}
-use Rattle.std.proofs.Common.{sym, ◌∙◌, inl, inr, zero-le, le_trans, not-suc-le-zero, le_of_suc-le-suc, eq-or-lt_of_le, arith, ltb→lt, nltb→le, lit<}
+-- Leaf by leaf: shares no taller than k are rows of leaves, and solutions and extensions by trees are those of the
+-- problems at the leaves, for every height from h up. Assumes nothing.
+use Rattle.std.specs.Prelude.{◌≡◌, refl, Bool, true, false, cond, [], ◌∷◌, ◌↔◌, ◌⊎◌, ℕ, zero, suc, ◌+◌, ◌-◌, ◌^◌, ◌≤◌}
+use Rattle.std.specs.Prelude.{◌<◌, max, T, ltb}
+use Rattle.std.proofs.Common.{sym, ◌∙◌, inl, inr, zero-le, le_trans, not-suc-le-zero, le_of_suc-le-suc, eq-or-lt_of_le}
+use Rattle.std.proofs.Common.{arith, ltb→lt, nltb→le, lit<}
 use Rattle.std.proofs.Math.Nat.{le-max_left, le-max_right, max-le}
 use Rattle.shares.specs.Test.{of_true, of_false}
 use Rattle.shares.specs.Below.{every_below}
 use Rattle.shares.specs.BelowLaws.{Below}
 use Rattle.shares.specs.Blocks.{block_of}
 use Rattle.shares.specs.BlockLaws.{block_lt}
-use Rattle.shares.specs.Tree.{leaf, pair, twins, fold, Share, height, half, full, leaf_at, tree_of, join_leaf, tree_if, join_at, join}
+use Rattle.shares.specs.Tree.{leaf, pair, twins, fold, Share, height, half, full, leaf_at, tree_of, join_leaf, tree_if}
+use Rattle.shares.specs.Tree.{join_at, join}
 use Rattle.shares.proofs.TreeLaws.{share_path, tree_of_height, tree_of_ext, tree_of_leaf_at, leaf_at_tree_of, blocks}
 use Rattle.leaves.specs.Heights.{any_height, at_most, exactly}
 use Rattle.leaves.specs.Choices.{Row, at, table}
@@ -19,7 +22,8 @@ use Rattle.leaves.specs.LeafExtensions.{ExtendsLeaves, LeafExtension, positives_
 use Rattle.systems.specs.Clauses.{variable, joined, positive, Assignment, positives, disequation, AllHold, Holds}
 use Rattle.systems.specs.Questions.{entailment, Question, Defined, InSystem, WellFormed, second_count}
 use Rattle.systems.specs.Bounds.{Within, Bounds}
-use Rattle.systems.specs.Solutions.{tallest, height_of, SolvesFirst, both, Beside, ExtendsBy, Extends, MeetsPositives, MeetsWith}
+use Rattle.systems.specs.Solutions.{tallest, height_of, SolvesFirst, both, Beside, ExtendsBy, Extends, MeetsPositives}
+use Rattle.systems.specs.Solutions.{MeetsWith}
 use Rattle.systems.specs.SystemLaws.{parts, whole, in_system}
 use Rattle.systems.specs.AtLeaves.{both_at, first_at, second_at}
 use Rattle.systems.proofs.AtomLaws.{Good, Reads, positives_iff, disequation_iff}
@@ -74,11 +78,19 @@ rows_at n k σ i = table n (λ v. leaf_at k (σ v).tree i)
 
 pub rows_read : (n k : ℕ) (σ : Assignment) → tallest n σ ≤ k → Reads n k σ (λ i. at false (rows_at n k σ i))
 unfolding rows_at
-rows_read n k σ h = record { low = tallest_at n k σ h; bits = λ i l v m. at_table false n (λ v. leaf_at k (σ v).tree i) v m }
+rows_read n k σ h = record {
+  low = tallest_at n k σ h;
+  bits =
+      λ i l v m. at_table false n (λ v. leaf_at k (σ v).tree i) v m;
+}
 
 pub shares_read : (n k : ℕ) (s : ℕ → Row Bool n) → Reads n k (shares_of k s) (λ i. at false (s i))
 unfolding shares_of
-shares_read n k s = record { low = λ v l. tree_of_height k _; bits = λ i l v m. sym (leaf_at_tree_of k (λ i. at false (s i) v) i l) }
+shares_read n k s = record {
+  low = λ v l. tree_of_height k _;
+  bits =
+      λ i l v m. sym (leaf_at_tree_of k (λ i. at false (s i) v) i l);
+}
 
 pub shares_low : (n k : ℕ) (s : ℕ → Row Bool n) → tallest n (shares_of k s) ≤ k
 shares_low n k s = tallest_le n k (shares_of k s) (shares_read n k s).low
@@ -92,7 +104,8 @@ shares_rows n k σ h v l =
 
 rows_shares : (n k : ℕ) (s : ℕ → Row Bool n) (i : ℕ) → i < 2 ^ k → rows_at n k (shares_of k s) i ≡ s i
 rows_shares n k s i l =
-    row_path false n _ (s i) (λ v m. (rows_read n k (shares_of k s) (shares_low n k s)).bits i l v m ∙ sym ((shares_read n k s).bits i l v m))
+    row_path false n _ (s i) (λ v m. (rows_read n k (shares_of k s) (shares_low n k s)).bits i l v m
+    ∙ sym ((shares_read n k s).bits i l v m))
 
 -- trees whose height is among A are read at 2 ^ w leaves, with w from h up and among B
 pub record Read (h : ℕ) (A B : ℕ → Type 0) : Type 0 where
@@ -110,7 +123,8 @@ read_most {h} {w} l = record { up = λ k m. (w, m, l, refl); down = λ v k e m. 
 both_read : (n m w v : ℕ) (σ τ : Assignment) (x y : ℕ → ℕ → Bool) → w ≤ v → Reads n w σ x → Reads m v τ y
     → Reads (n + m) v (both n σ τ) (λ i. both_at n (x (block_of w v i)) (y i))
 unfolding both both_at
-both_read n m w v σ τ x y le R S = record { low = λ u l. low u l (ltb u n) refl; bits = λ i k u l. bits i k u l (ltb u n) refl }
+both_read n m w v σ τ x y le R S =
+    record { low = λ u l. low u l (ltb u n) refl; bits = λ i k u l. bits i k u l (ltb u n) refl }
   where
     low : (u : ℕ) → u < n + m → (b : Bool) → ltb u n ≡ b → height (cond b (σ u) (τ (u - n))).tree ≤ v
     low u l true e = le_trans (R.low u (ltb→lt u n (of_true e))) le
@@ -130,9 +144,11 @@ module _ (h : ℕ) (q : Question) (F : WellFormed q) (B : Bounds h q) where
   first_good = in_system (Defined q.free q.constants) (Within h q.constants) _ (λ t d w. (d, w)) q.first F.first B.first
 
   second_good : InSystem (Good (q.free + q.own) h q.constants) q.second
-  second_good = in_system (Defined (q.free + q.own) q.constants) (Within h q.constants) _ (λ t d w. (d, w)) q.second F.second B.second
+  second_good = in_system (Defined (q.free + q.own) q.constants) (Within h q.constants) _ (λ t d w. (d, w)) q.second
+      F.second B.second
 
-  -- σ, no taller than k and with the rows s, solves the first system exactly if the rows solve its problem at the leaves
+  -- σ, no taller than k and with the rows s, solves the first system exactly if the rows solve its problem at the
+  -- leaves
   pub first_iff : (k : ℕ) → h ≤ k → (σ : Assignment) (s : ℕ → Row Bool q.free) → Reads q.free k σ (λ i. at false (s i))
       → SolvesFirst q σ ↔ SolvesLeaves h (first_at h q) k s
   first_iff k hk σ s R =
@@ -144,7 +160,8 @@ module _ (h : ℕ) (q : Question) (F : WellFormed q) (B : Bounds h q) where
       )
 
   -- σ, no taller than w, has the rows s
-  module _ (w : ℕ) (hw : h ≤ w) (σ : Assignment) (s : ℕ → Row Bool q.free) (R : Reads q.free w σ (λ i. at false (s i))) where
+  module _ (w : ℕ) (hw : h ≤ w) (σ : Assignment) (s : ℕ → Row Bool q.free)
+      (R : Reads q.free w σ (λ i. at false (s i))) where
     -- a property P of all shares is the problem Q at the leaves, whatever own shares and rows stand beside σ
     abbrev AtRows : (Assignment → Type 0) → Second (Row Bool q.free) (Row Bool q.own) → Type 0
     AtRows P Q = (v : ℕ) → w ≤ v → (τ : Assignment) (t : ℕ → Row Bool q.own) → Reads q.own v τ (λ i. at false (t i))
@@ -157,7 +174,13 @@ module _ (h : ℕ) (q : Question) (F : WellFormed q) (B : Bounds h q) where
       λ E.
           let (v, k, l, a) = r.up (tallest q.own E.own) E.allowed in
           let rows = rows_at q.own v E.own in
-          record { height = v; allowed = a; own = rows; extends = (iff v l E.own rows (rows_read q.own v E.own k)).0 E.holds },
+          record {
+            height = v;
+            allowed = a;
+            own = rows;
+            extends =
+                (iff v l E.own rows (rows_read q.own v E.own k)).0 E.holds;
+          },
       λ E. record {
         own = shares_of E.height E.own;
         allowed = r.down E.height _ E.allowed (shares_low q.own E.height E.own);
@@ -165,20 +188,24 @@ module _ (h : ℕ) (q : Question) (F : WellFormed q) (B : Bounds h q) where
       },
     )
 
-    module _ (v : ℕ) (le : w ≤ v) (τ : Assignment) (t : ℕ → Row Bool q.own) (S : Reads q.own v τ (λ i. at false (t i))) where
-      all_read : Reads (q.free + q.own) v (both q.free σ τ) (λ i. both_at q.free (at false (s (block_of w v i))) (at false (t i)))
+    module _ (v : ℕ) (le : w ≤ v) (τ : Assignment) (t : ℕ → Row Bool q.own)
+        (S : Reads q.own v τ (λ i. at false (t i))) where
+      all_read : Reads (q.free + q.own) v (both q.free σ τ)
+          (λ i. both_at q.free (at false (s (block_of w v i))) (at false (t i)))
       all_read = both_read q.free q.own w v σ τ (λ i. at false (s i)) (λ i. at false (t i)) le R S
 
       second_positives : AllHold q.constants (both q.free σ τ) (positives q.second)
           ↔ ((i : ℕ) → i < 2 ^ v → T ((second_at h q).pos (block_of h v i) (s (block_of w v i)) (t i)))
       second_positives =
-          positives_iff (q.free + q.own) h q.constants B.low v (le_trans hw le) (both q.free σ τ) _ all_read q.second second_good
+          positives_iff (q.free + q.own) h q.constants B.low v (le_trans hw le) (both q.free σ τ) _ all_read q.second
+          second_good
 
       second_disequation : (j : ℕ) → j < second_count q
           → (¬ Holds q.constants (both q.free σ τ) (disequation q.second j))
           ↔ Below (2 ^ v) (λ i. (second_at h q).dis j (block_of h v i) (s (block_of w v i)) (t i))
       second_disequation =
-          disequation_iff (q.free + q.own) h q.constants B.low v (le_trans hw le) (both q.free σ τ) _ all_read q.second second_good
+          disequation_iff (q.free + q.own) h q.constants B.low v (le_trans hw le) (both q.free σ τ) _ all_read q.second
+          second_good
 
     -- σ extends exactly if its rows do
     pub extension_iff : (A A' : ℕ → Type 0) → Read w A A' → ExtendsBy A q σ ↔ LeafExtension A' h (second_at h q) w s
@@ -202,7 +229,8 @@ module _ (h : ℕ) (q : Question) (F : WellFormed q) (B : Bounds h q) where
         any_height any_height (read_any w)
 
     -- and have disequation j beside them exactly if its rows can
-    pub with_iff : (j : ℕ) → j < second_count q → MeetsWith j q σ ↔ LeafExtension any_height h (only j (second_at h q)) w s
+    pub with_iff : (j : ℕ) → j < second_count q
+        → MeetsWith j q σ ↔ LeafExtension any_height h (only j (second_at h q)) w s
     with_iff j m =
         beside_iff _ (only j (second_at h q)) (λ v le τ t S.
         let pos = second_positives v le τ t S in
@@ -217,7 +245,8 @@ module _ (h : ℕ) (q : Question) (F : WellFormed q) (B : Bounds h q) where
 -- what is claimed
 pub record LeafByLeaf (h : ℕ) (q : Question) : Type 0 where
   -- shares no taller than k are rows at 2 ^ k leaves, and back
-  pub shares : (k : ℕ) (σ : Assignment) → height_of q σ ≤ k → (v : ℕ) → v < q.free → shares_of k (rows_at q.free k σ) v ≡ σ v
+  pub shares : (k : ℕ) (σ : Assignment) → height_of q σ ≤ k → (v : ℕ) → v < q.free
+      → shares_of k (rows_at q.free k σ) v ≡ σ v
   pub rows : (k : ℕ) (s : ℕ → Row Bool q.free) (i : ℕ) → i < 2 ^ k → rows_at q.free k (shares_of k s) i ≡ s i
   pub low : (k : ℕ) (s : ℕ → Row Bool q.free) → height_of q (shares_of k s) ≤ k
   -- they solve the first system exactly if the rows solve its problem at the leaves

@@ -1,5 +1,5 @@
--- The solution that is shown: its trees past the free variables are empty, none is taller than the height given, and it is the one solution
--- that the words fix. Assumes nothing.
+-- The solution that is shown: its trees past the free variables are empty, none is taller than the height given, and it
+-- is the one solution that the words fix. Assumes nothing.
 use Rattle.std.specs.Prelude.{◌≡◌, refl, ◌↔◌, Bool, false, [], ◌∷◌, ℕ, ◌+◌, ◌-◌, ◌^◌, ◌≤◌, ◌<◌, ltb}
 use Rattle.std.proofs.Common.{sym, ap, ◌∙◌, arith, ltb→lt}
 use Rattle.std.proofs.Math.Nat.{add-sub_cancel_left}
@@ -25,10 +25,12 @@ use Rattle.systems.specs.Clauses.{variable, equal, negated, Assignment, disequat
 use Rattle.systems.specs.Questions.{Kind, satisfiability, entailment, Question, first_count, second_count}
 use Rattle.systems.specs.Answers.{Answer, satisfied, unsatisfied, vacuous, entailed, unmet, missed, shows, height_given}
 use Rattle.systems.specs.AtLeaves.{first_at, second_at}
-use Rattle.systems.specs.Decide.{can_solve, some_unmet, lowest_missed, decide_kind, decide_at, shares_of, asked_for, shown_with, shown_at}
+use Rattle.systems.specs.Decide.{can_solve, some_unmet, lowest_missed, decide_kind, decide_at, shares_of, asked_for}
+use Rattle.systems.specs.Decide.{shown_with, shown_at}
 use Rattle.systems.specs.ShownWords.{WordsWith, ShownFixed}
 
--- ---- an example, computed: with two disequations and h = 2, each leaf has two sub-leaves for a solution, and four for a no
+-- ---- an example, computed: with two disequations and h = 2, each leaf has two sub-leaves for a solution, and four for
+-- a no
 
 abbrev two : Question
 two = record {
@@ -153,7 +155,8 @@ module _ (h : ℕ) (q : Question) where
       }
 
   -- there is no other
-  pub one_shown : (a : Answer) → T (shows a) → (σ τ : Assignment) → ShownFixed h q a σ → ShownFixed h q a τ → (v : ℕ) → v < q.free → σ v ≡ τ v
+  pub one_shown : (a : Answer) → T (shows a) → (σ τ : Assignment) → ShownFixed h q a σ → ShownFixed h q a τ → (v : ℕ)
+      → v < q.free → σ v ≡ τ v
   one_shown a t σ τ S R v l =
       let W = height_given h q a in
       let same : (i : ℕ) → i < 2 ^ W → S.values i ≡ R.values i =

@@ -28,7 +28,8 @@ use Rattle.systems.specs.Worked.{Example, Never, Right, AllRight, worked}
 
 -- no solution has height k: trying every one at its leaves finds none
 abbrev never_test : Question → ℕ → Bool
-never_test q k = leb (question_height q) k && not (solvable_at (least q.free) (question_height q) (first_at (question_height q) q) k)
+never_test q k = leb (question_height q) k
+    && not (solvable_at (least q.free) (question_height q) (first_at (question_height q) q) k)
 
 -- none has one of these heights
 abbrev nevers_test : Question → List ℕ → Bool
@@ -39,18 +40,23 @@ never_of : (q : Question) → WellFormed q → (k : ℕ) → T (never_test q k) 
 never_of q F k t S =
     let h = question_height q in
     let l : h ≤ k = leb→le h k (and_left (leb h k) _ t) in
-    let low : Solution (at_most k) q = record { values = S.values; allowed = omega (arith, S.allowed); solves = S.solves } in
+    let low : Solution (at_most k) q =
+    record { values = S.values; allowed = omega (arith, S.allowed); solves = S.solves } in
     let M = to_leaves h q F (question_bounds q F) (at_most k) (exactly k) (read_most l) low in
     T_not (solvable_at (least q.free) h (first_at h q) k) (and_right (leb h k) _ t)
     (solvable_at_lem (least q.free) h (first_at h q) k M.leaves (rw M.allowed at M.solves))
 
 nevers_of : (q : Question) → WellFormed q → (l : List ℕ) → T (nevers_test q l) → Never q l
 nevers_of q F [] t = tt
-nevers_of q F (k ∷ l) t = (never_of q F k (and_left (never_test q k) _ t), nevers_of q F l (and_right (never_test q k) _ t))
+nevers_of q F (k ∷ l) t = (
+  never_of q F k (and_left (never_test q k) _ t),
+  nevers_of q F l (and_right (never_test q k) _ t),
+)
 
 -- ---- the table, computed
 
--- of an example: the decision is its answer, the height given is its height, its question is well formed, and it has no solution of the heights named
+-- of an example: the decision is its answer, the height given is its height, its question is well formed, and it has no
+-- solution of the heights named
 abbrev Computed : Example → Type 0
 Computed x =
     (decide x.question ≡ x.answer)
@@ -70,7 +76,10 @@ abbrev ◌also◌ : {A B : Type 0} → A → B → A × B
 
 -- a line for each
 computed : AllComputed worked
-unfolding decide_kind named_in tallest_among tree_of fold twins height bit leaf_test join_leaf positives disequations reading_way term_at part_at all_at both_at solvable plain_at special_at some_choice every_below some_below first_below pick_row at c meets meets_with can_be_unmet can_be_missed first_missed solves_test solvable_at
+unfolding decide_kind named_in tallest_among tree_of fold twins height bit leaf_test join_leaf positives disequations
+    reading_way term_at part_at all_at both_at solvable plain_at special_at some_choice every_below some_below
+    first_below
+    pick_row at c meets meets_with can_be_unmet can_be_missed first_missed solves_test solvable_at
 computed =
     (refl, refl, refl, refl)
     also (refl, refl, refl, refl)

@@ -3,10 +3,12 @@ use Rattle.std.specs.Prelude.{◌≡◌, Bool, true, false, ℕ, ◌+◌, ◌≤
 use Rattle.leaves.specs.Heights.{c}
 use Rattle.systems.specs.Clauses.{Assignment}
 use Rattle.systems.specs.Questions.{Kind, satisfiability, entailment, Question, first_count, second_count}
-use Rattle.systems.specs.Solutions.{height_of, SolvesFirst, Solution, Extends, MeetsPositives, MeetsWith, Every, SomeNot, Entails}
+use Rattle.systems.specs.Solutions.{height_of, SolvesFirst, Solution, Extends, MeetsPositives, MeetsWith, Every}
+use Rattle.systems.specs.Solutions.{SomeNot, Entails}
 
--- An answer to kind 0: yes; no. To kind 1: yes, the first system has no solution; any other yes; no, some solution cannot even meet
--- the second's positive clauses; no, disequation j of the second is the lowest that some solution cannot have beside them.
+-- An answer to kind 0: yes; no. To kind 1: yes, the first system has no solution; any other yes; no, some solution
+-- cannot even meet the second's positive clauses; no, disequation j of the second is the lowest that some solution
+-- cannot have beside them.
 pub data Answer : Type 0 where
   satisfied : Answer
   unsatisfied : Answer
@@ -102,8 +104,8 @@ height_given h q entailed = 0
 height_given h q unmet = h + c (first_count q + 1)
 height_given h q (missed j) = h + c (first_count q + 1)
 
--- σ, shown with a no, does not extend, for the reason given: it cannot even meet the second's positive clauses; or it cannot have
--- disequation j beside them
+-- σ, shown with a no, does not extend, for the reason given: it cannot even meet the second's positive clauses; or it
+-- cannot have disequation j beside them
 abbrev pub Fails : Question → Assignment → Answer → Type 0
 Fails q σ satisfied = Unit {0}
 Fails q σ unsatisfied = Unit {0}
@@ -112,7 +114,8 @@ Fails q σ entailed = Unit {0}
 Fails q σ unmet = (¬ Extends q σ) × ¬ MeetsPositives q σ
 Fails q σ (missed j) = (¬ Extends q σ) × ¬ MeetsWith j q σ
 
--- σ may be shown: it solves the first system, is no taller than the height given and, for a no, does not extend, for the reason given
+-- σ may be shown: it solves the first system, is no taller than the height given and, for a no, does not extend, for
+-- the reason given
 pub record Shown (h : ℕ) (q : Question) (a : Answer) (σ : Assignment) : Type 0 where
   pub solves : SolvesFirst q σ
   pub low : height_of q σ ≤ height_given h q a

@@ -1,4 +1,5 @@
--- A question at the leaves: how an atom reads there as a join, and the problems that the two systems pose. Assumes nothing.
+-- A question at the leaves: how an atom reads there as a join, and the problems that the two systems pose. Assumes
+-- nothing.
 use Rattle.std.specs.Prelude.{Bool, true, false, not, cond, ◌&&◌, List, [], ◌∷◌, ℕ, ◌-◌, ltb, length, get_or}
 use Rattle.std.proofs.Math.Option.{none, some}
 use Rattle.shares.specs.Blocks.{first_of}
@@ -9,7 +10,8 @@ use Rattle.shares.specs.declared.Way.TheVariants.{Holds}
 use Rattle.leaves.specs.Choices.{Row, at}
 use Rattle.leaves.specs.Problem.{Problem}
 use Rattle.leaves.specs.Second.{Second}
-use Rattle.systems.specs.Clauses.{Constants, Term, variable, constant, Atom, joined, equal, is_full, is_empty, together, positives, disequations, disequation, Assignment, value_of}
+use Rattle.systems.specs.Clauses.{Constants, Term, variable, constant, Atom, joined, equal, is_full, is_empty, together}
+use Rattle.systems.specs.Clauses.{positives, disequations, disequation, Assignment, value_of}
 use Rattle.systems.specs.Questions.{Question}
 
 -- ---- the reading of an atom as a join

@@ -9,7 +9,8 @@ abbrev pub Within : ℕ → Constants → Term → Type 0
 Within h cs (variable v) = Unit {0}
 Within h cs (constant i) = height (constant_tree cs i) ≤ h
 
--- h, at most the constants' levels, is no less than the height of any constant that some clause names: all that a law uses of h
+-- h, at most the constants' levels, is no less than the height of any constant that some clause names: all that a law
+-- uses of h
 pub record Bounds (h : ℕ) (q : Question) : Type 0 where
   pub low : h ≤ q.constants.levels
   pub first : InSystem (Within h q.constants) q.first

@@ -62,8 +62,8 @@ abbrev pub value_of : Constants → Assignment → Term → Tree
 value_of cs σ (variable v) = (σ v).tree
 value_of cs σ (constant i) = constant_tree cs i
 
--- "a join b is c" holds if the join is defined and is c; equality as usual; a is full if it is the full leaf, and empty if it is the empty one; two
--- shares may be held together if their join is defined
+-- "a join b is c" holds if the join is defined and is c; equality as usual; a is full if it is the full leaf, and empty
+-- if it is the empty one; two shares may be held together if their join is defined
 abbrev pub Holds : Constants → Assignment → Atom → Type 0
 Holds cs σ (joined a b c) = join (value_of cs σ a) (value_of cs σ b) ≡ some (value_of cs σ c)
 Holds cs σ (equal a b) = value_of cs σ a ≡ value_of cs σ b

@@ -49,7 +49,8 @@ unfoldable pub shares_of : {n : ℕ} → ℕ → (ℕ → Row Bool n) → Assign
 shares_of k s v = record { tree = tree_of k (λ i. at false (s i) v); folded = tree_of_folded k _ }
 
 module _ (h : ℕ) (q : Question) where
-  -- what is asked at the leaves of the solution that is shown with each answer (with those that show none: nothing that a claim rests on)
+  -- what is asked at the leaves of the solution that is shown with each answer (with those that show none: nothing that
+  -- a claim rests on)
   abbrev pub asked_for : Answer → Problem (Row Bool q.free)
   asked_for satisfied = first_at h q
   asked_for unsatisfied = first_at h q

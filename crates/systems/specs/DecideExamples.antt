@@ -32,6 +32,9 @@ reads = may_read (variable 0) ∷ []
 
 -- who may write may read; who may read need not write; nobody need read; no empty share may write
 pub decided : (decide (entails writes reads) ≡ entailed) × (decide (entails reads writes) ≡ unmet)
-    × (decide (entails [] reads) ≡ missed 0) × (decide (entails (positive (is_empty (variable 0)) ∷ writes) reads) ≡ vacuous)
-unfolding decide_kind named_in tallest_among leaf_test join_leaf positives disequations reading_way term_at part_at all_at both_at solvable plain_at special_at some_choice every_below some_below first_below pick_row at meets meets_with can_be_unmet can_be_missed first_missed
+    × (decide (entails [] reads) ≡ missed 0)
+    × (decide (entails (positive (is_empty (variable 0)) ∷ writes) reads) ≡ vacuous)
+unfolding decide_kind named_in tallest_among leaf_test join_leaf positives disequations reading_way term_at part_at
+    all_at both_at solvable plain_at special_at some_choice every_below some_below first_below pick_row at meets
+    meets_with can_be_unmet can_be_missed first_missed
 decided = (refl, refl, refl, refl)

@@ -2,8 +2,10 @@
 use Rattle.std.specs.Prelude.{refl, Bool, true, false, ◌&&◌, [], ◌∷◌, ℕ, ◌+◌, T, ltb, eqb, length}
 use Rattle.std.proofs.Common.{ltb→lt, eqb→eq}
 use Rattle.shares.specs.Test.{and_left, and_right}
-use Rattle.systems.specs.Clauses.{Term, variable, constant, Atom, joined, equal, is_full, is_empty, together, positive, negated, System, Constants}
-use Rattle.systems.specs.Questions.{Kind, satisfiability, entailment, Question, Defined, InAtom, InSystem, Alone, WellFormed}
+use Rattle.systems.specs.Clauses.{Term, variable, constant, Atom, joined, equal, is_full, is_empty, together, positive}
+use Rattle.systems.specs.Clauses.{negated, System, Constants}
+use Rattle.systems.specs.Questions.{Kind, satisfiability, entailment, Question, Defined, InAtom, InSystem, Alone}
+use Rattle.systems.specs.Questions.{WellFormed}
 
 -- a term names something defined
 abbrev defined_test : ℕ → Constants → Term → Bool
@@ -55,8 +57,10 @@ module _ (p : Term → Bool) (P : Term → Type 0) (f : (t : Term) → T (p t) �
 
   system_of : (s : System) → T (system_test p s) → InSystem P s
   system_of [] t = tt
-  system_of (positive a ∷ s) t = (atom_of_lem a (and_left (atom_test p a) _ t), system_of s (and_right (atom_test p a) _ t))
-  system_of (negated a ∷ s) t = (atom_of_lem a (and_left (atom_test p a) _ t), system_of s (and_right (atom_test p a) _ t))
+  system_of (positive a ∷ s) t =
+      (atom_of_lem a (and_left (atom_test p a) _ t), system_of s (and_right (atom_test p a) _ t))
+  system_of (negated a ∷ s) t =
+      (atom_of_lem a (and_left (atom_test p a) _ t), system_of s (and_right (atom_test p a) _ t))
 
 alone_of : (k : Kind) (m : ℕ) (s : System) → T (alone_test k m s) → Alone k m s
 alone_of satisfiability m [] t = (eqb→eq m 0 t, refl)
@@ -71,5 +75,6 @@ formed_of q t =
     record {
       alone = alone_of q.kind q.own q.second (and_left (alone_test q.kind q.own q.second) _ t);
       first = system_of p₁ _ (defined_of q.free q.constants) q.first (and_left (system_test p₁ q.first) _ r);
-      second = system_of p₂ _ (defined_of (q.free + q.own) q.constants) q.second (and_right (system_test p₁ q.first) _ r);
+      second = system_of p₂ _ (defined_of (q.free + q.own) q.constants) q.second
+          (and_right (system_test p₁ q.first) _ r);
     }

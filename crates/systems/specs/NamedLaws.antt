@@ -1,4 +1,5 @@
--- Laws of the constants that clauses name: the tallest of them, and what holds of every term of a system. Assumes nothing.
+-- Laws of the constants that clauses name: the tallest of them, and what holds of every term of a system. Assumes
+-- nothing.
 use Rattle.std.specs.Prelude.{◌≡◌, refl, ◌||◌, ◌⊎◌, eqb}
 use Rattle.std.proofs.Common.{sym, ap, ◌∙◌, subst, inl, inr, arith, eqb→eq}
 use Rattle.std.proofs.Math.Bool.{or-false, or_assoc}
@@ -9,7 +10,8 @@ use Rattle.std.proofs.Math.Dec.{T, eqb_refl}
 use Rattle.shares.specs.Test.{or_left, or_right, or_cases}
 use Rattle.shares.specs.Tree.{height}
 use Rattle.systems.specs.NamedExamples
-use Rattle.systems.specs.Clauses.{Constants, constant_tree, Term, variable, constant, Atom, joined, equal, is_full, is_empty, together, Clause, positive, negated, System}
+use Rattle.systems.specs.Clauses.{Constants, constant_tree, Term, variable, constant, Atom, joined, equal, is_full}
+use Rattle.systems.specs.Clauses.{is_empty, together, Clause, positive, negated, System}
 use Rattle.systems.specs.Questions.{InAtom, InSystem, terms_of, clause_terms, named_in, is_among, tallest_among}
 
 -- ---- among the terms of two lists
@@ -18,7 +20,8 @@ pub among_append : (i : ℕ) (l m : List Term) → is_among i (l ++ m) ≡ (is_a
 unfolding is_among
 among_append i [] m = refl
 among_append i (variable v ∷ l) m = among_append i l m
-among_append i (constant j ∷ l) m = ap (◌||◌ (eqb i j)) (among_append i l m) ∙ sym (or_assoc (eqb i j) (is_among i l) (is_among i m))
+among_append i (constant j ∷ l) m = ap (◌||◌ (eqb i j)) (among_append i l m)
+    ∙ sym (or_assoc (eqb i j) (is_among i l) (is_among i m))
 
 pub among_left : (i : ℕ) (l m : List Term) → T (is_among i l) → T (is_among i (l ++ m))
 among_left i l m t = subst T (sym (among_append i l m)) (or_left (is_among i l) (is_among i m) t)
@@ -40,12 +43,14 @@ module _ (cs : Constants) where
       go (inl e) f = rw (eqb→eq i j e) (omega arith)
       go (inr u) f = omega (arith, f u)
 
-  pub among_least : (l : List Term) (k : ℕ) → ((i : ℕ) → T (is_among i l) → height (constant_tree cs i) ≤ k) → tallest_among cs l ≤ k
+  pub among_least : (l : List Term) (k : ℕ) → ((i : ℕ) → T (is_among i l) → height (constant_tree cs i) ≤ k)
+      → tallest_among cs l ≤ k
   unfolding is_among tallest_among
   among_least [] k f = zero-le
   among_least (variable v ∷ l) k f = among_least l k f
   among_least (constant j ∷ l) k f =
-      max-le (f j (or_left (eqb j j) (is_among j l) (eqb_refl j))) (among_least l k (λ i t. f i (or_right (eqb i j) (is_among i l) t)))
+      max-le (f j (or_left (eqb j j) (is_among j l) (eqb_refl j)))
+      (among_least l k (λ i t. f i (or_right (eqb i j) (is_among i l) t)))
 
 -- ---- what holds of every variable, and of every constant that is named, holds of every term
 
@@ -74,15 +79,20 @@ module _ (P : Term → Type 0) (variables : (v : ℕ) → P (variable v)) where
   pub system_named : (s : System) → Each (named_in s) → InSystem P s
   unfolding named_in
   system_named [] f = tt
-  system_named (positive a ∷ s) f =
-      (atom_named a (λ i t. f i (among_left i (terms_of a) (named_in s) t)), system_named s (λ i t. f i (among_right i (terms_of a) (named_in s) t)))
-  system_named (negated a ∷ s) f =
-      (atom_named a (λ i t. f i (among_left i (terms_of a) (named_in s) t)), system_named s (λ i t. f i (among_right i (terms_of a) (named_in s) t)))
+  system_named (positive a ∷ s) f = (
+    atom_named a (λ i t. f i (among_left i (terms_of a) (named_in s) t)),
+    system_named s (λ i t. f i (among_right i (terms_of a) (named_in s) t)),
+  )
+  system_named (negated a ∷ s) f = (
+    atom_named a (λ i t. f i (among_left i (terms_of a) (named_in s) t)),
+    system_named s (λ i t. f i (among_right i (terms_of a) (named_in s) t)),
+  )
 
 -- ---- and the other way: what holds of every term of an atom holds of the constants that it names
 
 module _ (P : Term → Type 0) (i : ℕ) where
-  at_head : (t : Term) (l : List Term) → P t → (T (is_among i l) → P (constant i)) → T (is_among i (t ∷ l)) → P (constant i)
+  at_head : (t : Term) (l : List Term) → P t → (T (is_among i l) → P (constant i)) → T (is_among i (t ∷ l))
+      → P (constant i)
   unfolding is_among
   at_head (variable v) l p f u = f u
   at_head (constant j) l p f u = go (or_cases (eqb i j) (is_among i l) u)
@@ -104,7 +114,8 @@ module _ (P : Term → Type 0) (i : ℕ) where
 
 -- ---- one clause more at the end of a system
 
-pub among_more : (i : ℕ) (s : System) (c : Clause) → is_among i (named_in (s ++ (c ∷ []))) ≡ (is_among i (named_in s) || is_among i (clause_terms c))
+pub among_more : (i : ℕ) (s : System) (c : Clause)
+    → is_among i (named_in (s ++ (c ∷ []))) ≡ (is_among i (named_in s) || is_among i (clause_terms c))
 unfolding named_in is_among
 among_more i [] c = among_append i (clause_terms c) [] ∙ or-false (is_among i (clause_terms c))
 among_more i (d ∷ s) c =

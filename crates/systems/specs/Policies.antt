@@ -19,7 +19,8 @@ abbrev pub Among : Clause → System → Type 0
 Among c [] = ⊥
 Among c (d ∷ s) = (d ≡ c) ⊎ Among c s
 
--- a writer and a reader of one cell, which may be one term, and their shares may be held together, named in either order
+-- a writer and a reader of one cell, which may be one term, and their shares may be held together, named in either
+-- order
 pub record WriterAndReader (a b : Term) (s : System) : Type 0 where
   pub writes : Among (may_write a) s
   pub reads : Among (may_read b) s

@@ -2,7 +2,8 @@
 use Rattle.std.specs.Prelude.{◌≡◌, Bool, false, ◌||◌, List, [], ◌∷◌, ◌++◌, ℕ, ◌+◌, ◌<◌, max, eqb, length}
 use Rattle.shares.specs.Tree.{height}
 use Rattle.shares.specs.Constant.{number_tree}
-use Rattle.systems.specs.Clauses.{Constants, constant_tree, Term, variable, constant, Atom, joined, equal, is_full, is_empty, together, Clause, positive, negated, System, disequations}
+use Rattle.systems.specs.Clauses.{Constants, constant_tree, Term, variable, constant, Atom, joined, equal, is_full}
+use Rattle.systems.specs.Clauses.{is_empty, together, Clause, positive, negated, System, disequations}
 
 -- kind 0 asks whether the first system is satisfiable, kind 1 whether it entails the second
 pub data Kind : Type 0 where

@@ -24,5 +24,6 @@ pub record ShownFixed (h : ℕ) (q : Question) (a : Answer) (σ : Assignment) : 
   pub values : ℕ → Row Bool q.free
   pub words : WordsWith h q a (height_given h q a) values
   -- unfolded to the height given, the tree of each free variable has its values as leaves, and it is no taller
-  pub leaves : (v : ℕ) → v < q.free → (i : ℕ) → i < 2 ^ height_given h q a → leaf_at (height_given h q a) (σ v).tree i ≡ at false (values i) v
+  pub leaves : (v : ℕ) → v < q.free → (i : ℕ) → i < 2 ^ height_given h q a
+      → leaf_at (height_given h q a) (σ v).tree i ≡ at false (values i) v
   pub low : (v : ℕ) → v < q.free → height (σ v).tree ≤ height_given h q a

@@ -18,7 +18,8 @@ height_of q σ = tallest q.free σ
 abbrev pub SolvesFirst : Question → Assignment → Type 0
 SolvesFirst q σ = SystemHolds q.constants σ q.first
 
--- a solution whose height is among A: it gives every free variable a share, so that all clauses of the first system hold
+-- a solution whose height is among A: it gives every free variable a share, so that all clauses of the first system
+-- hold
 pub record Solution (A : ℕ → Type 0) (q : Question) : Type 0 where
   pub values : Assignment
   pub allowed : A (height_of q values)

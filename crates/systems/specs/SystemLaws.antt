@@ -1,9 +1,12 @@
--- Laws of terms and systems: a system is its positive clauses and its disequations, and so are its terms. Assumes nothing.
+-- Laws of terms and systems: a system is its positive clauses and its disequations, and so are its terms. Assumes
+-- nothing.
 use Rattle.std.specs.Prelude.{List, [], ◌∷◌, ℕ, zero, suc, ◌<◌, length, get_or}
 use Rattle.std.proofs.Common.{suc-le-suc, zero-le, not-suc-le-zero, le_of_suc-le-suc}
 use Rattle.shares.specs.Tree.{Folded}
 use Rattle.shares.proofs.TreeLaws.{tree_of_folded}
-use Rattle.systems.specs.Clauses.{Term, variable, constant, Atom, joined, equal, is_full, is_empty, together, positive, negated, System, positives, disequations, disequation, Constants, Assignment, value_of, Holds, SystemHolds, AllHold}
+use Rattle.systems.specs.Clauses.{Term, variable, constant, Atom, joined, equal, is_full, is_empty, together, positive}
+use Rattle.systems.specs.Clauses.{negated, System, positives, disequations, disequation, Constants, Assignment}
+use Rattle.systems.specs.Clauses.{value_of, Holds, SystemHolds, AllHold}
 use Rattle.systems.specs.Questions.{InAtom, InSystem}
 
 -- ---- the tree of a term is folded
@@ -31,7 +34,8 @@ parts cs ρ (positive a ∷ s) h = ((h.0, (parts cs ρ s h.1).0), (parts cs ρ s
 parts cs ρ (negated a ∷ s) h = ((parts cs ρ s h.1).0, from (parts cs ρ s h.1).1)
   where
     from : ((j : ℕ) → j < length (disequations s) → ¬ Holds cs ρ (disequation s j))
-        → (j : ℕ) → j < suc (length (disequations s)) → ¬ Holds cs ρ (get_or (a ∷ disequations s) j (equal (variable 0) (variable 0)))
+        → (j : ℕ) → j < suc (length (disequations s))
+        → ¬ Holds cs ρ (get_or (a ∷ disequations s) j (equal (variable 0) (variable 0)))
     from f zero l = h.0
     from f (suc j) l = f j (le_of_suc-le-suc l)
 
@@ -68,10 +72,12 @@ in_disequations P [] p = tt
 in_disequations P (positive a ∷ s) p = in_disequations P s p.1
 in_disequations P (negated a ∷ s) p = (p.0, in_disequations P s p.1)
 
-pub in_at : (P : Term → Type 0) (l : List Atom) (d : Atom) → InAtoms P l → (j : ℕ) → j < length l → InAtom P (get_or l j d)
+pub in_at : (P : Term → Type 0) (l : List Atom) (d : Atom) → InAtoms P l → (j : ℕ) → j < length l
+    → InAtom P (get_or l j d)
 in_at P [] d p j m = absurd (not-suc-le-zero m)
 in_at P (a ∷ l) d p zero m = p.0
 in_at P (a ∷ l) d p (suc j) m = in_at P l d p.1 j (le_of_suc-le-suc m)
 
-pub in_disequation : (P : Term → Type 0) (s : System) → InSystem P s → (j : ℕ) → j < length (disequations s) → InAtom P (disequation s j)
+pub in_disequation : (P : Term → Type 0) (s : System) → InSystem P s → (j : ℕ) → j < length (disequations s)
+    → InAtom P (disequation s j)
 in_disequation P s p j l = in_at P (disequations s) _ (in_disequations P s p) j l

@@ -1,4 +1,5 @@
--- Questions worked by hand, in one table: those of docs/SPEC.md, section 12, that are marked P, in its order. Assumes nothing.
+-- Questions worked by hand, in one table: those of docs/SPEC.md, section 12, that are marked P, in its order. Assumes
+-- nothing.
 use Rattle.std.specs.Prelude.{◌≡◌, ◌↔◌, List, [], ◌∷◌, ℕ}
 use Rattle.shares.specs.Constant.{constant_levels}
 use Rattle.leaves.specs.Heights.{any_height, exactly}
@@ -6,7 +7,8 @@ use Rattle.systems.specs.Clauses.{Term, variable, constant, joined, equal, Claus
 use Rattle.systems.specs.Questions.{satisfiability, entailment, Question, WellFormed, question_height}
 use Rattle.systems.specs.Policies.{may_write, may_read, may_be_held_together}
 use Rattle.systems.specs.Solutions.{Solution}
-use Rattle.systems.specs.Answers.{Answer, satisfied, unsatisfied, vacuous, entailed, unmet, missed, Answers, height_given}
+use Rattle.systems.specs.Answers.{Answer, satisfied, unsatisfied, vacuous, entailed, unmet, missed, Answers}
+use Rattle.systems.specs.Answers.{height_given}
 
 -- a question, its answer, the height given with it (0 where no solution is shown), and heights that no solution has
 pub record Example : Type 0 where
@@ -20,7 +22,8 @@ abbrev pub Never : Question → List ℕ → Type 0
 Never q [] = Unit {0}
 Never q (k ∷ l) = (¬ Solution (exactly k) q) × Never q l
 
--- an example is right: its question is well formed, its answer is the right one and the only one, and its heights are as it says
+-- an example is right: its question is well formed, its answer is the right one and the only one, and its heights are
+-- as it says
 pub record Right (x : Example) : Type 0 where
   pub formed : WellFormed x.question
   pub right_answer : (a : Answer) → Answers any_height x.question a ↔ (x.answer ≡ a)
@@ -107,7 +110,8 @@ worked =
     -- v0 join v0 is v1, v1 not empty: no
     ∷ example (asks 2 wholes (join_is (v 0) (v 0) (v 1) ∷ is_not (v 1) empty ∷ [])) unsatisfied 0
     -- v0 join v1 is v2, none of the three empty: yes, height 2 given; no solution has height 0
-    ∷ example_never (asks 3 wholes (join_is (v 0) (v 1) (v 2) ∷ is_not (v 0) empty ∷ is_not (v 1) empty ∷ is_not (v 2) empty ∷ [])) satisfied 2 (0 ∷ [])
+    ∷ example_never (asks 3 wholes (join_is (v 0) (v 1) (v 2) ∷ is_not (v 0) empty ∷ is_not (v 1) empty
+    ∷ is_not (v 2) empty ∷ [])) satisfied 2 (0 ∷ [])
     -- v0 join v1 is v2, v2 join v3 is v4, none of the five empty: yes, height 3 given; none has height 0 or 1
     ∷ example_never
     (asks 5 wholes
@@ -123,21 +127,25 @@ worked =
     -- v0 not empty, v1 is R, entails L join own v2 is v0: no, reason 2
     ∷ example (entails 2 1 halves (is_not (v 0) empty ∷ is (v 1) R ∷ []) (join_is L (v 2) (v 0) ∷ [])) unmet 2
     -- v0 not empty entails own v1 join own v2 is v0, neither empty: yes
-    ∷ example (entails 1 2 wholes (is_not (v 0) empty ∷ []) (join_is (v 1) (v 2) (v 0) ∷ is_not (v 1) empty ∷ is_not (v 2) empty ∷ [])) entailed 0
+    ∷ example (entails 1 2 wholes (is_not (v 0) empty ∷ []) (join_is (v 1) (v 2) (v 0) ∷ is_not (v 1) empty
+    ∷ is_not (v 2) empty ∷ [])) entailed 0
     -- v0 join v1 is full entails v0 not empty: no, reason 3 with 0, height 0
     ∷ example (entails 2 0 wholes (join_is (v 0) (v 1) full ∷ []) (is_not (v 0) empty ∷ [])) (missed 0) 0
     -- v0 is L entails v0 not empty: yes
     ∷ example (entails 1 0 halves (is (v 0) L ∷ []) (is_not (v 0) empty ∷ [])) entailed 0
     -- v0 may write, v1 may read, and the two may be held together: no
-    ∷ example (asks 2 no_constants (may_write (v 0) ∷ may_read (v 1) ∷ may_be_held_together (v 0) (v 1) ∷ [])) unsatisfied 0
+    ∷ example (asks 2 no_constants (may_write (v 0) ∷ may_read (v 1) ∷ may_be_held_together (v 0) (v 1) ∷ []))
+    unsatisfied 0
     -- v0 and v1 may read, and may be held together: yes, height 1 given; no solution has height 0
-    ∷ example_never (asks 2 no_constants (may_read (v 0) ∷ may_read (v 1) ∷ may_be_held_together (v 0) (v 1) ∷ [])) satisfied 1 (0 ∷ [])
+    ∷ example_never (asks 2 no_constants (may_read (v 0) ∷ may_read (v 1) ∷ may_be_held_together (v 0) (v 1) ∷ []))
+    satisfied 1 (0 ∷ [])
     -- v0 may read entails v0 may write: no, reason 2
     ∷ example (entails 1 0 no_constants (may_read (v 0) ∷ []) (may_write (v 0) ∷ [])) unmet 1
     -- v0 may write entails v0 may read: yes
     ∷ example (entails 1 0 no_constants (may_write (v 0) ∷ []) (may_read (v 0) ∷ [])) entailed 0
     -- v0 may write entails own v1 may read, held together with v0: no, reason 3 with 0, height 0
-    ∷ example (entails 1 1 no_constants (may_write (v 0) ∷ []) (may_read (v 1) ∷ may_be_held_together (v 0) (v 1) ∷ [])) (missed 0) 0
+    ∷ example (entails 1 1 no_constants (may_write (v 0) ∷ []) (may_read (v 1) ∷ may_be_held_together (v 0) (v 1) ∷ []))
+    (missed 0) 0
     -- v0 join L is full, beside T, which no clause names: yes, height 1
     ∷ example (asks 1 with_t (join_is (v 0) L full ∷ [])) satisfied 1
     -- v0 may read, beside T, which no clause names: yes, height 0

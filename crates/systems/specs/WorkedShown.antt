@@ -1,4 +1,5 @@
--- Two solutions that are shown, computed: the printed example of docs/SPEC.md, 12.13, and the order of sub-leaves for reason 2. Assumes nothing.
+-- Two solutions that are shown, computed: the printed example of docs/SPEC.md, 12.13, and the order of sub-leaves for
+-- reason 2. Assumes nothing.
 use Rattle.std.specs.Prelude.{◌≡◌, refl, true, false, [], ◌∷◌}
 use Rattle.shares.specs.Below.{every_below, some_below, first_below, count_below}
 use Rattle.shares.specs.Tree.{leaf, pair, twins, fold, height, tree_of, join_leaf, leaf_test}
@@ -28,11 +29,13 @@ printed = record {
 
 printed_shown : (decide printed ≡ satisfied) × (height_given (question_height printed) printed satisfied ≡ 1)
     × ((shown_at (question_height printed) printed 0).tree ≡ pair (leaf false) (leaf true))
-unfolding decide_kind shares_of named_in tallest_among tree_of fold twins height bit leaf_test join_leaf positives disequations reading_way term_at part_at all_at both_at solvable plain_at special_at some_choice every_below some_below first_below count_below pick_row at c leaf_of rank_of held_at carried_at fixed_at
+unfolding decide_kind shares_of named_in tallest_among tree_of fold twins height bit leaf_test join_leaf positives
+    disequations reading_way term_at part_at all_at both_at solvable plain_at special_at some_choice every_below
+    some_below first_below count_below pick_row at c leaf_of rank_of held_at carried_at fixed_at
 printed_shown = (refl, refl, refl)
 
--- v0 not empty, v1 is R, entails L join own v2 is v0: in the left half the choice beside which nothing meets the second system, v0 empty,
--- stands before the disequation's
+-- v0 not empty, v1 is R, entails L join own v2 is v0: in the left half the choice beside which nothing meets the second
+-- system, v0 empty, stands before the disequation's
 abbrev ordered : Question
 ordered = record {
   kind = entailment;
@@ -46,5 +49,8 @@ ordered = record {
 ordered_shown : (decide ordered ≡ unmet) × (height_given (question_height ordered) ordered unmet ≡ 2)
     × ((shown_at (question_height ordered) ordered 0).tree ≡ pair (pair (leaf false) (leaf true)) (leaf false))
     × ((shown_at (question_height ordered) ordered 1).tree ≡ pair (leaf false) (leaf true))
-unfolding decide_kind shares_of named_in tallest_among tree_of fold twins height bit leaf_test join_leaf positives disequations reading_way term_at part_at all_at both_at solvable plain_at special_at some_choice every_below some_below first_below count_below pick_row at c leaf_of rank_of held_at carried_at fixed_at meets meets_with can_be_unmet can_be_missed first_missed
+unfolding decide_kind shares_of named_in tallest_among tree_of fold twins height bit leaf_test join_leaf positives
+    disequations reading_way term_at part_at all_at both_at solvable plain_at special_at some_choice every_below
+    some_below first_below count_below pick_row at c leaf_of rank_of held_at carried_at fixed_at meets meets_with
+    can_be_unmet can_be_missed first_missed
 ordered_shown = (refl, refl, refl, refl)

@@ -31,19 +31,27 @@ row_text_lem k row = ap text (block_row row k)
 module _ (k : ℕ) (row buffer : List ℕ) where
   module _ (whole : length row ≡ bytes_at k) (t : Bool) (test : t ≡ leb (length (row_text k row)) (length buffer)) where
     pub room : t ≡ true → 0 + length (text (block_tree row k 0)) ≤ length buffer
-    room e = let l = leb-true (length (row_text k row)) (length buffer) (sym test ∙ e) in omega (arith, ap length (row_text_lem k row))
+    room e = let l = leb-true (length (row_text k row)) (length buffer) (sym test ∙ e) in
+        omega (arith, ap length (row_text_lem k row))
 
     pub written : t ≡ true → (n : ℕ) (after : List ℕ) → Put (text (block_tree row k 0)) buffer 0 n after
         → (Ok n ≡ text_answer k row buffer) × (after ≡ text_after k row buffer)
     unfolding text_answer text_after
     written e n after w =
-        let (end, bytes) = put_first (row_text k row) buffer after n (leb-true (length (row_text k row)) (length buffer) (sym test ∙ e)) (rw (row_text_lem k row) at w) in
-        (rw (eq-eqb (length row) (bytes_at k) whole, ← test, e, end), rw (eq-eqb (length row) (bytes_at k) whole, ← test, e) bytes)
+        let (end, bytes) = put_first (row_text k row) buffer after n
+        (leb-true (length (row_text k row)) (length buffer) (sym test ∙ e)) (rw (row_text_lem k row) at w) in (
+          rw (eq-eqb (length row) (bytes_at k) whole, ← test, e, end),
+          rw (eq-eqb (length row) (bytes_at k) whole, ← test, e) bytes,
+        )
 
     pub too_long : t ≡ false → (Err TooLong ≡ text_answer k row buffer) × (buffer ≡ text_after k row buffer)
     unfolding text_answer text_after
-    too_long e = (rw (eq-eqb (length row) (bytes_at k) whole, ← test, e), rw (eq-eqb (length row) (bytes_at k) whole, ← test, e))
+    too_long e = (
+      rw (eq-eqb (length row) (bytes_at k) whole, ← test, e),
+      rw (eq-eqb (length row) (bytes_at k) whole, ← test, e),
+    )
 
-  pub not_a_row : (length row ≡ bytes_at k → ⊥) → (Err NotARow ≡ text_answer k row buffer) × (buffer ≡ text_after k row buffer)
+  pub not_a_row : (length row ≡ bytes_at k → ⊥) → (Err NotARow ≡ text_answer k row buffer)
+      × (buffer ≡ text_after k row buffer)
   unfolding text_answer text_after
   not_a_row n = (rw (ne_eqb (length row) (bytes_at k) n), rw (ne_eqb (length row) (bytes_at k) n))

@@ -53,12 +53,14 @@ pair_length l r = rw (length-append (text l) (text r ++ (0x29 ∷ [])), length-a
 
 sets_append : (l : List ℕ) (i : ℕ) (xs ys : List ℕ) → sets l i (xs ++ ys) ≡ sets (sets l i xs) (i + length xs) ys
 sets_append l i [] ys = let e : i + 0 ≡ i = omega arith in rw e
-sets_append l i (x ∷ xs) ys = let e : suc i + length xs ≡ i + suc (length xs) = omega arith in sets_append (set l i x) (suc i) xs ys ∙ rw e
+sets_append l i (x ∷ xs) ys = let e : suc i + length xs ≡ i + suc (length xs) =
+    omega arith in sets_append (set l i x) (suc i) xs ys ∙ rw e
 
 pub put_length : {t before after : List ℕ} {at next : ℕ} → Put t before at next after → length after ≡ length before
 put_length {t} {before} {after} {at} w = ap length w.bytes ∙ length-sets before at t
 
-put_pair : (l r : Tree) (before mid after : List ℕ) (at m n : ℕ) → Put (text l) (set before at 0x28) (at + 1) m mid → Put (text r) mid m n after
+put_pair : (l r : Tree) (before mid after : List ℕ) (at m n : ℕ) → Put (text l) (set before at 0x28) (at + 1) m mid
+    → Put (text r) mid m n after
     → Put (text (pair l r)) before at (n + 1) (set after n 0x29)
 unfolding text
 put_pair l r before mid after at m n a b =
@@ -85,7 +87,8 @@ module _ (row : List ℕ) (h q : ℕ) (inside : Inside h q (length row)) where
   right : Tree
   right = block_tree row (h - 1) (2 * q + 1)
 
-  pub at_room : (at : ℕ) (buffer : List ℕ) → at + length (text (block_tree row h q)) ≤ length buffer → at < length buffer
+  pub at_room : (at : ℕ) (buffer : List ℕ) → at + length (text (block_tree row h q)) ≤ length buffer
+      → at < length buffer
   at_room at buffer room = omega (arith, text_some (block_tree row h q))
 
   -- its first sign, by the tests of its leaves
@@ -132,7 +135,8 @@ module _ (row : List ℕ) (h q : ℕ) (inside : Inside h q (length row)) where
       unfolding tree left right
       left_room = rw (length-set buffer at s) (omega (arith, halves_length))
 
-      module _ (m : ℕ) (mid : List ℕ) (a : Put (text (block_tree row (h - 1) (2 * q))) (set buffer at s) (at + 1) m mid) where
+      module _ (m : ℕ) (mid : List ℕ)
+          (a : Put (text (block_tree row (h - 1) (2 * q))) (set buffer at s) (at + 1) m mid) where
         mid_length : length mid ≡ length buffer
         mid_length = put_length a ∙ length-set buffer at s
 
@@ -150,7 +154,8 @@ module _ (row : List ℕ) (h q : ℕ) (inside : Inside h q (length row)) where
           pair_put = rw is_pair_lem.1 (put_pair left right buffer mid after at m n (rw bracket at a) b)
 
 -- put at the start of a buffer: the text, and then what was past it
-pub put_first : (t buffer after : List ℕ) (n : ℕ) → length t ≤ length buffer → Put t buffer 0 n after → (n ≡ length t) × (after ≡ t ++ drop (length t) buffer)
+pub put_first : (t buffer after : List ℕ) (n : ℕ) → length t ≤ length buffer → Put t buffer 0 n after → (n ≡ length t)
+    × (after ≡ t ++ drop (length t) buffer)
 put_first t buffer after n room w =
     let e : 0 + length t ≡ length t = omega arith in
     (w.end ∙ e, w.bytes ∙ sets-eq t buffer 0 (omega arith) ∙ ap (λ (k : ℕ). t ++ drop k buffer) e)

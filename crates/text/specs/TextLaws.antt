@@ -17,7 +17,8 @@ pub answer_length : (k : ℕ) (row buffer : List ℕ) → text_length (text_answ
 unfolding text_answer
 answer_length k row buffer = go (eqb (length row) (bytes_at k)) (leb (length (row_text k row)) (length buffer))
   where
-    go : (a b : Bool) → text_length (cond a (cond b (Ok (length (row_text k row))) (Err TooLong)) (Err NotARow)) ≤ longest_text k
+    go : (a b : Bool) → text_length (cond a (cond b (Ok (length (row_text k row))) (Err TooLong)) (Err NotARow)) ≤
+        longest_text k
     go true true = row_text_length k row
     go true false = zero-le
     go false b = zero-le

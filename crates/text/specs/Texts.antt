@@ -25,10 +25,12 @@ text_refusal (Err refusal) = refusal_number refusal
 unfoldable pub row_text : ℕ → List ℕ → List ℕ
 row_text k row = text (row_tree k row)
 
--- what writing it into a buffer answers: that it is no row where it has another number of bytes, then that the text is too long for the buffer, else the text's length
+-- what writing it into a buffer answers: that it is no row where it has another number of bytes, then that the text is
+-- too long for the buffer, else the text's length
 unfoldable pub text_answer : ℕ → List ℕ → List ℕ → Result ℕ TextRefusal
 text_answer k row buffer =
-    cond (eqb (length row) (bytes_at k)) (cond (leb (length (row_text k row)) (length buffer)) (Ok (length (row_text k row))) (Err TooLong)) (Err NotARow)
+    cond (eqb (length row) (bytes_at k))
+    (cond (leb (length (row_text k row)) (length buffer)) (Ok (length (row_text k row))) (Err TooLong)) (Err NotARow)
 
 -- a buffer after an answer: the text and then what was past it, or unchanged
 abbrev pub after_answer : Result ℕ TextRefusal → List ℕ → List ℕ → List ℕ

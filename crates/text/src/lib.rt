@@ -1,4 +1,5 @@
-// The tree text of a row: `o` an empty leaf, `*` a full one, `(` left right `)` a pair, always folded. A pair is written as its two halves are.
+// The tree text of a row: `o` an empty leaf, `*` a full one, `(` left right `)` a pair, always folded. A pair is
+// written as its two halves are.
 #![tactic(auto)]
 
 ghost use Rattle.std.specs.Prelude.{◌≡◌, ◌+◌, ◌*◌, ◌^◌, ◌≤◌, leb, length, get_or};
@@ -49,7 +50,8 @@ fn first_sign(block: Block<'_>) -> u8
 
 // The length of the text of a block.
 fn text_length(block: Block<'_>) -> usize
-    ensures { (result ≡ length (text (block_tree block.entry.row.now block.entry.height block.entry.number))) × (result + 2 ≤ 3 * 2 ^ block.entry.height) }
+    ensures { (result ≡ length (text (block_tree block.entry.row.now block.entry.height block.entry.number)))
+        × (result + 2 ≤ 3 * 2 ^ block.entry.height) }
 {
     if first_sign(block) != b'(' {
         return 1;
@@ -61,7 +63,8 @@ fn text_length(block: Block<'_>) -> usize
 // Writes the text of a block from an offset of the buffer on, and gives the offset after it.
 fn write_text(block: Block<'_>, buffer: &mut [u8], at: usize) -> usize
     requires { at + length (text (block_tree block.row.now block.height block.number)) ≤ length buffer.old }
-    ensures { Put (text (block_tree block.entry.row.now block.entry.height block.entry.number)) buffer.old at result buffer.new }
+    ensures { Put (text (block_tree block.entry.row.now block.entry.height block.entry.number)) buffer.old at result
+        buffer.new }
 {
     let sign = first_sign(block);
     buffer[at] = sign;

@@ -10,7 +10,8 @@ use Rattle.unfolded.specs.Unfolded.{row_words, leaf_of}
 abbrev pub WordOf : (ℕ → Bool) → ℕ → ℕ → Type 0
 WordOf f w x = (i : ℕ) → i < 64 → bit x i ≡ f (64 * w + i)
 
--- the words of `count` parts from `part` on are those of the leaves f, which are counted on from part to part, and every other word is as it was
+-- the words of `count` parts from `part` on are those of the leaves f, which are counted on from part to part, and
+-- every other word is as it was
 abbrev pub Filled : ℕ → ℕ → ℕ → (ℕ → Bool) → List ℕ → List ℕ → Type 0
 Filled levels part count f = Stored (row_words levels * part) (row_words levels * count) (WordOf f)
 
@@ -18,8 +19,10 @@ Filled levels part count f = Stored (row_words levels * part) (row_words levels 
 abbrev pub constant_leaf : ℕ → ℕ → ℕ → Bool
 constant_leaf levels x i = bit x (block_of levels (row_levels levels) i)
 
--- of the constants that are named, the parts of all but the rest have their leaves, and the parts before the constants are as they were
+-- of the constants that are named, the parts of all but the rest have their leaves, and the parts before the constants
+-- are as they were
 pub record ConstantParts (levels named rest : ℕ) (constants old new : List ℕ) : Type 0 where
   pub set : (c i : ℕ) → T (bit named c) → bit rest c ≡ false → i < 2 ^ row_levels levels
       → leaf_of (row_words levels) new (32 + c) i ≡ constant_leaf levels (get_or constants c 0) i
-  pub kept : (t i : ℕ) → t < 32 → i < 2 ^ row_levels levels → leaf_of (row_words levels) new t i ≡ leaf_of (row_words levels) old t i
+  pub kept : (t i : ℕ) → t < 32 → i < 2 ^ row_levels levels
+      → leaf_of (row_words levels) new t i ≡ leaf_of (row_words levels) old t i

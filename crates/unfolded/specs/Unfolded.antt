@@ -1,4 +1,5 @@
--- Rows and constants in words of 64 leaves: a table with the same number of words for each part of a join. Assumes nothing.
+-- Rows and constants in words of 64 leaves: a table with the same number of words for each part of a join. Assumes
+-- nothing.
 use Rattle.std.specs.Prelude.{◌≡◌, Bool, true, false, not, List, ℕ, ◌+◌, ◌-◌, ◌*◌, ◌/◌, ◌%◌, ◌^◌, ◌≤◌, ◌<◌, T, get_or}
 use Rattle.shares.specs.Below.{first_below}
 use Rattle.shares.specs.Blocks.{block_of}
@@ -20,16 +21,20 @@ row_words levels = 2 ^ (row_levels levels - 6)
 unfoldable pub leaf_of : ℕ → List ℕ → ℕ → ℕ → Bool
 leaf_of words table t i = bit (get_or table (words * t + i / 64) 0) (i % 64)
 
--- a table has the leaves of the rows, and of the constants that are named, each of whose leaves stands over as many of a row
+-- a table has the leaves of the rows, and of the constants that are named, each of whose leaves stands over as many of
+-- a row
 pub record Unfolded (levels : ℕ) (rows constants : List ℕ) (named : ℕ) (table : List ℕ) : Type 0 where
-  pub variable : (v i : ℕ) → v < row_count → i < 2 ^ row_levels levels → leaf_of (row_words levels) table v i ≡ row_leaf (row_part (row_levels levels) rows v) i
+  pub variable : (v i : ℕ) → v < row_count → i < 2 ^ row_levels levels
+      → leaf_of (row_words levels) table v i ≡ row_leaf (row_part (row_levels levels) rows v) i
   pub empty : (i : ℕ) → i < 2 ^ row_levels levels → leaf_of (row_words levels) table empty_part i ≡ false
   pub full : (i : ℕ) → i < 2 ^ row_levels levels → leaf_of (row_words levels) table full_part i ≡ true
-  pub constant : (c i : ℕ) → T (bit named c) → i < 2 ^ row_levels levels → leaf_of (row_words levels) table (32 + c) i ≡ bit (get_or constants c 0) (block_of levels (row_levels levels) i)
+  pub constant : (c i : ℕ) → T (bit named c) → i < 2 ^ row_levels levels → leaf_of (row_words levels) table (32 + c) i
+      ≡ bit (get_or constants c 0) (block_of levels (row_levels levels) i)
 
 -- how the test of a join comes out at leaf i
 abbrev pub join_way : ℕ → List ℕ → LeafJoin → ℕ → Way
-join_way words table j i = test_way j.form (leaf_of words table j.first i) (leaf_of words table j.second i) (leaf_of words table j.sum i)
+join_way words table j i = test_way j.form (leaf_of words table j.first i) (leaf_of words table j.second i)
+    (leaf_of words table j.sum i)
 
 -- it holds there
 abbrev pub join_at : ℕ → List ℕ → LeafJoin → ℕ → Bool
@@ -46,7 +51,8 @@ PartsIn j = (j.first < 64) × (j.second < 64) × (j.sum < 64)
 -- p has words w of the parts of a join
 abbrev pub WordsOf : ℕ → List ℕ → LeafJoin → ℕ → PartWords → Type 0
 WordsOf words table j w p =
-    (p.first ≡ get_or table (words * j.first + w) 0) × (p.second ≡ get_or table (words * j.second + w) 0) × (p.sum ≡ get_or table (words * j.sum + w) 0)
+    (p.first ≡ get_or table (words * j.first + w) 0) × (p.second ≡ get_or table (words * j.second + w) 0)
+    × (p.sum ≡ get_or table (words * j.sum + w) 0)
 
 -- the bytes of the rows from byte `start` up to byte `end` are 0
 abbrev pub ZeroBytes : List ℕ → ℕ → ℕ → Type 0

@@ -1,5 +1,5 @@
-// The rows of a solution and the constants of its question, unfolded to one height: 64 leaves to a word, 16 words to a part of a join. Word w of part t is
-// entry 16 * t + w of a table.
+// The rows of a solution and the constants of its question, unfolded to one height: 64 leaves to a word, 16 words to a
+// part of a join. Word w of part t is entry 16 * t + w of a table.
 #![tactic(auto)]
 
 ghost use Rattle.std.specs.Prelude.{◌≡◌, true, ◌↔◌, ℕ, ◌+◌, ◌*◌, ◌^◌, ◌≤◌, ◌<◌, T, eqb, length};
@@ -7,7 +7,8 @@ ghost use Rattle.std.proofs.Math.ListN.{get_or};
 ghost use Rattle.shares.specs.Constant.{constant_levels, bit};
 ghost use Rattle.shares.specs.Parts.{full_part};
 ghost use Rattle.rows.specs.Rows.{row_levels, row_count, row_leaf, answer_bytes};
-ghost use Rattle.unfolded.specs.Unfolded.{row_words, Unfolded, join_way, join_at, join_failing, PartsIn, WordsOf, ZeroBytes};
+ghost use Rattle.unfolded.specs.Unfolded.{row_words, Unfolded, join_way, join_at, join_failing, PartsIn, WordsOf};
+ghost use Rattle.unfolded.specs.Unfolded.{ZeroBytes};
 ghost use Rattle.unfolded.specs.Filling.{WordOf, Filled, constant_leaf, ConstantParts};
 
 use basics::FULL_PART;
@@ -37,7 +38,8 @@ fn word_at(rows: &[u8], w: usize) -> u64
     u64::from_le_bytes(rows[8 * w..8 * w + 8].try_into().unwrap())
 }
 
-// Whether the rows are zero from word `start` on. It stops at none: where all are zero, that is quicker than a test of each word.
+// Whether the rows are zero from word `start` on. It stops at none: where all are zero, that is quicker than a test of
+// each word.
 pub fn zero_from(rows: &[u8], start: usize) -> bool
     requires { length rows.now ≡ answer_bytes constant_levels }
     ensures { T result ↔ ZeroBytes rows.now (8 * start) (length rows.now) }
@@ -100,7 +102,8 @@ fn put_constants(constants: &[u64; 32], named: u64, table: &mut [u64; TABLE_WORD
 
 // Fills a table that is empty.
 pub fn unfold(rows: &[u8], constants: &[u64; 32], named: u64, table: &mut [u64; TABLE_WORDS])
-    requires { (length rows.now ≡ answer_bytes constant_levels) × (named < 2 ^ 32) × ((k : ℕ) → get_or table.old k 0 ≡ 0) }
+    requires { (length rows.now ≡ answer_bytes constant_levels) × (named < 2 ^ 32)
+        × ((k : ℕ) → get_or table.old k 0 ≡ 0) }
     ensures { Unfolded constant_levels rows.now constants.now named table.new }
 {
     put_rows(rows, table);

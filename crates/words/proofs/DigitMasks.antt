@@ -9,7 +9,8 @@ use Rattle.shares.specs.BitParts.{bit_low}
 
 abbrev pub masks : List ℕ
 masks =
-    0xAAAA_AAAA_AAAA_AAAA ∷ 0xCCCC_CCCC_CCCC_CCCC ∷ 0xF0F0_F0F0_F0F0_F0F0 ∷ 0xFF00_FF00_FF00_FF00 ∷ 0xFFFF_0000_FFFF_0000
+    0xAAAA_AAAA_AAAA_AAAA ∷ 0xCCCC_CCCC_CCCC_CCCC ∷ 0xF0F0_F0F0_F0F0_F0F0 ∷ 0xFF00_FF00_FF00_FF00
+    ∷ 0xFFFF_0000_FFFF_0000
     ∷ 0xFFFF_FFFF_0000_0000 ∷ []
 
 -- the rule of the table as a test

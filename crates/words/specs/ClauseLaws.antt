@@ -1,5 +1,6 @@
 -- Laws of clauses: the tests by Boolean operations, and the parts that a section reads. Assumes nothing.
-use Rattle.std.specs.Prelude.{◌≡◌, refl, Bool, true, false, not, cond, ◌||◌, List, ℕ, ◌+◌, ◌-◌, ◌*◌, ◌^◌, ◌≤◌, ◌<◌, T, get_or}
+use Rattle.std.specs.Prelude.{◌≡◌, refl, Bool, true, false, not, cond, ◌||◌, List, ℕ, ◌+◌, ◌-◌, ◌*◌, ◌^◌, ◌≤◌, ◌<◌, T}
+use Rattle.std.specs.Prelude.{get_or}
 use Rattle.std.proofs.Common.{sym, ◌∙◌, subst, add_assoc, add-one, arith, eq-eqb, ne_eqb}
 use Rattle.std.proofs.Math.Path.{ap, ap₂}
 use Rattle.std.proofs.Math.Bool.{xor, ◌&&◌, or_comm, not-not}
@@ -58,12 +59,14 @@ not_bits x i p l h e = bit_not 64 x i l h ∙ ap not e
 module _ (a b c : ℕ) (x : a < 2 ^ 64) (y : b < 2 ^ 64) (z : c < 2 ^ 64) where
   -- three words that are right of each way are right of the test
   ways_of : (form : ℕ) (w : Ways) → ((i : ℕ) → i < 64 → let t = test_way form (bit a i) (bit b i) (bit c i) in
-      (bit w.overlap i ≡ is_way Overlap t) × (bit w.surplus i ≡ is_way Surplus t) × (bit w.shortfall i ≡ is_way Shortfall t)) → WaysOf form a b c w
+      (bit w.overlap i ≡ is_way Overlap t) × (bit w.surplus i ≡ is_way Surplus t)
+      × (bit w.shortfall i ≡ is_way Shortfall t)) → WaysOf form a b c w
   ways_of form w f = record {
     overlap = λ i h. (f i h).0;
     surplus = λ i h. (f i h).1;
     shortfall = λ i h. (f i h).2;
-    fails = λ i h. ap₂ ◌||◌ (f i h).0 (ap₂ ◌||◌ (f i h).1 (f i h).2) ∙ fails_some (test_way form (bit a i) (bit b i) (bit c i));
+    fails = λ i h. ap₂ ◌||◌ (f i h).0 (ap₂ ◌||◌ (f i h).1 (f i h).2)
+        ∙ fails_some (test_way form (bit a i) (bit b i) (bit c i));
   }
 
   abbrev unlike : ℕ
@@ -76,7 +79,12 @@ module _ (a b c : ℕ) (x : a < 2 ^ 64) (y : b < 2 ^ 64) (z : c < 2 ^ 64) where
       (not_bits (bit_and a b) i _ (and_lt 64 _ _ x y) h (bit_of_and a b i))
 
   pub sum_words : (form : ℕ) → form ≡ 0
-      → WaysOf form a b c (record { overlap = bit_and a b; surplus = bit_and unlike ((2 ^ 64 - 1) - c); shortfall = bit_and unlike c })
+      → WaysOf form a b c (record {
+        overlap = bit_and a b;
+        surplus = bit_and unlike ((2 ^ 64 - 1) - c);
+        shortfall =
+            bit_and unlike c;
+      })
   unfolding test_way
   sum_words form e =
       ways_of form _ (λ i h.
@@ -87,7 +95,8 @@ module _ (a b c : ℕ) (x : a < 2 ^ 64) (y : b < 2 ^ 64) (z : c < 2 ^ 64) where
         bit_of_and unlike c i ∙ ap (λ d. d && bit c i) (unlike_bits i h) ∙ S.2,
       ))
 
-  pub apart_words : (form : ℕ) → (form ≡ 0 → ⊥) → WaysOf form a b c (record { overlap = bit_and a b; surplus = 0; shortfall = 0 })
+  pub apart_words : (form : ℕ) → (form ≡ 0 → ⊥)
+      → WaysOf form a b c (record { overlap = bit_and a b; surplus = 0; shortfall = 0 })
   unfolding test_way
   apart_words form n =
       ways_of form _ (λ i h.
@@ -97,7 +106,8 @@ module _ (a b c : ℕ) (x : a < 2 ^ 64) (y : b < 2 ^ 64) (z : c < 2 ^ 64) where
 -- the test holds where none of the three words has its bit
 pub holds_word : (form a b c : ℕ) (w : Ways) → WaysOf form a b c w
     → w.overlap < 2 ^ 64 → w.surplus < 2 ^ 64 → w.shortfall < 2 ^ 64 → (i : ℕ) → i < 64
-    → bit ((2 ^ 64 - 1) - bit_or (bit_or w.surplus w.shortfall) w.overlap) i ≡ test_value form (bit a i) (bit b i) (bit c i)
+    → bit ((2 ^ 64 - 1) - bit_or (bit_or w.surplus w.shortfall) w.overlap) i
+    ≡ test_value form (bit a i) (bit b i) (bit c i)
 holds_word form a b c w W x y z i h =
     let off = bit_or w.surplus w.shortfall in
     not_bits (bit_or off w.overlap) i _ (or_lt 64 _ _ (or_lt 64 _ _ y z) x) h
@@ -128,7 +138,8 @@ module _ (form a b c : ℕ) (w : Ways) (W : WaysOf form a b c w) (i : ℕ) (h : 
 -- ---- sections
 
 -- one clause of a section
-pub clauses_at : {clauses : List ℕ} {start count : ℕ} → Clauses clauses start count → (k : ℕ) → k < count → Clauses clauses (start + 4 * k) 1
+pub clauses_at : {clauses : List ℕ} {start count : ℕ} → Clauses clauses start count → (k : ℕ) → k < count
+    → Clauses clauses (start + 4 * k) 1
 clauses_at {clauses} {start} {count} c k h =
     record {
       room = omega (arith, c.room);
@@ -147,7 +158,8 @@ clause_ext x y {clauses} {at} c h =
       h (get_or clauses (at + 3) 0) (c.terms 3 (omega arith)),
     )
 
-pub section_ext : (x y : ℕ → Bool) {clauses : List ℕ} {start count : ℕ} → Clauses clauses start count → ((t : ℕ) → t < 64 → x t ≡ y t)
+pub section_ext : (x y : ℕ → Bool) {clauses : List ℕ} {start count : ℕ} → Clauses clauses start count
+    → ((t : ℕ) → t < 64 → x t ≡ y t)
     → all_clauses clauses x start count ≡ all_clauses clauses y start count
 unfolding all_clauses
 section_ext x y {clauses} {start} {count} c h =
@@ -156,13 +168,15 @@ section_ext x y {clauses} {start} {count} c h =
 
 -- a bit that passes the first k clauses of a section, and one more
 pub section_more : (b : Bool) (clauses : List ℕ) (x : ℕ → Bool) (start k : ℕ)
-    → ((b && all_clauses clauses x start k) && clause_test clauses x (start + 4 * k)) ≡ (b && all_clauses clauses x start (k + 1))
+    → ((b && all_clauses clauses x start k) && clause_test clauses x (start + 4 * k))
+    ≡ (b && all_clauses clauses x start (k + 1))
 unfolding all_clauses
 section_more true clauses x start k = sym (rw (add-one k) (every_more k (λ k. clause_test clauses x (start + 4 * k))))
 section_more false clauses x start k = refl
 
 -- where a bit fails the first k clauses of a section, it fails them all
-pub section_stays : (b : Bool) (clauses : List ℕ) (x : ℕ → Bool) (start k count : ℕ) → k ≤ count → (b && all_clauses clauses x start k) ≡ false
+pub section_stays : (b : Bool) (clauses : List ℕ) (x : ℕ → Bool) (start k count : ℕ) → k ≤ count
+    → (b && all_clauses clauses x start k) ≡ false
     → (b && all_clauses clauses x start count) ≡ false
 unfolding all_clauses
 section_stays true clauses x start k count h e = every_stays count k (λ k. clause_test clauses x (start + 4 * k)) h e

@@ -1,4 +1,5 @@
--- The table of first words: entry e is the number of the first word that has a choice for search e, and the choices of it that pass. Assumes nothing.
+-- The table of first words: entry e is the number of the first word that has a choice for search e, and the choices of
+-- it that pass. Assumes nothing.
 use Rattle.std.specs.Prelude.{List, ℕ, ◌+◌, ◌*◌, get_or}
 use Rattle.words.specs.declared.Passing.{Passing}
 use Rattle.shares.specs.Below.{first_below}

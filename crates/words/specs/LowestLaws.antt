@@ -1,6 +1,8 @@
 -- The lowest set bit of a word, and a word without one of its bits. Assumes nothing.
-use Rattle.std.specs.Prelude.{◌≡◌, refl, Bool, true, false, not, ◌&&◌, ◌||◌, ℕ, zero, suc, ◌+◌, ◌-◌, ◌*◌, ◌/◌, ◌%◌, ◌^◌, ◌≤◌, ◌<◌, T, eqb, ltb}
-use Rattle.std.proofs.Common.{sym, ap, ◌∙◌, subst, add-zero, suc-mul, mod-lt, div-one, lt_of_lt_of_le, arith, T_not, eqb→eq, pow_pos, pow_mono, eq-eqb, ne_eqb, lt-ltb, le-ltb}
+use Rattle.std.specs.Prelude.{◌≡◌, refl, Bool, true, false, not, ◌&&◌, ◌||◌, ℕ, zero, suc, ◌+◌, ◌-◌, ◌*◌, ◌/◌, ◌%◌, ◌^◌}
+use Rattle.std.specs.Prelude.{◌≤◌, ◌<◌, T, eqb, ltb}
+use Rattle.std.proofs.Common.{sym, ap, ◌∙◌, subst, add-zero, suc-mul, mod-lt, div-one, lt_of_lt_of_le, arith, T_not}
+use Rattle.std.proofs.Common.{eqb→eq, pow_pos, pow_mono, eq-eqb, ne_eqb, lt-ltb, le-ltb}
 use Rattle.std.proofs.Math.Path.{fun_ext}
 use Rattle.std.proofs.Math.Bool.{and-true, and-false, or-false}
 use Rattle.std.proofs.Math.Decide.{dec_lt, ℕ_discrete}
@@ -26,7 +28,8 @@ pub zeros_first : (k x : ℕ) → count_trailing_zeros k x ≡ first_below k (bi
 unfolding count_trailing_zeros first_below
 zeros_first zero x = refl
 zeros_first (suc k) x =
-    go (x % 2) (lowest_bit x) (mod-lt x (omega arith)) (zeros_first k (x / 2) ∙ ap (first_below k) (fun_ext (bit_half x)))
+    go (x % 2) (lowest_bit x) (mod-lt x (omega arith)) (zeros_first k (x / 2)
+    ∙ ap (first_below k) (fun_ext (bit_half x)))
   where
     go : (b : ℕ) → bit x 0 ≡ eqb b 1 → b < 2 → count_trailing_zeros k (x / 2) ≡ first_below k (λ i. bit x (suc i))
         → under b (count_trailing_zeros k (x / 2)) ≡ first_below (suc k) (bit x)
@@ -73,7 +76,8 @@ odd_half y t =
     (omega arith, lowest_bit (y - 1) ∙ ne_eqb ((y - 1) % 2) 1 (omega arith), omega arith)
 
 -- its bits
-pub without_bit : (x : ℕ) → x < 2 ^ 64 → (x ≡ 0 → ⊥) → (k : ℕ) → bit (bit_and x (x - 1)) k ≡ (bit x k && not (eqb k (first_below 64 (bit x))))
+pub without_bit : (x : ℕ) → x < 2 ^ 64 → (x ≡ 0 → ⊥) → (k : ℕ)
+    → bit (bit_and x (x - 1)) k ≡ (bit x k && not (eqb k (first_below 64 (bit x))))
 without_bit x small some k = bit_of_and x (x - 1) k ∙ go (dec_lt k i) (ℕ_discrete k i)
   where
     i : ℕ
@@ -86,10 +90,14 @@ without_bit x small some k = bit_of_and x (x - 1) k ∙ go (dec_lt k i) (ℕ_dis
     clear j l = is_false (bit x j) (first_least 64 (bit x) j l)
 
     parts : y * 2 ^ i ≡ x
-    parts = rw (bits_zero i (x % 2 ^ i) (mod-lt x (pow_pos i)) (λ j l. bit_mod x i j l ∙ clear j l), add-zero (y * 2 ^ i)) at (split x i)
+    parts = rw (
+      bits_zero i (x % 2 ^ i) (mod-lt x (pow_pos i)) (λ j l. bit_mod x i j l ∙ clear j l),
+      add-zero (y * 2 ^ i),
+    ) at (split x i)
 
     odd : ((y - 1) / 2 ≡ y / 2) × (bit (y - 1) 0 ≡ false) × (0 < y)
-    odd = odd_half y (subst T (ap (bit x) (sym (add-zero i)) ∙ sym (bit_shift x i 0)) (first_below_lem 64 (bit x) (lowest_lt x small some)))
+    odd = odd_half y (subst T (ap (bit x) (sym (add-zero i)) ∙ sym (bit_shift x i 0))
+        (first_below_lem 64 (bit x) (lowest_lt x small some)))
 
     before : x - 1 ≡ (y - 1) * 2 ^ i + (2 ^ i - 1)
     before =
@@ -100,7 +108,8 @@ without_bit x small some k = bit_of_and x (x - 1) k ∙ go (dec_lt k i) (ℕ_dis
     bit_before j = ap (λ z. bit z (i + j)) before ∙ bit_high i (y - 1) (2 ^ i - 1) (omega (arith, pow_pos i)) j
 
     above : (j : ℕ) → bit (x - 1) (i + suc j) ≡ bit x (i + suc j)
-    above j = bit_before (suc j) ∙ sym (bit_half (y - 1) j) ∙ ap (λ z. bit z j) odd.0 ∙ bit_half y j ∙ bit_shift x i (suc j)
+    above j = bit_before (suc j) ∙ sym (bit_half (y - 1) j) ∙ ap (λ z. bit z j) odd.0 ∙ bit_half y j
+        ∙ bit_shift x i (suc j)
 
     same : (b : Bool) → (b && b) ≡ (b && true)
     same true = refl
@@ -119,7 +128,8 @@ without_bit x small some k = bit_of_and x (x - 1) k ∙ go (dec_lt k i) (ℕ_dis
 -- it is smaller
 pub without_less : (x y i : ℕ) → y ≤ x → ((k : ℕ) → bit y k ≡ (bit x k && not (eqb k i))) → T (bit x i) → y < x
 without_less x y i l out t =
-    lt_of_le-ne l (λ e. T_not (eqb i i) (and_right (bit x i) _ (subst T (ap (λ z. bit z i) (sym e) ∙ out i) t)) (eqb_refl i))
+    lt_of_le-ne l (λ e. T_not (eqb i i) (and_right (bit x i) _ (subst T (ap (λ z. bit z i) (sym e) ∙ out i) t))
+    (eqb_refl i))
 
 -- ---- the first bits of a word
 
@@ -128,7 +138,10 @@ first_bits x count k = bit_of_and x (2 ^ count - 1) k ∙ go (dec_lt k count)
   where
     go : Dec (k < count) → (bit x k && bit (2 ^ count - 1) k) ≡ (ltb k count && bit x k)
     go (yes l) = rw (bit_ones count k l, lt-ltb k count l) (and-true (bit x k))
-    go (no g) = rw (bit_beyond count (2 ^ count - 1) k (omega (arith, pow_pos count)) (omega arith), le-ltb k count (omega arith)) (and-false (bit x k))
+    go (no g) = rw (
+      bit_beyond count (2 ^ count - 1) k (omega (arith, pow_pos count)) (omega arith),
+      le-ltb k count (omega arith),
+    ) (and-false (bit x k))
 
 -- ---- bit after bit
 
@@ -142,9 +155,11 @@ moved_over r rest v i t j = go (ℕ_discrete j i)
     go (no n) = rw (ne_eqb j i n, or-false (r j), and-true (rest j))
 
 -- bit j taken out of a word: every other bit stays
-pub other_bits : (x j k : ℕ) → j < 64 → k < 64 → (k ≡ j → ⊥) → bit (bit_and x ((2 ^ 64 - 1) - (1 * 2 ^ j) % 2 ^ 64)) k ≡ bit x k
+pub other_bits : (x j k : ℕ) → j < 64 → k < 64 → (k ≡ j → ⊥) → bit (bit_and x ((2 ^ 64 - 1) - (1 * 2 ^ j) % 2 ^ 64)) k
+    ≡ bit x k
 other_bits x j k h l n =
-    bit_of_and x ((2 ^ 64 - 1) - (1 * 2 ^ j) % 2 ^ 64) k ∙ ap (◌&&◌ (bit x k)) (ap (λ y. bit ((2 ^ 64 - 1) - y) k) (power_shift j h) ∙ unset) ∙ and-true (bit x k)
+    bit_of_and x ((2 ^ 64 - 1) - (1 * 2 ^ j) % 2 ^ 64) k
+    ∙ ap (◌&&◌ (bit x k)) (ap (λ y. bit ((2 ^ 64 - 1) - y) k) (power_shift j h) ∙ unset) ∙ and-true (bit x k)
   where
     unset : bit ((2 ^ 64 - 1) - 2 ^ j) k ≡ true
     unset = bit_not 64 (2 ^ j) k (pow-lt {j = 64} h) l ∙ ap not (power_bit j k ∙ ne_eqb k j n)

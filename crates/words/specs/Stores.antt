@@ -1,4 +1,5 @@
--- A store into a list: what holds of the stored value, and of each other entry; and one store after the other. Assumes nothing.
+-- A store into a list: what holds of the stored value, and of each other entry; and one store after the other. Assumes
+-- nothing.
 use Rattle.std.specs.Prelude.{◌≡◌, refl, List, ℕ, ◌+◌, ◌≤◌, ◌<◌, length, get_or, set}
 use Rattle.std.proofs.Common.{sym, subst, arith, get_or-set_same, get_or-set_other}
 use Rattle.std.proofs.Math.Decide.{ℕ_discrete}
@@ -19,7 +20,8 @@ module _ (start : ℕ) (P : ℕ → ℕ → Type 0) (old : List ℕ) where
   pub stored_none : Stored start 0 P old old
   stored_none = record { set = λ j l. absurd (omega arith); kept = λ t h. refl }
 
-  pub stored_more : (n x : ℕ) (new : List ℕ) → start + n < length new → P n x → Stored start n P old new → Stored start (n + 1) P old (set new (start + n) x)
+  pub stored_more : (n x : ℕ) (new : List ℕ) → start + n < length new → P n x → Stored start n P old new
+      → Stored start (n + 1) P old (set new (start + n) x)
   stored_more n x new room holds c = record {
     set = λ j l. store_law (λ t y. (j : ℕ) → t ≡ start + j → j < n + 1 → P j y) new (start + n) x room
         (λ t other j e m. subst (λ t. P j (get_or new t 0)) (sym e) (c.set j (omega arith)))

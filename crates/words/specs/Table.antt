@@ -1,4 +1,5 @@
--- The table of terms: a word for each term, and for each part of a join that is no term's, with its values in the 64 choices of one word.
+-- The table of terms: a word for each term, and for each part of a join that is no term's, with its values in the 64
+-- choices of one word.
 -- Assumes nothing.
 use Rattle.std.specs.Prelude.{◌≡◌, false, List, ◌⊎◌, ℕ, ◌+◌, ◌-◌, ◌*◌, ◌≤◌, ◌<◌, T, get_or}
 use Rattle.shares.specs.Constant.{bit}
@@ -25,7 +26,9 @@ pub record Changed (n m from w : ℕ) (old new : List ℕ) : Type 0 where
 abbrev pub Within : ℕ → ℕ → Type 0
 Within named values = (i : ℕ) → bit named i ≡ false → bit values i ≡ false
 
--- of the constants that are named, the words of all but the rest are those of their values, and every other word is as it was
+-- of the constants that are named, the words of all but the rest are those of their values, and every other word is as
+-- it was
 pub record ConstantWords (named rest values : ℕ) (old new : List ℕ) : Type 0 where
-  pub set : (i : ℕ) → T (bit named i) → bit rest i ≡ false → (k : ℕ) → k < 64 → bit (get_or new (32 + i) 0) k ≡ bit values i
+  pub set : (i : ℕ) → T (bit named i) → bit rest i ≡ false → (k : ℕ) → k < 64
+      → bit (get_or new (32 + i) 0) k ≡ bit values i
   pub kept : (t : ℕ) → (32 ≤ t → (bit named (t - 32) ≡ false) ⊎ T (bit rest (t - 32))) → get_or new t 0 ≡ get_or old t 0

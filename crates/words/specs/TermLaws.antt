@@ -1,4 +1,5 @@
--- Laws of terms: the digit of a variable, the values of the constants, a term's value by its kind, and the parts of a choice.
+-- Laws of terms: the digit of a variable, the values of the constants, a term's value by its kind, and the parts of a
+-- choice.
 -- Assumes nothing.
 use Rattle.std.specs.Prelude.{◌≡◌, Bool, List, ℕ, ◌+◌, ◌-◌, ◌*◌, ◌%◌, ◌^◌, ◌≤◌, ◌<◌, eqb, get_or}
 use Rattle.std.proofs.Common.{sym, ◌∙◌, subst, lt_of_lt_of_le, arith, pow_mono}
@@ -47,9 +48,11 @@ has_digit n m p h = (position_lt n m p h, position_twice n m p h)
 
 -- a word whose bits are the values at a leaf is their number
 pub values_is : (levels : ℕ) (constants : List ℕ) (named h b r : ℕ) → r < 2 ^ 64
-    → ((i : ℕ) → bit r i ≡ (bit named i && bit (get_or constants i 0) (first_of h levels b))) → r ≡ values_at levels constants named h b
+    → ((i : ℕ) → bit r i ≡ (bit named i && bit (get_or constants i 0) (first_of h levels b)))
+    → r ≡ values_at levels constants named h b
 unfolding values_at
-values_is levels constants named h b r small bits = bits_same 64 r _ small (number_lt 64 _) (λ i l. bits i ∙ sym (bit_number 64 _ i l))
+values_is levels constants named h b r small bits =
+    bits_same 64 r _ small (number_lt 64 _) (λ i l. bits i ∙ sym (bit_number 64 _ i l))
 
 -- a word whose bits are set in another that is small is small
 module _ (w named r : ℕ) (f : ℕ → Bool) (below : named < 2 ^ w) (bits : (i : ℕ) → bit r i ≡ (bit named i && f i)) where
@@ -62,7 +65,8 @@ module _ (w named r : ℕ) (f : ℕ → Bool) (below : named < 2 ^ w) (bits : (i
   pub within_lt : w ≤ 64 → r < 2 ^ 64 → r < 2 ^ w
   within_lt few small =
       let least = number_lt w (bit r) in
-      let same = bits_same 64 r (number_of w (bit r)) small (lt_of_lt_of_le least (pow_mono few)) (λ i l. its_bits i (dec_lt i w)) in
+      let same = bits_same 64 r (number_of w (bit r)) small (lt_of_lt_of_le least (pow_mono few))
+      (λ i l. its_bits i (dec_lt i w)) in
       subst (λ x. x < 2 ^ w) (sym same) least
 
 -- ---- a term's value by its kind
@@ -81,7 +85,8 @@ module _ (n m values z t : ℕ) where
   value_none h k = rw (le-ltb t (n + m) h, lt-ltb t 32 k)
 
 -- what is no variable depends neither on the choice nor on how many variables there are
-pub value_fixed : (n m n' m' values z z' t : ℕ) → n + m ≤ t → n' + m' ≤ t → term_value n m values z t ≡ term_value n' m' values z' t
+pub value_fixed : (n m n' m' values z z' t : ℕ) → n + m ≤ t → n' + m' ≤ t
+    → term_value n m values z t ≡ term_value n' m' values z' t
 unfolding term_value
 value_fixed n m n' m' values z z' t h h' = rw (le-ltb t (n + m) h, le-ltb t (n' + m') h')
 
@@ -114,15 +119,18 @@ module _ (n m values z : ℕ) where
   pub values_mod : term_value n m values z ≡ term_value n m values (z % 2 ^ (n + m))
   values_mod = fun_ext value_mod
 
-  pub pass_mod : (clauses : List ℕ) (start count : ℕ) → all_pass clauses start count n m values z ≡ all_pass clauses start count n m values (z % 2 ^ (n + m))
+  pub pass_mod : (clauses : List ℕ) (start count : ℕ)
+      → all_pass clauses start count n m values z ≡ all_pass clauses start count n m values (z % 2 ^ (n + m))
   unfolding all_pass
   pass_mod clauses start count = ap (λ x. all_clauses clauses x start count) values_mod
 
-  pub fails_mod : (clauses : List ℕ) (at : ℕ) → clause_fails clauses at n m values z ≡ clause_fails clauses at n m values (z % 2 ^ (n + m))
+  pub fails_mod : (clauses : List ℕ) (at : ℕ)
+      → clause_fails clauses at n m values z ≡ clause_fails clauses at n m values (z % 2 ^ (n + m))
   unfolding clause_fails
   fails_mod clauses at = ap (λ x. not (clause_test clauses x at)) values_mod
 
   pub but_mod : (clauses : List ℕ) (start count at : ℕ)
-      → all_pass_but clauses start count at n m values z ≡ all_pass_but clauses start count at n m values (z % 2 ^ (n + m))
+      → all_pass_but clauses start count at n m values z
+      ≡ all_pass_but clauses start count at n m values (z % 2 ^ (n + m))
   unfolding all_pass_but
   but_mod clauses start count at = ap₂ ◌&&◌ (pass_mod clauses start count) (fails_mod clauses at)

@@ -28,15 +28,15 @@ impl Passing {
     };
 }
 
-// A table of first words has one for each search. There are up to 33 searches: one for each of the first system's disequations, one for an unmet choice and
-// one for the least of a leaf.
+// A table of first words has one for each search. There are up to 33 searches: one for each of the first system's
+// disequations, one for an unmet choice and one for the least of a leaf.
 pub const FIRST_WORDS: usize = 33;
 
 // A table of the leaves' least words has one for each of up to 64 leaves.
 pub const LEAF_WORDS: usize = 64;
 
-// `as` converts between usize and u64, which From does not, and cuts a u64 to a u32 that it fits, where `try_from` would
-// have an error that cannot be.
+// `as` converts between usize and u64, which From does not, and cuts a u64 to a u32 that it fits, where `try_from`
+// would have an error that cannot be.
 
 // The word of the part whose number is byte `at`.
 fn term_word(terms: &[u64; 64], clauses: &[u8; CLAUSE_BYTES], at: usize) -> u64
@@ -46,7 +46,8 @@ fn term_word(terms: &[u64; 64], clauses: &[u8; CLAUSE_BYTES], at: usize) -> u64
     terms[usize::from(clauses[at])]
 }
 
-// How a test comes out at 64 leaves: those where the parts overlap, those with a surplus, and those with a shortfall. It holds at the others.
+// How a test comes out at 64 leaves: those where the parts overlap, those with a surplus, and those with a shortfall.
+// It holds at the others.
 #[derive(Clone, Copy)]
 pub struct Ways {
     pub overlap: u64,
@@ -54,7 +55,8 @@ pub struct Ways {
     pub shortfall: u64,
 }
 
-// Bit i of each of the three words is set where the test with this form comes out so at the bits i of a, b and c; their union, where it fails.
+// Bit i of each of the three words is set where the test with this form comes out so at the bits i of a, b and c; their
+// union, where it fails.
 pub fn ways_word(form: u8, a: u64, b: u64, c: u64) -> Ways
     ensures { WaysOf form a b c result }
 {
@@ -74,7 +76,8 @@ pub fn ways_word(form: u8, a: u64, b: u64, c: u64) -> Ways
     }
 }
 
-// Bit i of the result says that the test with this form holds at the bits i of a, b and c: it fails in none of the three ways.
+// Bit i of the result says that the test with this form holds at the bits i of a, b and c: it fails in none of the
+// three ways.
 pub fn test_word(form: u8, a: u64, b: u64, c: u64) -> u64
     ensures { (i : ℕ) → i < 64 → bit result i ≡ test_value form (bit a i) (bit b i) (bit c i) }
 {
@@ -113,7 +116,8 @@ pub fn clause_word(terms: &[u64; 64], clauses: &[u8; CLAUSE_BYTES], at: usize) -
 // The bits of x at which the clause at byte `at` fails, where part t has bit i of terms[t] for its value.
 pub fn failing_word(terms: &[u64; 64], clauses: &[u8; CLAUSE_BYTES], at: usize, x: u64) -> u64
     requires { Clauses clauses.now at 1 }
-    ensures { (i : ℕ) → i < 64 → bit result i ≡ (bit x i && not (clause_test clauses.now (λ t. bit (get_or terms.now t 0) i) at)) }
+    ensures { (i : ℕ) → i < 64 → bit result i
+        ≡ (bit x i && not (clause_test clauses.now (λ t. bit (get_or terms.now t 0) i) at)) }
 {
     x & !clause_word(terms, clauses, at)
 }
@@ -127,7 +131,8 @@ pub fn section_word(
     x: u64,
 ) -> u64
     requires { Clauses clauses.now start count }
-    ensures { (i : ℕ) → i < 64 → bit result i ≡ (bit x i && all_clauses clauses.now (λ t. bit (get_or terms.now t 0) i) start count) }
+    ensures { (i : ℕ) → i < 64 → bit result i
+        ≡ (bit x i && all_clauses clauses.now (λ t. bit (get_or terms.now t 0) i) start count) }
 {
     let mut r = x;
     for k in 0..count {
@@ -201,7 +206,8 @@ fn variable_at(n: usize, m: usize, p: usize) -> usize
 // Puts the words of the constants that are named into the table of terms, in place of those of other values.
 pub fn set_constants(values: u64, named: u64, terms: &mut [u64; 64])
     requires { named < 2 ^ 32 }
-    ensures { (n m old w : ℕ) → n + m ≤ 12 → Within named old → Within named values → Terms n m old w terms.old → Terms n m values w terms.new }
+    ensures { (n m old w : ℕ) → n + m ≤ 12 → Within named old → Within named values → Terms n m old w terms.old
+        → Terms n m values w terms.new }
 {
     for i in bits(named) {
         terms[32 + i] = spread(basics::digit(values, i));
@@ -219,7 +225,8 @@ fn set_variables(n: usize, m: usize, from: usize, w: usize, terms: &mut [u64; 64
     }
 }
 
-// Makes the table of terms at word 0 of a table that is empty, where all constants are 0. The part that is always full has its word from here on.
+// Makes the table of terms at word 0 of a table that is empty, where all constants are 0. The part that is always full
+// has its word from here on.
 pub fn start_terms(n: usize, m: usize, terms: &mut [u64; 64])
     requires { (n + m ≤ 12) × ((t : ℕ) → t < 64 → get_or terms.old t 0 ≡ 0) }
     ensures { Terms n m 0 0 terms.new }

@@ -1,5 +1,7 @@
--- Laws of the other calls' numbers: what they hold is read back from them, and what a join's stands for. Assumes nothing.
-use Rattle.std.specs.Prelude.{◌≡◌, refl, None, Some, Bool, true, false, not, cond, List, ◌⊎◌, ℕ, Result, Ok, Err, ◌+◌, ◌*◌, ◌/◌, ◌%◌, ◌^◌, ◌≤◌, ◌<◌, T, length, take, drop}
+-- Laws of the other calls' numbers: what they hold is read back from them, and what a join's stands for. Assumes
+-- nothing.
+use Rattle.std.specs.Prelude.{◌≡◌, refl, None, Some, Bool, true, false, not, cond, List, ◌⊎◌, ℕ, Result, Ok, Err, ◌+◌}
+use Rattle.std.specs.Prelude.{◌*◌, ◌/◌, ◌%◌, ◌^◌, ◌≤◌, ◌<◌, T, length, take, drop}
 use Rattle.std.proofs.Math.Path.{ap}
 use Rattle.std.proofs.Common.{◌∙◌, inl, inr, arith, eq-eqb, ne_eqb}
 use Rattle.std.proofs.Math.Option.{none, some}
@@ -44,28 +46,38 @@ module _ (answer : List ℕ) (v : ℕ) (r : Range) (e : r ≡ row_range (row_lev
 
 -- the length and the refusal number of the text call
 pub text_reads_back : (row buffer : List ℕ)
-    → (text_number (text_answer (row_levels constant_levels) row buffer) % 2 ^ 32 ≡ text_length (text_answer (row_levels constant_levels) row buffer))
-    × (text_number (text_answer (row_levels constant_levels) row buffer) / 2 ^ 32 ≡ text_refusal (text_answer (row_levels constant_levels) row buffer))
-text_reads_back row buffer = (omega (arith, answer_length (row_levels constant_levels) row buffer), omega (arith, answer_length (row_levels constant_levels) row buffer))
+    → (text_number (text_answer (row_levels constant_levels) row buffer) % 2 ^ 32
+    ≡ text_length (text_answer (row_levels constant_levels) row buffer))
+    × (text_number (text_answer (row_levels constant_levels) row buffer) / 2 ^ 32
+    ≡ text_refusal (text_answer (row_levels constant_levels) row buffer))
+text_reads_back row buffer = (
+  omega (arith, answer_length (row_levels constant_levels) row buffer),
+  omega (arith, answer_length (row_levels constant_levels) row buffer),
+)
 
 -- the constant and the refusal number of the constant call
-pub constant_reads_back : (g : Result ℕ NoConstant) → constant_given g < 2 ^ 32 → (constant_number g % 2 ^ 32 ≡ constant_given g) × (constant_number g / 2 ^ 32 ≡ constant_refusal g)
+pub constant_reads_back : (g : Result ℕ NoConstant) → constant_given g < 2 ^ 32
+    → (constant_number g % 2 ^ 32 ≡ constant_given g) × (constant_number g / 2 ^ 32 ≡ constant_refusal g)
 constant_reads_back g l = (omega arith, omega arith)
 
 -- the text of a constant's row is the constant's, for every number of levels
 module _ (levels n : ℕ) where
-  constant_row_text : row_text (row_levels levels) (row_of (row_levels levels) (number_tree levels n)) ≡ text (number_tree levels n)
+  constant_row_text : row_text (row_levels levels) (row_of (row_levels levels) (number_tree levels n))
+      ≡ text (number_tree levels n)
   unfolding row_text
   constant_row_text =
       ap text
-      (row_tree_row_of (row_levels levels) (omega arith) (number_tree levels n) (tree_of_folded levels (bit n)) (omega (arith, tree_of_height levels (bit n))))
+      (row_tree_row_of (row_levels levels) (omega arith) (number_tree levels n) (tree_of_folded levels (bit n))
+      (omega (arith, tree_of_height levels (bit n))))
 
   -- so a constant that the text call writes and the constant call reads is itself
-  pub row_read : n < 2 ^ (2 ^ levels) → from_text levels (row_text (row_levels levels) (row_of (row_levels levels) (number_tree levels n))) ≡ Ok n
+  pub row_read : n < 2 ^ (2 ^ levels)
+      → from_text levels (row_text (row_levels levels) (row_of (row_levels levels) (number_tree levels n))) ≡ Ok n
   row_read l = ap (from_text levels) constant_row_text ∙ written_read levels n l
 
   -- and each text that the constant call accepts is what the text call writes
-  pub row_written : (s : List ℕ) → from_text levels s ≡ Ok n → row_text (row_levels levels) (row_of (row_levels levels) (number_tree levels n)) ≡ s
+  pub row_written : (s : List ℕ) → from_text levels s ≡ Ok n
+      → row_text (row_levels levels) (row_of (row_levels levels) (number_tree levels n)) ≡ s
   row_written s e = constant_row_text ∙ (read_written levels s n e).1
 
 -- the number of a join, told by the numbers, stands for the join of their trees, for every number of levels
@@ -75,12 +87,14 @@ module _ (levels a b : ℕ) (ha : a < undefined_join levels) (hb : b < undefined
   join_told r e = go (passes (set_in_both (2 ^ levels) a b))
     where
       told : (s : Bool) → set_in_both (2 ^ levels) a b ≡ s
-          → (r ≡ cond s (undefined_join levels) (a + b)) × (join (number_tree levels a) (number_tree levels b) ≡ cond s none (some (number_tree levels (a + b))))
+          → (r ≡ cond s (undefined_join levels) (a + b))
+          × (join (number_tree levels a) (number_tree levels b) ≡ cond s none (some (number_tree levels (a + b))))
       told s h = rw (← h) (e, join_numbers levels a b ha hb)
 
       go : T (set_in_both (2 ^ levels) a b) ⊎ T (not (set_in_both (2 ^ levels) a b))
           → (r ≤ undefined_join levels) × (number_join levels r ≡ join (number_tree levels a) (number_tree levels b))
-      go (inl t) = let (n, j) = told true (is_true _ t) in (omega arith, rw (eq-eqb r (undefined_join levels) n, j) refl)
+      go (inl t) = let (n, j) = told true (is_true _ t) in
+          (omega arith, rw (eq-eqb r (undefined_join levels) n, j) refl)
       go (inr t) =
           let (n, j) = told false (is_false _ t) in
           let low : a + b < undefined_join levels = sum_lt (2 ^ levels) a b ha hb t in
@@ -91,9 +105,11 @@ module _ (levels a b : ℕ) (ha : a < undefined_join levels) (hb : b < undefined
 pub text_written : (w : Result ℕ TextRefusal) (n : ℕ) → w ≡ Ok n → n ≡ text_number w
 text_written w n e = rw e (omega arith)
 
-pub text_refused : (w : Result ℕ TextRefusal) (r : TextRefusal) (x : ℕ) → w ≡ Err r → x ≡ refusal_number r → 4294967296 * x ≡ text_number w
+pub text_refused : (w : Result ℕ TextRefusal) (r : TextRefusal) (x : ℕ) → w ≡ Err r → x ≡ refusal_number r
+    → 4294967296 * x ≡ text_number w
 text_refused w r x e h = rw e (omega arith)
 
-pub number_cases : (levels : ℕ) (s : Bool) (n : ℕ) → join_number levels (cond s None (Some n)) ≡ cond s (undefined_join levels) n
+pub number_cases : (levels : ℕ) (s : Bool) (n : ℕ)
+    → join_number levels (cond s None (Some n)) ≡ cond s (undefined_join levels) n
 number_cases levels true n = refl
 number_cases levels false n = refl

@@ -17,12 +17,21 @@ module _ (s buffer area : List ℕ) where
     outcome : r ≡ packed (outcome_of (asked_with s buffer area));
     answer : answer' ≡ answer_after (asked_with s buffer area) buffer;
     work : work' ≡ work_after (asked_with s buffer area) area;
-    model : (q : Question) → asked_with s buffer area ≡ answered q → Exact q (unpacked r) × Demand3 q (unpacked r) answer';
+    model : (q : Question) → asked_with s buffer area ≡ answered q → Exact q (unpacked r)
+        × Demand3 q (unpacked r) answer';
   }
 
   -- a result is read back from its number
-  pub given_packed : (o : Outcome) (answer' work' : List ℕ) → Given s buffer area o answer' work' → (r : ℕ) → r ≡ packed o
+  pub given_packed : (o : Outcome) (answer' work' : List ℕ) → Given s buffer area o answer' work' → (r : ℕ)
+      → r ≡ packed o
       → GivenPacked r answer' work'
   given_packed o answer' work' G r er =
-      let back : unpacked r ≡ o = ap unpacked er ∙ reads_back o (rw G.outcome (outcome_fits s (length buffer) (length area))) in
-      record { outcome = er ∙ ap packed G.outcome; answer = G.answer; work = G.work; model = λ q f. rw back (G.model q f) }
+      let back : unpacked r ≡ o = ap unpacked er
+      ∙ reads_back o (rw G.outcome (outcome_fits s (length buffer) (length area))) in
+      record {
+        outcome = er ∙ ap packed G.outcome;
+        answer = G.answer;
+        work = G.work;
+        model =
+            λ q f. rw back (G.model q f);
+      }

@@ -35,8 +35,9 @@ number_join levels n = cond (eqb n (undefined_join levels)) none (some (number_t
 abbrev pub version_number : ℕ → ℕ → ℕ → ℕ
 version_number major minor patch = 2 ^ 16 * major + 2 ^ 8 * minor + patch
 
--- a judgement: 0 refused, with the number of the refusal in byte 1 and its place in bytes 2 and 3, low first; 1 accepted; 2 a clause is broken, with its number in byte 4,
--- the number of the way in byte 5 and the leaf in bytes 6 and 7, low first; 3 the rows extend
+-- a judgement: 0 refused, with the number of the refusal in byte 1 and its place in bytes 2 and 3, low first; 1
+-- accepted; 2 a clause is broken, with its number in byte 4, the number of the way in byte 5 and the leaf in bytes 6
+-- and 7, low first; 3 the rows extend
 abbrev pub judgement_number : Judgement → ℕ
 judgement_number (judgement.Refused n place) = 2 ^ 8 * n + 2 ^ 16 * place
 judgement_number judgement.Accepted = 1

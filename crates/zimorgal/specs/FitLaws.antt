@@ -5,7 +5,8 @@ use Rattle.shares.specs.Test.{cond_law}
 use Rattle.shares.specs.Constant.{constant_levels}
 use Rattle.leaves.specs.Heights.{any_height}
 use Rattle.systems.specs.Questions.{Question, WellFormed}
-use Rattle.systems.specs.Answers.{Answer, satisfied, unsatisfied, vacuous, entailed, unmet, missed, Says, verdict, reason, disequation_number}
+use Rattle.systems.specs.Answers.{Answer, satisfied, unsatisfied, vacuous, entailed, unmet, missed, Says, verdict}
+use Rattle.systems.specs.Answers.{reason, disequation_number}
 use Rattle.systems.specs.Decide.{decide}
 use Rattle.systems.proofs.Heights.{exact}
 use Rattle.format.specs.Format.{Result, refused, accepted, read}
@@ -71,7 +72,8 @@ outcome_fits s a w = go (read s) refl
     M g = InBytes (outcome_of g)
 
     go : (o : Result) → read s ≡ o → InBytes (outcome_of (lent_to o a w))
-    go (refused n place) h = refusal_fits n place (omega (arith, refusal_number s n place h)) (refusal_place s n place h)
+    go (refused n place) h = refusal_fits n place (omega (arith, refusal_number s n place h))
+        (refusal_place s n place h)
     go (accepted q) h =
         cond_law M (ltb a (answer_bytes q.constants.levels)) _ _ (λ _. refusal_fits 11 0 (omega arith) (omega arith))
         (λ _. cond_law M (ltb w work_bytes) _ _ (λ _. refusal_fits 12 0 (omega arith) (omega arith))

@@ -17,7 +17,8 @@ ghost use Rattle.judging.specs.Exactly.{Exactly, AskingShows};
 ghost use Rattle.judging.specs.Told.{broken_told, told as judging_told};
 ghost use Rattle.zimorgal.specs.Packing.{packed, unpacked};
 ghost use Rattle.zimorgal.specs.Fields.{InBytes};
-ghost use Rattle.zimorgal.specs.Calls.{range_number, text_number, constant_number, undefined_join, number_join, version_number, judgement_number, Small};
+ghost use Rattle.zimorgal.specs.Calls.{range_number, text_number, constant_number, undefined_join, number_join};
+ghost use Rattle.zimorgal.specs.Calls.{version_number, judgement_number, Small};
 ghost use Rattle.zimorgal.specs.Joins.{join_number};
 
 use asking::Answer;
@@ -25,8 +26,8 @@ use constants::NoConstant;
 use judging::{BrokenClause, Failing, Verdict};
 use text::TextRefusal;
 
-// A refusal as one number: its own in byte 1, and its place in bytes 2 and 3. What `as` converts here and below fits (from
-// usize to u64, or its bytes by `InBytes` and `Small`), and `try_from` would have an error that cannot be.
+// A refusal as one number: its own in byte 1, and its place in bytes 2 and 3. What `as` converts here and below fits
+// (from usize to u64, or its bytes by `InBytes` and `Small`), and `try_from` would have an error that cannot be.
 fn refused_number(number: u8, place: usize) -> u64
     requires { place < 2 ^ 16 }
     ensures { result ≡ 2 ^ 8 * number + 2 ^ 16 * place }
@@ -61,7 +62,8 @@ pub extern "C" fn zimorgal_ask(question: &[u8], answer: &mut [u8], work: &mut [u
     ensures outcome { result ≡ packed (outcome_of (asked_with question.now answer.old work.old)) }
     ensures answer { answer.new ≡ answer_after (asked_with question.now answer.old work.old) answer.old }
     ensures work { work.new ≡ work_after (asked_with question.now answer.old work.old) work.old }
-    ensures model { (q : model.Question) → asked_with question.now answer.old work.old ≡ answered q → Exact q (unpacked result) × Demand3 q (unpacked result) answer.new }
+    ensures model { (q : model.Question) → asked_with question.now answer.old work.old ≡ answered q
+        → Exact q (unpacked result) × Demand3 q (unpacked result) answer.new }
 {
     pack(asking::ask(question, answer, work))
 }
@@ -70,7 +72,8 @@ pub extern "C" fn zimorgal_ask(question: &[u8], answer: &mut [u8], work: &mut [u
 #[unsafe(no_mangle)]
 pub extern "C" fn zimorgal_judge(question: &[u8], rows: &[u8]) -> u64
     ensures result { result ≡ judgement_number (judgement_of (judged_with question.now rows.now) rows.now) }
-    ensures model { (q : model.Question) → judged_with question.now rows.now ≡ judged q → Exactly q (row_shares q.constants.levels rows.now) (λ j. Small j × (result ≡ judgement_number j)) }
+    ensures model { (q : model.Question) → judged_with question.now rows.now ≡ judged q
+        → Exactly q (row_shares q.constants.levels rows.now) (λ j. Small j × (result ≡ judgement_number j)) }
     ensures shown { AskingShows question.now rows.now → result ≡ judgement_number Accepted }
 {
     judgement_number(judging::judge(question, rows))
@@ -103,14 +106,15 @@ fn judgement_number(judged: Result<Verdict, judging::Refusal>) -> u64
     }
 }
 
-// Where the row of a variable lies in an answer buffer: the offset in the low 32 bits, the length in the high 32. It is the very part
-// that `rows::row` hands back.
+// Where the row of a variable lies in an answer buffer: the offset in the low 32 bits, the length in the high 32. It is
+// the very part that `rows::row` hands back.
 #[unsafe(no_mangle)]
 pub extern "C" fn zimorgal_row(answer: &[u8], variable: usize) -> u64
     ensures range { result ≡ range_number (row_range (row_levels constant_levels) (length answer.now) variable) }
     ensures offset { result % 2 ^ 32 ≡ (row_range (row_levels constant_levels) (length answer.now) variable).offset }
     ensures length { result / 2 ^ 32 ≡ (row_range (row_levels constant_levels) (length answer.now) variable).bytes }
-    ensures part { take (result / 2 ^ 32) (drop (result % 2 ^ 32) answer.now) ≡ row_part (row_levels constant_levels) answer.now variable }
+    ensures part { take (result / 2 ^ 32) (drop (result % 2 ^ 32) answer.now)
+        ≡ row_part (row_levels constant_levels) answer.now variable }
 {
     let range = rows::row_range(answer.len(), variable);
     (range.offset as u64) + ((range.bytes as u64) << 32)
@@ -156,7 +160,8 @@ fn constant_number(read: Result<u32, NoConstant>) -> u64
 // The join of two constants, all leaves at once: their sum, or 2^32, undefined, exactly if some bit is set in both.
 #[unsafe(no_mangle)]
 pub extern "C" fn zimorgal_join(a: u32, b: u32) -> u64
-    ensures tree { (result ≤ undefined_join constant_levels) × (number_join constant_levels result ≡ join (number_tree constant_levels a) (number_tree constant_levels b)) }
+    ensures tree { (result ≤ undefined_join constant_levels)
+        × (number_join constant_levels result ≡ join (number_tree constant_levels a) (number_tree constant_levels b)) }
     ensures numbers { result ≡ cond (set_in_both (2 ^ constant_levels) a b) (undefined_join constant_levels) (a + b) }
 {
     join_number(shares::join_constants(a, b))

@@ -1,4 +1,5 @@
-// The judging program: reads 1,536 bytes of rows and then one question from standard input, judges the rows, and prints what it finds.
+// The judging program: reads 1,536 bytes of rows and then one question from standard input, judges the rows, and prints
+// what it finds.
 #![tactic(auto)]
 
 ghost use Rattle.std.specs.Prelude.{◌≡◌, ◌≤◌, length, take};
@@ -41,7 +42,8 @@ fn say(rt: &impl Print, judged: Result<Verdict, Refusal>) -> io::Result<()> {
     }
 }
 
-// Reads the question, and gives its length. Where the rows are not all there, input has ended and there is none: on a terminal it could go on.
+// Reads the question, and gives its length. Where the rows are not all there, input has ended and there is none: on a
+// terminal it could go on.
 fn read_question<R: Read>(input: &mut R, rows: usize, question: &mut [u8]) -> usize
     ensures within { result ≤ length question.new }
     ensures prefix { result ≡ length (take result question.new) }

@@ -13,7 +13,9 @@ pub returns-in_err-read : goal.returns-in_err-read
 returns-in_err-read c =
     let refused = err_from_is_err_and c.from_residual.result c.from_residual.ensures.1 in
     let e = refused.1 ∙ ap Err refused.2 in
-    let G = given_refused c.args.question.now _ _ _ _ (asked_refused c.args.question.now _ _ _ _ (answer_refused c.args.question.now _ _ c.in_err-read.ensures.answer)) _
+    let G = given_refused c.args.question.now _ _ _ _
+    (asked_refused c.args.question.now _ _ _ _ (answer_refused c.args.question.now _ _ c.in_err-read.ensures.answer))
+    _
     (ap told e) in
     record { outcome = G.outcome; answer = G.answer; work = G.work; model = G.model; finding = rw e tt }
 
@@ -21,14 +23,16 @@ pub returns-then-answer-lt-ANSWER_BYTES : goal.returns-then-answer-lt-ANSWER_BYT
 returns-then-answer-lt-ANSWER_BYTES c =
     let T = answer_taken c.args.question.now _ c.in_ok-read.ensures.answer _ c.in_ok-read.ensures.stands in
     let G = given_refused c.args.question.now _ _ 11 0
-    (asked_11 c.args.question.now _ _ T.question T.read (rw (levels_are _ _ T.stands) c.if-answer-lt-ANSWER_BYTES.true)) _ refl in
+    (asked_11 c.args.question.now _ _ T.question T.read (rw (levels_are _ _ T.stands) c.if-answer-lt-ANSWER_BYTES.true))
+    _ refl in
     record { outcome = G.outcome; answer = G.answer; work = G.work; model = G.model; finding = tt }
 
 pub returns-then-work-lt-WORK_BYTES : goal.returns-then-work-lt-WORK_BYTES
 returns-then-work-lt-WORK_BYTES c =
     let T = answer_taken c.args.question.now _ c.in_ok-read.ensures.answer _ c.in_ok-read.ensures.stands in
     let G = given_refused c.args.question.now _ _ 12 0
-    (asked_12 c.args.question.now _ _ T.question T.read (rw (levels_are _ _ T.stands) c.if-answer-lt-ANSWER_BYTES.false) c.if-work-lt-WORK_BYTES.true) _ refl in
+    (asked_12 c.args.question.now _ _ T.question T.read (rw (levels_are _ _ T.stands) c.if-answer-lt-ANSWER_BYTES.false)
+    c.if-work-lt-WORK_BYTES.true) _ refl in
     record { outcome = G.outcome; answer = G.answer; work = G.work; model = G.model; finding = tt }
 
 pub searchable-searched-requires : goal.searchable-searched-requires
@@ -39,8 +43,12 @@ searchable-searched-requires c =
 pub show_solution-requires-clause-decided_for : goal.show_solution-requires-clause-decided_for
 show_solution-requires-clause-decided_for c =
     let T = answer_taken c.args.question.now _ c.in_ok-read.ensures.answer _ c.in_ok-read.ensures.stands in
-    let S = c.searchable-searched.ensures in
-    (T.question, decided_for _ _ _ T _ S.sizes _ _ _ (posed_decided c.in_ok-read.read _ c.searchable-searched.result S.sizes S.clauses S.constants _ _ _ c.decide-finding.ensures T.question T.stands))
+    let S = c.searchable-searched.ensures in (
+      T.question,
+      decided_for _ _ _ T _ S.sizes _ _ _
+          (posed_decided c.in_ok-read.read _ c.searchable-searched.result S.sizes S.clauses S.constants _ _ _
+          c.decide-finding.ensures T.question T.stands),
+    )
 
 pub found-requires : goal.found-requires
 found-requires c =
@@ -51,12 +59,19 @@ pub returns : goal.returns
 returns c =
     let T = answer_taken c.args.question.now _ c.in_ok-read.ensures.answer _ c.in_ok-read.ensures.stands in
     let S = c.searchable-searched.ensures in
-    let D = decided_for _ _ _ T _ S.sizes _ _ _ (posed_decided c.in_ok-read.read _ c.searchable-searched.result S.sizes S.clauses S.constants _ _ _ c.decide-finding.ensures T.question T.stands) in
-    let G = given_answer c.args.question.now _ _ _ _ T (rw (levels_are _ _ T.stands) c.if-answer-lt-ANSWER_BYTES.false) c.if-work-lt-WORK_BYTES.false _ _ _ _ D _ c.found.ensures.outcome _ c.show_solution.ensures _ c.clear_work.ensures in
+    let D = decided_for _ _ _ T _ S.sizes _ _ _
+    (posed_decided c.in_ok-read.read _ c.searchable-searched.result S.sizes S.clauses S.constants _ _ _
+    c.decide-finding.ensures T.question T.stands) in
+    let G = given_answer c.args.question.now _ _ _ _ T (rw (levels_are _ _ T.stands) c.if-answer-lt-ANSWER_BYTES.false)
+    c.if-work-lt-WORK_BYTES.false _ _ _ _ D _ c.found.ensures.outcome _ c.show_solution.ensures _
+    c.clear_work.ensures in
     record {
       outcome = G.outcome;
       answer = G.answer;
       work = G.work;
       model = G.model;
-      finding = λ q e. rw c.found.ensures.finding (finding_same _ _ _ (sym (asked_answered c.args.question.now _ _ T.question T.read (rw (levels_are _ _ T.stands) c.if-answer-lt-ANSWER_BYTES.false) c.if-work-lt-WORK_BYTES.false) ∙ e) D.decided.answer);
+      finding = λ q e. rw c.found.ensures.finding
+          (finding_same _ _ _ (sym (asked_answered c.args.question.now _ _ T.question T.read
+          (rw (levels_are _ _ T.stands) c.if-answer-lt-ANSWER_BYTES.false) c.if-work-lt-WORK_BYTES.false)
+          ∙ e) D.decided.answer);
     }

@@ -16,7 +16,10 @@ loop-p-init c = record { merged = λ h. merge_start c.args.n c.args.x; same = λ
 -- the turn is by 2 ^ p
 pub turned-r-requires : goal.turned-r-requires
 turned-r-requires c =
-    subst (λ k. (0 < k) × (k < 64)) (sym (power_shift c.loop-p.p (omega arith))) (pow_pos c.loop-p.p, pow-lt {j = 6} c.loop-p-test.true)
+    subst (λ k. (0 < k) × (k < 64)) (sym (power_shift c.loop-p.p (omega arith))) (
+      pow_pos c.loop-p.p,
+      pow-lt {j = 6} c.loop-p-test.true,
+    )
 
 pub loop-p-preserved : goal.loop-p-preserved
 loop-p-preserved c =
@@ -35,8 +38,10 @@ whole : (n x r p : ℕ) → 6 ≤ p → (n ≤ 6 → p ≤ 6) → (n ≤ 6 → M
 whole n x r p far end merged same = go (dec_le n 6)
   where
     go : Dec (n ≤ 6) → Merged n x r
-    go (yes h) = let e : p ≡ 6 = omega (arith, end h) in merge_whole n x r h (subst (λ k. MergedTo n k x r) e (merged h))
+    go (yes h) = let e : p ≡ 6 =
+        omega (arith, end h) in merge_whole n x r h (subst (λ k. MergedTo n k x r) e (merged h))
     go (no h) = rw (same (omega arith)) (merged_same n x (omega arith))
 
 pub returns : goal.returns
-returns c = let l = c.loop-p in whole c.args.n c.args.x l.r l.p c.loop-p-test.false l.auto.p-end l.invariant.merged l.invariant.same
+returns c = let l = c.loop-p in
+    whole c.args.n c.args.x l.r l.p c.loop-p-test.false l.auto.p-end l.invariant.merged l.invariant.same

@@ -1,4 +1,5 @@
--- The loop of `beside::merge_word`: the word is or-ed with itself under the digits from n to p. Where n is 6 or more it stays as it is.
+-- The loop of `beside::merge_word`: the word is or-ed with itself under the digits from n to p. Where n is 6 or more it
+-- stays as it is.
 use Rattle.std.proofs.Common.{◌≡◌, ◌≤◌}
 use Rattle.beside.specs.Beside.{MergedTo}
 use Rattle.beside.proofs.merge_word.Given as goal

@@ -8,7 +8,13 @@ use Rattle.beside.proofs.missing.Goals as goal
 filled : (c : goal.After-share_word) → length c.fill.new.self ≡ get_or c.args.question.now.sizes.counts 3 0
 filled c =
     let count = get_or c.args.question.now.sizes.counts 3 0 in
-    omega (arith, c.fill.auto.self, length-take count c.args.left.now, c.requires.w_bound.1, c.args.question.now.readable.few)
+    omega (
+      arith,
+      c.fill.auto.self,
+      length-take count c.args.left.now,
+      c.requires.w_bound.1,
+      c.args.question.now.readable.few,
+    )
 
 room : (c : goal.After-share_word) → get_or c.args.question.now.sizes.counts 3 0 ≤ length c.sweep-none.new.left
 room c =
@@ -28,14 +34,17 @@ returns-clause-by_index c values t =
     let count = get_or s.counts 3 0 in
     let S = c.sweep-none.ensures.by_index values t in (
       c.move_terms.ensures values S.swept.at S.swept.table,
-      swept_missing q.clauses.now s.counts s.free s.own values a.w a.x a.wanted c.sweep-none.result c.share_word.result _ c.sweep-none.new.left _
+      swept_missing q.clauses.now s.counts s.free s.own values a.w a.x a.wanted c.sweep-none.result c.share_word.result
+          _ c.sweep-none.new.left _
           c.requires.w_bound.0 c.requires.w_bound.2 c.share_word.ensures
-          (front_shared count c.sweep-none.new.left c.share_words.new.words (shared c) s.free (room c) c.share_words.ensures) S,
+          (front_shared count c.sweep-none.new.left c.share_words.new.words (shared c) s.free (room c)
+          c.share_words.ensures) S,
     )
 
 pub returns-clause-by_index_2 : goal.returns-clause-by_index_2
 returns-clause-by_index_2 c k h =
     let count = get_or c.args.question.now.sizes.counts 3 0 in
     let few : count ≤ k = omega (arith, c.args.question.now.readable.few) in
-    front_kept count c.sweep-none.new.left c.share_words.new.words (shared c) k few ∙ c.sweep-none.ensures.by_index_2 k h
+    front_kept count c.sweep-none.new.left c.share_words.new.words (shared c) k few
+    ∙ c.sweep-none.ensures.by_index_2 k h
     ∙ front_kept count c.args.left.now c.fill.new.self (filled c) k few

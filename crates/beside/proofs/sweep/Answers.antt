@@ -12,7 +12,8 @@ loop-o-init c =
     record {
       emptied = λ j h t u. absurd (T_not (bit a.wanted j) u t);
       kept = λ k h. refl;
-      swept = λ values t. swept_start a.question.now.clauses.now s.counts s.free s.own values a.w a.x a.wanted a.terms.now a.left.now c.requires.w_bound.2 t;
+      swept = λ values t. swept_start a.question.now.clauses.now s.counts s.free s.own values a.w a.x a.wanted
+          a.terms.now a.left.now c.requires.w_bound.2 t;
     }
 
 pub returns-then-going-eq0-clause-by_index : goal.returns-then-going-eq0-clause-by_index
@@ -24,7 +25,8 @@ returns-then-going-eq0-clause-by_index c values t =
     record {
       words = total.result;
       enough = total.ensures;
-      swept = rw c.if-none-eq0.true at (swept_stop a.question.now.clauses.now s.counts s.free s.own values a.w a.x a.wanted l.o total.result l.none l.going l.terms l.left
+      swept = rw c.if-none-eq0.true at (swept_stop a.question.now.clauses.now s.counts s.free s.own values a.w a.x
+          a.wanted l.o total.result l.none l.going l.terms l.left
           (omega arith) c.if-none-eq0.true c.if-going-eq0.true l.invariant.emptied (l.invariant.swept values t));
     }
 
@@ -35,7 +37,8 @@ overflow_mul-o c =
     omega (
       arith,
       word_small s.free s.own c.own_words-total.result c.word_count-words.result c.loop-o.o c.args.w
-          c.args.question.now.readable.variables c.word_count-words.ensures c.own_words-total.ensures c.loop-o-test.true c.requires.w_bound.0,
+          c.args.question.now.readable.variables c.word_count-words.ensures c.own_words-total.ensures c.loop-o-test.true
+          c.requires.w_bound.0,
     )
 
 pub overflow_add-o : goal.overflow_add-o
@@ -44,7 +47,8 @@ overflow_add-o c =
     omega (
       arith,
       word_small s.free s.own c.own_words-total.result c.word_count-words.result c.loop-o.o c.args.w
-          c.args.question.now.readable.variables c.word_count-words.ensures c.own_words-total.ensures c.loop-o-test.true c.requires.w_bound.0,
+          c.args.question.now.readable.variables c.word_count-words.ensures c.own_words-total.ensures c.loop-o-test.true
+          c.requires.w_bound.0,
     )
 
 pub loop-o-preserved : goal.loop-o-preserved
@@ -61,8 +65,10 @@ loop-o-preserved c =
       kept = λ k h. taken.ensures.left_kept k (λ m. absurd (omega (arith, q.readable.few))) ∙ l.invariant.kept k h;
       swept = λ values t.
           let S = l.invariant.swept values t in
-          swept_more q.clauses.now s.counts s.free s.own values a.w a.x a.wanted l.o l.none l.going y.result _ taken.result
-          l.terms c.move_terms.new.terms l.left taken.new.left q.readable (l.o * words.result + a.w) (ap (λ k. l.o * k + a.w) words.ensures)
+          swept_more q.clauses.now s.counts s.free s.own values a.w a.x a.wanted l.o l.none l.going y.result _
+          taken.result
+          l.terms c.move_terms.new.terms l.left taken.new.left q.readable (l.o * words.result + a.w)
+          (ap (λ k. l.o * k + a.w) words.ensures)
           (c.move_terms.ensures values S.at S.table)
           y.ensures (taken_out l.none y.result (bit y.result) y.type_inv (λ i h. refl))
           taken.ensures l.invariant.emptied S;

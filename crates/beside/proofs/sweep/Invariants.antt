@@ -11,5 +11,6 @@ invariant-loop-o l =
       emptied : Emptied (get_or sizes.counts 3 0) l.wanted l.going l.left;
       kept : (k : ℕ) → 32 ≤ k → get_or l.left k 0 ≡ get_or l.fn.left k 0;
       swept : (values : ℕ) → Terms sizes.free sizes.own values l.w l.fn.terms
-          → Swept l.question.clauses.now sizes.counts sizes.free sizes.own values l.w l.x l.wanted l.o l.none l.terms l.left;
+          → Swept l.question.clauses.now sizes.counts sizes.free sizes.own values l.w l.x l.wanted l.o l.none l.terms
+          l.left;
     }

@@ -10,7 +10,8 @@ pub returns-then-y-eq0 : goal.returns-then-y-eq0
 returns-then-y-eq0 c =
     let a = c.args in
     taken_nothing (get_or a.question.now.sizes.counts 3 0) _ a.wanted a.left.now
-    (λ j i. ap (λ b. b && not (clause_test a.question.now.clauses.now (λ t. bit (get_or a.terms.now t 0) i) (640 + 4 * j))) (ap (λ y. bit y i) c.if-y-eq0.true ∙ bit_zero i))
+    (λ j i. ap (λ b. b && not (clause_test a.question.now.clauses.now (λ t. bit (get_or a.terms.now t 0) i)
+    (640 + 4 * j))) (ap (λ y. bit y i) c.if-y-eq0.true ∙ bit_zero i))
 
 pub first_bits-requires : goal.first_bits-requires
 first_bits-requires c = omega (arith, c.args.question.now.readable.few)
@@ -32,7 +33,8 @@ loop-j-preserved c =
     let l = c.loop-j in
     let t = c.in-Some.ensures.steps in
     let m = c.take_one-r in
-    but_more _ _ _ _ _ l.j-iterator.rest _ l.r m.result l.left _ (omega (arith, c.args.question.now.readable.few)) t.set t.out l.invariant m.ensures
+    but_more _ _ _ _ _ l.j-iterator.rest _ l.r m.result l.left _ (omega (arith, c.args.question.now.readable.few)) t.set
+    t.out l.invariant m.ensures
 
 pub returns : goal.returns
 returns c = let l = c.loop-j in but_none _ _ _ _ l.j-iterator.rest _ _ c.in-None.ensures.steps l.invariant

@@ -28,14 +28,17 @@ pub returns-in_default : goal.returns-in_default
 returns-in_default c =
     let s = c.args.text.now in
     let (σ, S, few, so_far) = c.loop-sign.invariant in
-    let stops = stopped _ _ _ _ _ c.in_default.not-Some (c.take_sign.ensures σ S (omega (arith, few, c.if-text-gt-LONGEST_TEXT.false))) in
-    sym (text_none constant_levels s (whole_none s (turn_stops s c.loop-sign.sign-index c.loop-sign-test.true σ so_far stops)))
+    let stops = stopped _ _ _ _ _ c.in_default.not-Some
+    (c.take_sign.ensures σ S (omega (arith, few, c.if-text-gt-LONGEST_TEXT.false))) in
+    sym (text_none constant_levels s
+    (whole_none s (turn_stops s c.loop-sign.sign-index c.loop-sign-test.true σ so_far stops)))
 
 pub loop-sign-preserved : goal.loop-sign-preserved
 loop-sign-preserved c =
     let s = c.args.text.now in
     let (σ, S, few, so_far) = c.loop-sign.invariant in
-    let (τ, e, T) = rw c.in-Some.is at (c.take_sign.ensures σ S (omega (arith, few, c.if-text-gt-LONGEST_TEXT.false))) in
+    let (τ, e, T) = rw c.in-Some.is at
+    (c.take_sign.ensures σ S (omega (arith, few, c.if-text-gt-LONGEST_TEXT.false))) in
     let turn = turn_goes s c.loop-sign.sign-index c.loop-sign-test.true σ so_far τ e few in
     (τ, T, turn.0, turn.1)
 

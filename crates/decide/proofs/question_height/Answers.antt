@@ -17,7 +17,10 @@ pub bounds-constants-i : goal.bounds-constants-i
 bounds-constants-i c = set_below 32 c.args.named _ c.requires.0 (c.loop-i.invariant.among _ c.in-Some.ensures.steps.set)
 
 pub overflow_cast-constants : goal.overflow_cast-constants
-overflow_cast-constants c = omega (arith, c.requires.1 c.in-Some.i (c.loop-i.invariant.among _ c.in-Some.ensures.steps.set))
+overflow_cast-constants c = omega (
+  arith,
+  c.requires.1 c.in-Some.i (c.loop-i.invariant.among _ c.in-Some.ensures.steps.set),
+)
 
 pub loop-i-preserved : goal.loop-i-preserved
 loop-i-preserved c =
@@ -29,11 +32,13 @@ loop-i-preserved c =
     (ap (raised constant_levels constant_levels) c.unlike-leaves.ensures ∙ unlike_height constant_levels _) in
     record {
       among = λ k s. l.invariant.among k (and_left (bit l.i-iterator.rest k) _ (subst T (t.out k) s));
-      found = rw higher (found_more constant_levels c.args.constants.now c.args.named l.i-iterator.rest _ _ c.in-Some.i (l.invariant.among _ t.set) t.out l.invariant.found);
+      found = rw higher (found_more constant_levels c.args.constants.now c.args.named l.i-iterator.rest _ _ c.in-Some.i
+          (l.invariant.among _ t.set) t.out l.invariant.found);
     }
 
 pub returns : goal.returns
 returns c =
     let l = c.loop-i in
     c.unlike_height.ensures
-    ∙ found_all constant_levels c.args.constants.now c.args.named _ (λ i t. set_below 32 c.args.named i c.requires.0 t) (rw c.in-None.ensures.steps at l.invariant.found)
+    ∙ found_all constant_levels c.args.constants.now c.args.named _ (λ i t. set_below 32 c.args.named i c.requires.0 t)
+    (rw c.in-None.ensures.steps at l.invariant.found)

@@ -13,4 +13,8 @@ invariant_of-result c = let (q, St) = c.requires in record { readable = readable
 pub returns-clause-bounded : goal.returns-clause-bounded
 returns-clause-bounded c =
     let (q, St) = c.requires in
-    record { named = named_lt _ q St; height = rw c.question_height.ensures (omega (arith, question_low _ q St, height_is _ q St)) }
+    record {
+      named = named_lt _ q St;
+      height =
+          rw c.question_height.ensures (omega (arith, question_low _ q St, height_is _ q St));
+    }

@@ -16,7 +16,10 @@ loop-i-preserved c =
     let y = c.failing_word-y in
     let room : 32 + l.i < length l.rows = omega arith in
     record {
-      set = failing_more (λ j k. bit a.x k && not (clause_test a.clauses.now (λ t. bit (get_or a.terms.now t 0) k) (256 + 4 * j))) l.rows l.i y.result room y.ensures l.invariant.set;
+      set = failing_more (λ j k. bit a.x k
+          && not (clause_test a.clauses.now (λ t. bit (get_or a.terms.now t 0) k) (256 + 4 * j))) l.rows l.i
+          y.result room
+          y.ensures l.invariant.set;
       kept = failing_kept a.rows.now l.rows l.i y.result room l.invariant.kept;
       in_any = any_more l.i l.any y.result l.rows room l.invariant.in_any;
     }

@@ -4,4 +4,5 @@ use Rattle.entries.proofs.mark_all.Given as goal
 
 abbrev pub invariant-loop-j : goal.invariant-loop-j
 invariant-loop-j l =
-    MarkedBut l.j-iterator.rest l.second_count l.first_count l.fn.marks.wanted l.fn.marks.here l.initial.rows l.r.wanted l.r.here l.rows
+    MarkedBut l.j-iterator.rest l.second_count l.first_count l.fn.marks.wanted l.fn.marks.here l.initial.rows l.r.wanted
+    l.r.here l.rows

@@ -9,4 +9,5 @@ pub returns : goal.returns
 returns c i l =
     let a = c.args in
     let mark = bit (get_or a.rows.now (64 + a.j) 0) i in
-    sym (ap (λ b. mark || b) (common_none a.count a.any a.j a.rows.now c.requires.2 (sym c.have_common.ensures ∙ c.if-have_common.false) i l) ∙ or-false mark)
+    sym (ap (λ b. mark || b) (common_none a.count a.any a.j a.rows.now c.requires.2 (sym c.have_common.ensures
+    ∙ c.if-have_common.false) i l) ∙ or-false mark)

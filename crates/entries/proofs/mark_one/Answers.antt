@@ -11,5 +11,6 @@ pub returns : goal.returns
 returns c =
     let a = c.args in
     rw (power_shift a.j (omega arith))
-    (marked_more a.j a.count a.marks.wanted a.marks.here a.rows.now c.mark_of-mark.result c.still_wanted.result c.requires.2 (omega arith)
+    (marked_more a.j a.count a.marks.wanted a.marks.here a.rows.now c.mark_of-mark.result c.still_wanted.result
+    c.requires.2 (omega arith)
     (omega arith) c.if-rows-j-eq0.false c.mark_of-mark.ensures c.still_wanted.ensures)

@@ -1,5 +1,6 @@
 -- Those that are not set yet are left, and a turn moves one over. Assumes nothing.
-use Rattle.std.proofs.Common.{◌≡◌, refl, sym, ap, ap₂, ◌∙◌, subst, Bool, true, false, not, ◌&&◌, ◌||◌, ℕ, ◌+◌, T, ltb, ltb→lt, lt-ltb, get_or, arith}
+use Rattle.std.proofs.Common.{◌≡◌, refl, sym, ap, ap₂, ◌∙◌, subst, Bool, true, false, not, ◌&&◌, ◌||◌, ℕ, ◌+◌, T, ltb}
+use Rattle.std.proofs.Common.{ltb→lt, lt-ltb, get_or, arith}
 use Rattle.std.proofs.Math.Bool.{or-false}
 use Rattle.shares.specs.Test.{and_left}
 use Rattle.shares.specs.Constant.{bit}
@@ -23,7 +24,8 @@ loop-i-init c =
       among = λ k t. ltb→lt k a.count (and_left (ltb k a.count) _ (subst T (first k) t));
       all = λ k l.
           ap (λ b. bit a.mark k || (b && p k))
-          (first k ∙ ap₂ ◌&&◌ (lt-ltb k a.count l) (not_bits a.mark k (bit a.mark k) c.ranges.mark.fits (omega arith) refl)) ∙ rest_of (bit a.mark k) (p k);
+          (first k ∙ ap₂ ◌&&◌ (lt-ltb k a.count l)
+          (not_bits a.mark k (bit a.mark k) c.ranges.mark.fits (omega arith) refl)) ∙ rest_of (bit a.mark k) (p k);
     })
 
 pub returns : goal.returns

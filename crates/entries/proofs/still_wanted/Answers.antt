@@ -16,6 +16,7 @@ returns c =
     let a = c.args in
     let first = c.first_bits in
     record {
-      settled = λ t z. all_set a.mark a.count first.result c.ranges.mark.fits c.requires.1 first.ensures.1 c.if-first_bits-ne0.false;
+      settled = λ t z. all_set a.mark a.count first.result c.ranges.mark.fits c.requires.1 first.ensures.1
+          c.if-first_bits-ne0.false;
       wanted_kept = λ k l n. other_bits a.wanted a.j k (omega arith) l n;
     }

@@ -41,5 +41,6 @@ pub returns : goal.returns
 returns c =
     let a = c.args in
     let l = c.loop-b in
-    leaves_all (posed a.question.now) a.table.now l.b l.wanted (omega arith) (omega (arith, c.args.question.now.readable.few))
+    leaves_all (posed a.question.now) a.table.now l.b l.wanted (omega arith)
+    (omega (arith, c.args.question.now.readable.few))
     l.invariant.fits l.invariant.looked

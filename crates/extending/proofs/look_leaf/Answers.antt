@@ -23,7 +23,8 @@ returns-clause-placed_within c =
     let a = c.args in
     let (old, v, within, t) = c.requires.3 in
     let inside : Within a.question.now.sizes.named c.from.result = rw c.from.ensures c.requires.2 in
-    let placed = c.set_constants.ensures a.question.now.sizes.free a.question.now.sizes.own old v a.question.now.readable.variables within inside t in
+    let placed = c.set_constants.ensures a.question.now.sizes.free a.question.now.sizes.own old v
+    a.question.now.readable.variables within inside t in
     let (u, w) = (c.look_words.ensures c.from.result v placed).0 in
     (c.from.result, u, inside, w)
 
@@ -32,6 +33,8 @@ returns-clause-by_index c start K L =
     let a = c.args in
     let (old, v, within, t) = c.requires.3 in
     let inside : Within a.question.now.sizes.named c.from.result = rw c.from.ensures c.requires.2 in
-    let placed = c.set_constants.ensures a.question.now.sizes.free a.question.now.sizes.own old v a.question.now.readable.variables within inside t in
+    let placed = c.set_constants.ensures a.question.now.sizes.free a.question.now.sizes.own old v
+    a.question.now.readable.variables within inside t in
     leaf_looked (posed a.question.now) a.table.now a.keys.now a.b start a.wanted c.requires.0 K L 64 _ _
-    (omega (arith, a.question.now.readable.few)) c.mark_alike.ensures (rw c.from.ensures at (c.look_words.ensures c.from.result v placed).1)
+    (omega (arith, a.question.now.readable.few)) c.mark_alike.ensures
+    (rw c.from.ensures at (c.look_words.ensures c.from.result v placed).1)

@@ -17,7 +17,13 @@ returns-then-choices-eq0 c values v t = (
 
 pub missing-none-requires : goal.missing-none-requires
 missing-none-requires c =
-    record { w_bound = (c.requires, omega arith, merged_free c.args.question.now.sizes.free c.args.choices _ c.merge_word-x.ensures) }
+    record {
+      w_bound = (
+        c.requires,
+        omega arith,
+        merged_free c.args.question.now.sizes.free c.args.choices _ c.merge_word-x.ensures,
+      );
+    }
 
 pub returns-then-none-ne0 : goal.returns-then-none-ne0
 returns-then-none-ne0 c values v t =
@@ -36,5 +42,6 @@ returns c values v t =
     let (placed, M) = missing.ensures.by_index values (c.move_terms.ensures values v t) in (
       (a.w, placed),
       word_met (posed a.question.now) values a.w a.choices c.merge_word-x.result a.wanted missing.result _ c.requires
-          c.merge_word-x.ensures M c.still_wanted.result (omega (arith, c.args.question.now.readable.few)) c.if-none-ne0.false c.still_wanted.ensures,
+          c.merge_word-x.ensures M c.still_wanted.result (omega (arith, c.args.question.now.readable.few))
+          c.if-none-ne0.false c.still_wanted.ensures,
     )

@@ -9,5 +9,6 @@ use Rattle.extending.proofs.mark_alike.Given as goal
 abbrev pub invariant-loop-a : goal.invariant-loop-a
 invariant-loop-a l = record {
   long : length l.present ≡ 64;
-  marked : Added (choice_at constant_levels l.table l.free) (AlikeTo constant_levels l.keys l.b l.a) l.initial.present l.present;
+  marked : Added (choice_at constant_levels l.table l.free) (AlikeTo constant_levels l.keys l.b l.a) l.initial.present
+      l.present;
 }

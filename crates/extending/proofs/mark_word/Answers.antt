@@ -20,8 +20,11 @@ loop-rest-init c =
 
 pub same_choice-same-requires : goal.same_choice-same-requires
 same_choice-same-requires c =
-    let l = c.loop-rest in
-    (c.requires.0, c.requires.1, (lowest_set l.rest c.lowest.result l.invariant.fits c.loop-rest-test.true c.lowest.ensures).0)
+    let l = c.loop-rest in (
+      c.requires.0,
+      c.requires.1,
+      (lowest_set l.rest c.lowest.result l.invariant.fits c.loop-rest-test.true c.lowest.ensures).0,
+    )
 
 pub mark-requires : goal.mark-requires
 mark-requires c =
@@ -50,7 +53,8 @@ loop-rest-preserved c =
       fits = omega (arith, and_le_l l.rest ((2 ^ 64 - 1) - same.result.leaves), l.invariant.fits);
       long = search rules;
       within = λ k b. rest_more a.leaves l.rest same.result.leaves k l.invariant.within b;
-      marked = word_more constant_levels a.table.now a.free a.w a.leaves l.rest c.lowest.result same.result.choice same.result.leaves a.present.now l.present _
+      marked = word_more constant_levels a.table.now a.free a.w a.leaves l.rest c.lowest.result same.result.choice
+          same.result.leaves a.present.now l.present _
           (omega arith) here l.invariant.within same.ensures l.invariant.marked c.mark.ensures;
     }
 
@@ -58,4 +62,5 @@ pub returns : goal.returns
 returns c =
     let a = c.args in
     let l = c.loop-rest in
-    word_done constant_levels a.table.now a.free a.w a.leaves l.rest a.present.now l.present c.loop-rest-test.false l.invariant.marked
+    word_done constant_levels a.table.now a.free a.w a.leaves l.rest a.present.now l.present c.loop-rest-test.false
+    l.invariant.marked

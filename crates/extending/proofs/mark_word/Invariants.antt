@@ -10,7 +10,8 @@ invariant-loop-rest l = record {
   fits : l.rest < 2 ^ 64;
   long : length l.present ≡ 64;
   within : (k : ℕ) → BitOf l.rest k → BitOf l.leaves k;
-  marked : Added (word_choice constant_levels l.table l.free l.w l.leaves) (Done l.leaves l.rest) l.initial.present l.present;
+  marked : Added (word_choice constant_levels l.table l.free l.w l.leaves) (Done l.leaves l.rest) l.initial.present
+      l.present;
 }
 
 abbrev pub decreases-loop-rest : goal.decreases-loop-rest

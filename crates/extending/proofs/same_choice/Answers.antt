@@ -12,7 +12,12 @@ pub with_digit-choice-requires : goal.with_digit-choice-requires
 with_digit-choice-requires c =
     let a = c.args in
     let l = c.loop-v in
-    omega (arith, l.invariant.choice, choice_lt constant_levels a.table.now l.v (64 * a.w + a.i), pow_mono {i = l.v} {j = 12} (omega arith))
+    omega (
+      arith,
+      l.invariant.choice,
+      choice_lt constant_levels a.table.now l.v (64 * a.w + a.i),
+      pow_mono {i = l.v} {j = 12} (omega arith),
+    )
 
 pub loop-v-preserved : goal.loop-v-preserved
 loop-v-preserved c =

@@ -14,4 +14,5 @@ loop-j-preserved c =
     still_more a.x a.wanted a.left.now l.j l.r c.unless_same-r.result (rw here at c.unless_same-r.ensures) l.invariant
 
 pub returns : goal.returns
-returns c = let e : c.loop-j.j ≡ c.args.count = omega (arith, length-take c.args.count c.args.left.now) in rw e at c.loop-j.invariant
+returns c = let e : c.loop-j.j ≡ c.args.count = omega (arith, length-take c.args.count c.args.left.now) in
+    rw e at c.loop-j.invariant

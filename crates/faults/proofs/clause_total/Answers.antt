@@ -1,6 +1,7 @@
 -- `faults::clause_total` meets its contract: each count is small, so the sum fits. Assumes nothing.
 use native.Mathlib.Omega.{arith}
-use Rattle.format.specs.declared.Section.TheVariants.{FirstPositive, FirstDisequation, SecondPositive, SecondDisequation}
+use Rattle.format.specs.declared.Section.TheVariants.{FirstPositive, FirstDisequation, SecondPositive}
+use Rattle.format.specs.declared.Section.TheVariants.{SecondDisequation}
 use Rattle.faults.proofs.clause_total.Goals as goal
 
 pub overflow_add-result : goal.overflow_add-result

@@ -6,7 +6,8 @@ use Rattle.guesses.proofs.least_values.Goals as goal
 use Rattle.guesses.proofs.least_values.Goals.{then-not-passes_below, else-not-passes_below}
 
 pub loop-v-init : goal.loop-v-init
-loop-v-init c = let all : c.args.free - 0 ≡ c.args.free = omega arith in rw (all, c.power-span.ensures) (guess_none _ _ c.requires.1)
+loop-v-init c = let all : c.args.free - 0 ≡ c.args.free =
+    omega arith in rw (all, c.power-span.ensures) (guess_none _ _ c.requires.1)
 
 pub overflow_add-low : goal.overflow_add-low
 overflow_add-low c = omega (arith, few c.requires.0, few {k = c.args.free - c.loop-v.v} (omega arith))
@@ -15,7 +16,8 @@ pub passes_below-requires : goal.passes_below-requires
 passes_below-requires c = omega (arith, few c.requires.0)
 
 pub overflow_add-low-then-not-passes_below : goal.overflow_add-low-then-not-passes_below
-overflow_add-low-then-not-passes_below c = omega (arith, few c.requires.0, few {k = c.args.free - c.loop-v.v} (omega arith))
+overflow_add-low-then-not-passes_below c =
+    omega (arith, few c.requires.0, few {k = c.args.free - c.loop-v.v} (omega arith))
 
 pub loop-v-preserved : goal.loop-v-preserved
 loop-v-preserved c =
@@ -29,9 +31,12 @@ loop-v-preserved c =
     let here : free - (free - l.v) ≡ l.v = omega (arith, c.loop-v-test.true) in
     elim c.if-not-passes_below.branch [
       | then-not-passes_below w ↦ rw (w.values-is, w.low-is)
-          (rw fewer at (guess_full least free left l.values l.low l.span l.invariant (omega (arith, c.loop-v-test.true)) c.requires.0 (ltb-false least end (sym told ∙ w.if-not-passes_below.true))))
+          (rw fewer at (guess_full least free left l.values l.low l.span l.invariant (omega (arith, c.loop-v-test.true))
+          c.requires.0 (ltb-false least end (sym told ∙ w.if-not-passes_below.true))))
       | else-not-passes_below w ↦ rw (w.values-is, w.low-is)
-          (rw (fewer, here) at (guess_empty least free left l.values l.low l.span l.invariant (omega (arith, c.loop-v-test.true)) c.requires.0 (ltb-true least end (sym told ∙ w.if-not-passes_below.false))))
+          (rw (fewer, here) at (guess_empty least free left l.values l.low l.span l.invariant
+          (omega (arith, c.loop-v-test.true)) c.requires.0
+          (ltb-true least end (sym told ∙ w.if-not-passes_below.false))))
     ]
 
 pub returns : goal.returns

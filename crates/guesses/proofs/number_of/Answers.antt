@@ -26,7 +26,12 @@ pub overflow_add-number : goal.overflow_add-number
 overflow_add-number c =
     let l = c.loop-value in
     let below = first c.args.values c.args.free l.value-index (omega arith) c.loop-value-test.true in
-    omega (arith, number_lt l.value-index c.args.values c.requires.1, few {k = l.value-index} (omega arith), c.requires.1 l.value-index)
+    omega (
+      arith,
+      number_lt l.value-index c.args.values c.requires.1,
+      few {k = l.value-index} (omega arith),
+      c.requires.1 l.value-index,
+    )
 
 pub loop-value-preserved : goal.loop-value-preserved
 loop-value-preserved c =

@@ -8,7 +8,8 @@ use borrow.Rule.Slice.PartMut.{put_mid}
 use Rattle.input.proofs.read_full.Goals as goal
 
 -- what n more bytes fill behind the first a
-more : (a k n : ℕ) (xs ys : List ℕ) → a ≤ length xs → n ≤ length ys → take (a + n) (put_mid a k xs ys) ≡ take a xs ++ take n ys
+more : (a k n : ℕ) (xs ys : List ℕ) → a ≤ length xs → n ≤ length ys → take (a + n) (put_mid a k xs ys) ≡ take a xs
+    ++ take n ys
 more a k n xs ys p q =
     ap (λ m. take (m + n) (put_mid a k xs ys)) (sym (length-take-le a xs p))
     ∙ take-append-add (take a xs) _ n
@@ -24,5 +25,7 @@ loop-done-preserved g c =
     record {
       within = omega arith;
       same_length = omega arith;
-      bytes = subst (Consumes _ _) (sym (more c.loop-done.done _ c.in-Ok.n c.loop-done.buffer c.read.new.buf before.within read.bound.0)) (Consumes-trans _ _ _ _ _ before.bytes read.bytes.0);
+      bytes = subst (Consumes _ _)
+          (sym (more c.loop-done.done _ c.in-Ok.n c.loop-done.buffer c.read.new.buf before.within read.bound.0))
+          (Consumes-trans _ _ _ _ _ before.bytes read.bytes.0);
     }

@@ -18,7 +18,8 @@ returns-in_err-read c =
 
 pub returns-then-rows-ne-ANSWER_BYTES : goal.returns-then-rows-ne-ANSWER_BYTES
 returns-then-rows-ne-ANSWER_BYTES c =
-    let J = refused_length _ _ _ _ (taken (goal.at.returns-then-rows-ne-ANSWER_BYTES c).In_ok-read) c.if-rows-ne-ANSWER_BYTES.true in
+    let J = refused_length _ _ _ _ (taken (goal.at.returns-then-rows-ne-ANSWER_BYTES c).In_ok-read)
+    c.if-rows-ne-ANSWER_BYTES.true in
     record { result = J.0; model = J.1.0; shown = J.1.1 }
 
 pub overflow_mul-read : goal.overflow_mul-read
@@ -27,14 +28,20 @@ overflow_mul-read c = omega (arith, (taken (goal.at.overflow_mul-read c).In_ok-r
 pub returns-then-not-zero_from : goal.returns-then-not-zero_from
 returns-then-not-zero_from c =
     let J =
-    refused_rows _ _ _ _ (taken (goal.at.returns-then-not-zero_from c).In_ok-read) c.if-rows-ne-ANSWER_BYTES.false _ c.zero_from.ensures
+    refused_rows _ _ _ _ (taken (goal.at.returns-then-not-zero_from c).In_ok-read) c.if-rows-ne-ANSWER_BYTES.false _
+    c.zero_from.ensures
     c.if-not-zero_from.true in
     record { result = J.0; model = J.1.0; shown = J.1.1 }
 
 pub judge_rows-requires : goal.judge_rows-requires
 judge_rows-requires c =
     let T = taken (goal.at.judge_rows-requires c).In_ok-read in
-    record { rows_len = c.if-rows-ne-ANSWER_BYTES.false; bytes_value = (T.question, T.read, T.stands); defined_value = c.in_ok-read.ensures.first }
+    record {
+      rows_len = c.if-rows-ne-ANSWER_BYTES.false;
+      bytes_value = (T.question, T.read, T.stands);
+      defined_value =
+          c.in_ok-read.ensures.first;
+    }
 
 pub returns : goal.returns
 returns c =

@@ -1,7 +1,8 @@
 -- `judging::judge_first`: each command says a clause that holds, one that is broken, no clause of the first system, or
 -- the end.
 use Rattle.std.proofs.Common.{sym, ◌∙◌, refl, arith}
-use Rattle.judging.proofs.WalkLaws.{not_end, moves, gone_start, gone_led, first_refused, first_end, gone_other, gone_fits, first_broken, gone_first, first_few}
+use Rattle.judging.proofs.WalkLaws.{not_end, moves, gone_start, gone_led, first_refused, first_end, gone_other}
+use Rattle.judging.proofs.WalkLaws.{gone_fits, first_broken, gone_first, first_few}
 use Rattle.judging.proofs.judge_first.Goals as goal
 
 pub loop-command-init : goal.loop-command-init

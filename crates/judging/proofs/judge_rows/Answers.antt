@@ -4,7 +4,8 @@ use Rattle.shares.specs.NumberLaws.{zero_at}
 use Rattle.format.proofs.LeadLaws.{leading_few}
 use Rattle.format.proofs.FormatLaws.{accepted_formed}
 use Rattle.decide.specs.NamedLaws.{named_lt}
-use Rattle.judging.proofs.JudgeLaws.{laid, extends_searched, told_broken, rows_broken, rows_satisfied, rows_extending, rows_accepted}
+use Rattle.judging.proofs.JudgeLaws.{laid, extends_searched, told_broken, rows_broken, rows_satisfied, rows_extending}
+use Rattle.judging.proofs.JudgeLaws.{rows_accepted}
 use Rattle.judging.proofs.judge_rows.Goals as goal
 
 pub unfold-requires : goal.unfold-requires
@@ -18,11 +19,13 @@ overflow_add-question c = omega (arith, c.requires.defined_value, leading_few c.
 
 pub returns-in-Some : goal.returns-in-Some
 returns-in-Some c q e St =
-    rows_broken c.args.question _ _ q St _ (c.in-Some.ensures q _ _ _ e (laid c.args.question _ _ q St _ c.«unfold».ensures)) (told_broken c.in-Some.broken)
+    rows_broken c.args.question _ _ q St _
+    (c.in-Some.ensures q _ _ _ e (laid c.args.question _ _ q St _ c.«unfold».ensures)) (told_broken c.in-Some.broken)
 
 pub returns-in-Satisfiability : goal.returns-in-Satisfiability
 returns-in-Satisfiability c q e St =
-    rows_satisfied c.args.question _ _ q St _ (c.in_default.ensures q _ _ _ e (laid c.args.question _ _ q St _ c.«unfold».ensures)) refl c.in-Satisfiability.is
+    rows_satisfied c.args.question _ _ q St _
+    (c.in_default.ensures q _ _ _ e (laid c.args.question _ _ q St _ c.«unfold».ensures)) refl c.in-Satisfiability.is
 
 pub searchable-searchable-requires : goal.searchable-searchable-requires
 searchable-searchable-requires c =
@@ -33,12 +36,16 @@ pub returns-then-extends : goal.returns-then-extends
 returns-then-extends c q e St =
     let U = c.«unfold».ensures in
     let s = c.searchable-searchable.ensures in
-    rows_extending c.args.question _ _ q St _ (c.in_default.ensures q _ _ _ e (laid c.args.question _ _ q St _ U)) refl c.in_default-kind.not-Satisfiability _
-    (extends_searched c.args.question _ _ q St c.searchable-searchable.result s.sizes s.clauses s.constants _ U _ c.extends.ensures) c.if-extends.true
+    rows_extending c.args.question _ _ q St _ (c.in_default.ensures q _ _ _ e (laid c.args.question _ _ q St _ U)) refl
+    c.in_default-kind.not-Satisfiability _
+    (extends_searched c.args.question _ _ q St c.searchable-searchable.result s.sizes s.clauses s.constants _ U _
+    c.extends.ensures) c.if-extends.true
 
 pub returns : goal.returns
 returns c q e St =
     let U = c.«unfold».ensures in
     let s = c.searchable-searchable.ensures in
-    rows_accepted c.args.question _ _ q St _ (c.in_default.ensures q _ _ _ e (laid c.args.question _ _ q St _ U)) refl c.in_default-kind.not-Satisfiability _
-    (extends_searched c.args.question _ _ q St c.searchable-searchable.result s.sizes s.clauses s.constants _ U _ c.extends.ensures) c.if-extends.false
+    rows_accepted c.args.question _ _ q St _ (c.in_default.ensures q _ _ _ e (laid c.args.question _ _ q St _ U)) refl
+    c.in_default-kind.not-Satisfiability _
+    (extends_searched c.args.question _ _ q St c.searchable-searchable.result s.sizes s.clauses s.constants _ U _
+    c.extends.ensures) c.if-extends.false

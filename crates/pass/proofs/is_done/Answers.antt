@@ -9,7 +9,8 @@ returns-in-Unmet c e =
     let F = c.first_bits in
     record {
       plain = sym c.digit.ensures ∙ c.if-not-digit.false;
-      full = all_set c.args.met c.args.count F.result c.ranges.met.fits c.requires F.ensures.1 c.if-first_bits-ne0.false;
+      full = all_set c.args.met c.args.count F.result c.ranges.met.fits c.requires F.ensures.1
+          c.if-first_bits-ne0.false;
       unmet = λ q. sym c.digit-in-Unmet.ensures ∙ e;
     }
 
@@ -18,6 +19,7 @@ returns-in-First c e =
     let F = c.first_bits in
     record {
       plain = sym c.digit.ensures ∙ c.if-not-digit.false;
-      full = all_set c.args.met c.args.count F.result c.ranges.met.fits c.requires F.ensures.1 c.if-first_bits-ne0.false;
+      full = all_set c.args.met c.args.count F.result c.ranges.met.fits c.requires F.ensures.1
+          c.if-first_bits-ne0.false;
       unmet = λ q. absurd (not_unmet c.args.search c.in-First.is q);
     }

@@ -11,6 +11,7 @@ returns-clause-by_index_2 c h v t A =
     let p = c.pass_words-r in
     let firsts = p.new.firsts in
     leaf_done S h a.leaf.search a.leaf.number a.seen _ _ _ A p.result firsts p.new.rows
-    (p.ensures.by_index_2 h v t (amid_start S h a.leaf.search a.leaf.number a.seen _ _ _ a.question.now.readable.few.0 A))
+    (p.ensures.by_index_2 h v t (amid_start S h a.leaf.search a.leaf.number a.seen _ _ _ a.question.now.readable.few.0
+    A))
     p.ensures.possible_value _
     (put_entry a.leaf.number firsts 32 a.plains.now (omega arith))

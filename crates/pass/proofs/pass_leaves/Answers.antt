@@ -1,5 +1,6 @@
 -- `pass::pass_leaves` meets its contract.
-use Rattle.std.proofs.Common.{◌≡◌, refl, sym, ◌∙◌, ℕ, ◌^◌, ◌≤◌, ◌<◌, List, Option, None, Some, IfSome, get_or, length-set, pow_mono, arith}
+use Rattle.std.proofs.Common.{◌≡◌, refl, sym, ◌∙◌, ℕ, ◌^◌, ◌≤◌, ◌<◌, List, Option, None, Some, IfSome, get_or}
+use Rattle.std.proofs.Common.{length-set, pow_mono, arith}
 use lib.ListN.{get_or-replicate}
 use Rattle.shares.specs.BitLaws.{bit_zero}
 use Rattle.shares.specs.Shifts.{power_shift}
@@ -40,18 +41,26 @@ loop-b-init c =
     }
 
 pub first_like-like-requires : goal.first_like-like-requires
-first_like-like-requires c = omega (arith, few c.args.question.now.sizes.height c.loop-b.b c.power-b-end.result c.requires.bounded.height c.power-b-end.ensures c.loop-b-test.true)
+first_like-like-requires c =
+    omega (
+      arith,
+      few c.args.question.now.sizes.height c.loop-b.b c.power-b-end.result c.requires.bounded.height
+          c.power-b-end.ensures c.loop-b-test.true,
+    )
 
 pub bounds-keys-b : goal.bounds-keys-b
-bounds-keys-b c = few c.args.question.now.sizes.height c.loop-b.b c.power-b-end.result c.requires.bounded.height c.power-b-end.ensures c.loop-b-test.true
+bounds-keys-b c = few c.args.question.now.sizes.height c.loop-b.b c.power-b-end.result c.requires.bounded.height
+    c.power-b-end.ensures c.loop-b-test.true
 
 pub visit-seen-requires : goal.visit-seen-requires
 visit-seen-requires c = (
   c.requires.named.0,
-  few c.args.question.now.sizes.height c.loop-b.b c.power-b-end.result c.requires.bounded.height c.power-b-end.ensures c.loop-b-test.true,
+  few c.args.question.now.sizes.height c.loop-b.b c.power-b-end.result c.requires.bounded.height c.power-b-end.ensures
+      c.loop-b-test.true,
   before c.loop-b.keys c.values_at-values.result c.loop-b.b _ c.first_like-like.ensures,
   c.requires.bounded,
-  (let e : c.from.result ≡ c.values_at-values.result = cc in rw (e, c.values_at-values.ensures) (values_within _ _ _ _ _)),
+  (let e : c.from.result ≡ c.values_at-values.result =
+      cc in rw (e, c.values_at-values.ensures) (values_within _ _ _ _ _)),
   c.loop-b.invariant.placed,
 )
 
@@ -61,9 +70,11 @@ returns-then-not-digit c =
     let q = a.question.now in
     let l = c.loop-b in
     let e : c.from.result ≡ c.values_at-values.result = cc in
-    passed_none (posed q) q.sizes.height a.search l.b c.visit-seen.result _ _ _ (omega (arith, c.power-b-end.ensures, c.loop-b-test.true)) (sym c.digit.ensures ∙ c.if-not-digit.true)
+    passed_none (posed q) q.sizes.height a.search l.b c.visit-seen.result _ _ _
+    (omega (arith, c.power-b-end.ensures, c.loop-b-test.true)) (sym c.digit.ensures ∙ c.if-not-digit.true)
     (c.visit-seen.ensures.by_index q.sizes.height (e ∙ c.values_at-values.ensures)
-    (same l.keys c.values_at-values.result l.b (leaf_values (posed q) q.sizes.height) c.from.result l.invariant.keys e _ c.first_like-like.ensures) l.invariant.after)
+    (same l.keys c.values_at-values.result l.b (leaf_values (posed q) q.sizes.height) c.from.result l.invariant.keys e _
+    c.first_like-like.ensures) l.invariant.after)
 
 pub loop-b-preserved : goal.loop-b-preserved
 loop-b-preserved c =
@@ -72,12 +83,17 @@ loop-b-preserved c =
     let l = c.loop-b in
     let e : c.from.result ≡ c.values_at-values.result = cc in
     let W = c.visit-seen.ensures.by_index q.sizes.height (e ∙ c.values_at-values.ensures)
-    (same l.keys c.values_at-values.result l.b (leaf_values (posed q) q.sizes.height) c.from.result l.invariant.keys e _ c.first_like-like.ensures) l.invariant.after in
+    (same l.keys c.values_at-values.result l.b (leaf_values (posed q) q.sizes.height) c.from.result l.invariant.keys e _
+    c.first_like-like.ensures) l.invariant.after in
     record {
       long = simp length-set l.invariant.long;
       placed = c.visit-seen.ensures.placed_within;
       keys = keys_more (leaf_values (posed q) q.sizes.height) l.keys l.b c.values_at-values.result
-          (omega (arith, few q.sizes.height l.b c.power-b-end.result c.requires.bounded.height c.power-b-end.ensures c.loop-b-test.true)) c.values_at-values.ensures l.invariant.keys;
+          (omega (
+            arith,
+            few q.sizes.height l.b c.power-b-end.result c.requires.bounded.height c.power-b-end.ensures
+                c.loop-b-test.true,
+          )) c.values_at-values.ensures l.invariant.keys;
       after = W.done (of_true (sym c.digit.ensures ∙ c.if-not-digit.false));
     }
 

@@ -18,8 +18,12 @@ returns-then-is_done-clause-by_index_2 c h v t A =
 
 pub pass_word-r-requires : goal.pass_word-r-requires
 pass_word-r-requires c =
-    let (values, v, t) = c.loop-w.invariant.placed in
-    (c.requires.0, c.requires.1, omega (arith, c.loop-w-test.true, c.word_count-w-end.ensures), (values, c.move_terms.ensures values v t))
+    let (values, v, t) = c.loop-w.invariant.placed in (
+      c.requires.0,
+      c.requires.1,
+      omega (arith, c.loop-w-test.true, c.word_count-w-end.ensures),
+      (values, c.move_terms.ensures values v t),
+    )
 
 pub loop-w-preserved : goal.loop-w-preserved
 loop-w-preserved c =
@@ -28,13 +32,16 @@ loop-w-preserved c =
     let passed = c.pass_word-r.ensures in
     record {
       placed = let (values, v, t) = l.invariant.placed in (values, l.w, passed.by_index values (moved values v t));
-      terms = λ values v t. (let (u, s) = l.invariant.terms values v t in (l.w, passed.by_index values (moved values u s)));
-      amid = λ h v t A. (let (u, s) = l.invariant.terms _ v t in passed.by_index_2 h c.args.question.now.constants.now (moved _ u s) (l.invariant.amid h v t A));
+      terms = λ values v t. (let (u, s) =
+          l.invariant.terms values v t in (l.w, passed.by_index values (moved values u s)));
+      amid = λ h v t A. (let (u, s) = l.invariant.terms _ v t in
+          passed.by_index_2 h c.args.question.now.constants.now (moved _ u s) (l.invariant.amid h v t A));
       possible = passed.possible_value ∙ l.invariant.possible;
     }
 
 pub returns-clause-by_index_2 : goal.returns-clause-by_index_2
 returns-clause-by_index_2 c h v t A =
     let l = c.loop-w in
-    let e : l.w ≡ word_count c.args.question.now.sizes.free = omega (arith, c.loop-w-test.false, c.word_count-w-end.ensures) in
+    let e : l.w ≡ word_count c.args.question.now.sizes.free =
+    omega (arith, c.loop-w-test.false, c.word_count-w-end.ensures) in
     rw e at (l.invariant.amid h v t A)

@@ -14,7 +14,8 @@ use Rattle.plans.proofs.choice_of.Goals as goal
 here : (kept : Passing) (free digits power : ℕ) → 2 ^ digits ≡ word_count free → power ≡ 2 ^ digits
     → 64 * bit_and kept.word (power - 1) + lowest_in kept.choices ≡ least_number kept % leaf_width free
 here kept free digits power count is =
-    ap (λ w. 64 * w + lowest_in kept.choices) (ap (λ x. bit_and kept.word (x - 1)) is ∙ and_mask kept.word digits ∙ ap (◌%◌ kept.word) count)
+    ap (λ w. 64 * w + lowest_in kept.choices) (ap (λ x. bit_and kept.word (x - 1)) is ∙ and_mask kept.word digits
+    ∙ ap (◌%◌ kept.word) count)
     ∙ number_choice kept.word _ free (lowest_in_lt kept.choices)
 
 pub least_choice-requires : goal.least_choice-requires

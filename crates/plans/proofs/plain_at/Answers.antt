@@ -15,7 +15,8 @@ pub choice_of-requires : goal.choice_of-requires
 unfolding number_at
 choice_of-requires c =
     let a = c.args in
-    let alone : number_at a.leaves.now a.b % leaf_width a.free ≡ number_at a.leaves.now a.b = mod-eq_of_lt (le_trans c.requires.b_bound_2.0 (width_enough a.free)) in
+    let alone : number_at a.leaves.now a.b % leaf_width a.free ≡ number_at a.leaves.now a.b =
+    mod-eq_of_lt (le_trans c.requires.b_bound_2.0 (width_enough a.free)) in
     (c.requires.b_bound.1, subst (λ n. n < 2 ^ a.free) (sym alone) c.requires.b_bound_2.0)
 
 pub returns : goal.returns

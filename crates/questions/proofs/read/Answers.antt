@@ -14,7 +14,12 @@ pub returns-in-Ok : goal.returns-in-Ok
 returns-in-Ok c =
     let E = c.read_commands.ensures in
     let same = read_on_lem _ _ _ _ c.in-Ok.ensures in
-    record { answer = E.answer ∙ ap reading_of same; clauses = E.clauses ∙ written_on_lem _ _ _ _ c.in-Ok.ensures _; stands = rw same at E.stands; first = E.first }
+    record {
+      answer = E.answer ∙ ap reading_of same;
+      clauses = E.clauses ∙ written_on_lem _ _ _ _ c.in-Ok.ensures _;
+      stands = rw same at E.stands;
+      first = E.first;
+    }
 
 pub returns-in-Err : goal.returns-in-Err
 returns-in-Err c =

@@ -6,7 +6,8 @@ use Rattle.format.specs.Told.{step_told}
 use Rattle.format.proofs.FormatLaws.{size_some}
 use Rattle.format.proofs.KeepingLaws.{room_clause, small_clause}
 use Rattle.format.specs.Keeping.{is_end}
-use Rattle.questions.proofs.Turns.{starts, refused_turn, whole, no_fault, accepted_turn, after_end, goes_clause, not_end}
+use Rattle.questions.proofs.Turns.{starts, refused_turn, whole, no_fault, accepted_turn, after_end, goes_clause}
+use Rattle.questions.proofs.Turns.{not_end}
 use Rattle.questions.proofs.read_commands.Goals as goal
 
 pub loop-command-init : goal.loop-command-init
@@ -52,7 +53,8 @@ loop-command-smaller c =
 pub loop-command-preserved : goal.loop-command-preserved
 loop-command-preserved c =
     let head = c.loop-command in
-    goes_clause _ _ (stored head.clauses head.counts _ head.named c.args.head.free c.args.head.own) _ _ _ _ head.invariant _
+    goes_clause _ _ (stored head.clauses head.counts _ head.named c.args.head.free c.args.head.own) _ _ _ _
+    head.invariant _
     c.in-Ok.ensures _ _ refl
     (λ i. omega (arith, c.type_inv.bytes i))
     (not_end _ c.in_default-command.not-End) _ _ _

@@ -10,7 +10,8 @@ use Rattle.questions.proofs.read_commands.Given as goal
 
 abbrev pub invariant-loop-command : goal.invariant-loop-command
 invariant-loop-command l =
-    State l.bytes (kind_value l.head.kind) (stored l.clauses l.counts l.constants l.named l.head.free l.head.own) l.defined
+    State l.bytes (kind_value l.head.kind) (stored l.clauses l.counts l.constants l.named l.head.free l.head.own)
+    l.defined
     (opened (kind_value l.head.kind) l.head.free l.head.own) l.fn.clauses l.at
 
 abbrev pub decreases-loop-command : goal.decreases-loop-command

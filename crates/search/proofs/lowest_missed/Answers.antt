@@ -6,7 +6,8 @@ use Rattle.search.proofs.lowest_missed.Goals as goal
 
 -- of a range from 0 on
 lowest : (count : ℕ) (p : ℕ → Bool) (r : Option ℕ)
-    → MatchOption r ((k : ℕ) → 0 ≤ k → k < count → p k ≡ false) (λ j. (0 ≤ j) × (j < count) × p j ≡ true × ((k : ℕ) → 0 ≤ k → k < j → p k ≡ false))
+    → MatchOption r ((k : ℕ) → 0 ≤ k → k < count → p k ≡ false) (λ j. (0 ≤ j) × (j < count) × p j ≡ true
+    × ((k : ℕ) → 0 ≤ k → k < j → p k ≡ false))
     → LowestOf count p r
 lowest count p None h = λ k l. h k (omega arith) l
 lowest count p (Some j) (z, l, q, h) = (l, q, λ k m. h k (omega arith) m)

@@ -6,4 +6,5 @@ use Rattle.shares.proofs.UnlikeLaws.{unlike_height}
 use Rattle.shares.proofs.constant_height.Goals as goal
 
 pub returns : goal.returns
-returns c = c.unlike_height.ensures ∙ ap (raised constant_levels constant_levels) c.unlike.ensures ∙ unlike_height constant_levels c.args.a
+returns c = c.unlike_height.ensures ∙ ap (raised constant_levels constant_levels) c.unlike.ensures
+    ∙ unlike_height constant_levels c.args.a

@@ -14,7 +14,10 @@ joined levels a b ha hb true e = sym (join_numbers levels a b ha hb ∙ rw e ref
 joined levels a b ha hb false e = sym (join_numbers levels a b ha hb ∙ rw e refl)
 
 pub returns-then-overlap-clause-tree : goal.returns-then-overlap-clause-tree
-returns-then-overlap-clause-tree c = joined constant_levels c.args.a c.args.b (omega arith) (omega arith) true (sym c.overlap.ensures ∙ c.if-overlap.true)
+returns-then-overlap-clause-tree c =
+    joined constant_levels c.args.a c.args.b (omega arith) (omega arith) true (sym c.overlap.ensures
+    ∙ c.if-overlap.true)
 
 pub returns-clause-tree : goal.returns-clause-tree
-returns-clause-tree c = joined constant_levels c.args.a c.args.b (omega arith) (omega arith) false (sym c.overlap.ensures ∙ c.if-overlap.false)
+returns-clause-tree c = joined constant_levels c.args.a c.args.b (omega arith) (omega arith) false
+    (sym c.overlap.ensures ∙ c.if-overlap.false)

@@ -11,4 +11,5 @@ unfolding emptied zeros
 returns c =
     let answer = c.args.answer.now in
     ap (λ l. l ++ drop (answer_bytes constant_levels) answer)
-    (c.fill.ensures.after (λ y e. search rules) ∙ ap (λ (n : ℕ). replicate n 0) (length-take-le (answer_bytes constant_levels) answer c.requires))
+    (c.fill.ensures.after (λ y e. search rules)
+    ∙ ap (λ (n : ℕ). replicate n 0) (length-take-le (answer_bytes constant_levels) answer c.requires))

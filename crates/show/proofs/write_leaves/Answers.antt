@@ -24,7 +24,8 @@ change_block-requires c =
     let within : plan.low ≤ row_levels constant_levels = omega arith in
     let below : l.k < 2 ^ plan.low = omega (arith, leaves_taken plan.low plan.plain c.requires.0 (omega arith)) in
     let bytes = l.auto.row ∙ ap length c.requires.1 ∙ zeros_length (row_bytes constant_levels) in (
-      subst (Inside (row_levels constant_levels - plan.low) l.k) (sym bytes) (leaf_inside (lit≤ tt) (lit≤ tt) within below),
+      subst (Inside (row_levels constant_levels - plan.low) l.k) (sym bytes)
+          (leaf_inside (lit≤ tt) (lit≤ tt) within below),
       blocks_next _ (digits plan.plain c.args.p) _ l.row l.invariant,
     )
 

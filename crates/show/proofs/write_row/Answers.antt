@@ -17,5 +17,6 @@ write_sub_leaves-requires-clause-row_len c = (
 pub returns : goal.returns
 returns c =
     shows_all (row_levels constant_levels) _ c.requires.showable _ (lit≤ tt) _
-    (c.write_sub_leaves.auto.row ∙ c.write_leaves.auto.row ∙ ap length c.requires.row_value.0 ∙ zeros_length (row_bytes constant_levels))
+    (c.write_sub_leaves.auto.row ∙ c.write_leaves.auto.row ∙ ap length c.requires.row_value.0
+    ∙ zeros_length (row_bytes constant_levels))
     (λ j. (c.type_inv.row j).fits) c.write_sub_leaves.ensures

@@ -18,18 +18,23 @@ pub write_row-requires-clause-row_value : goal.write_row-requires-clause-row_val
 write_row-requires-clause-row_value c =
     let a = c.args in
     let l = c.loop-v in
-    let next : l.v < row_count = omega arith in
-    (filled_next (row_levels constant_levels) (plan_trees a.n a.plan) _ l.v _ l.answer next (part_size (l.v * row_bytes constant_levels)) l.invariant, omega arith)
+    let next : l.v < row_count = omega arith in (
+      filled_next (row_levels constant_levels) (plan_trees a.n a.plan) _ l.v _ l.answer next
+          (part_size (l.v * row_bytes constant_levels)) l.invariant,
+      omega arith,
+    )
 
 pub loop-v-preserved : goal.loop-v-preserved
 loop-v-preserved c =
     let a = c.args in
     let l = c.loop-v in
     let next : l.v < row_count = omega arith in
-    filled_more (row_levels constant_levels) (plan_trees a.n a.plan) _ l.v _ l.answer next (part_size (l.v * row_bytes constant_levels)) l.invariant _ c.write_row.ensures
+    filled_more (row_levels constant_levels) (plan_trees a.n a.plan) _ l.v _ l.answer next
+    (part_size (l.v * row_bytes constant_levels)) l.invariant _ c.write_row.ensures
 
 pub returns : goal.returns
 returns c =
     let a = c.args in
     let all : c.loop-v.v ≡ a.n = omega arith in
-    rw (all, c.empty_rows.ensures) at c.loop-v.invariant ∙ filled_emptied (row_levels constant_levels) (plan_trees a.n a.plan) a.answer.now a.n
+    rw (all, c.empty_rows.ensures) at c.loop-v.invariant
+    ∙ filled_emptied (row_levels constant_levels) (plan_trees a.n a.plan) a.answer.now a.n

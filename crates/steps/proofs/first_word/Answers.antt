@@ -15,6 +15,11 @@ returns c =
     let S = posed q in
     let bits : (values : ℕ) → Terms q.sizes.free q.sizes.own values a.w a.terms.now → (i : ℕ) → i < 64
     → bit c.section_word.result i ≡ first_meets S values (64 * a.w + i) =
-    λ values t i l. c.section_word.ensures i l ∙ ap₂ ◌&&◌ (bit_ones 64 i l) (first_bits q.sizes q.clauses.now q.constants.now q.readable values a.w a.terms.now t i l) in
-    let (values, t) = c.requires.1 in
-    (word_free q.sizes.free a.w c.section_word.result (first_meets S values) c.requires.0 (first_periodic S values) (bits values t), bits)
+    λ values t i l. c.section_word.ensures i l
+    ∙ ap₂ ◌&&◌ (bit_ones 64 i l)
+    (first_bits q.sizes q.clauses.now q.constants.now q.readable values a.w a.terms.now t i l) in
+    let (values, t) = c.requires.1 in (
+      word_free q.sizes.free a.w c.section_word.result (first_meets S values) c.requires.0 (first_periodic S values)
+          (bits values t),
+      bits,
+    )

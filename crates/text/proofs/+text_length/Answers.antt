@@ -8,7 +8,8 @@ returns-then-first_sign-ne40 t c =
     leaf_counted c.args.block.row.now _ _ c.args.block.inside _ c.first_sign.ensures c.if-first_sign-ne40.true
 
 pub halves-requires : goal.halves-requires
-halves-requires t c = above c.args.block.row.now _ _ c.args.block.inside _ c.first_sign.ensures c.if-first_sign-ne40.false
+halves-requires t c = above c.args.block.row.now _ _ c.args.block.inside _ c.first_sign.ensures
+    c.if-first_sign-ne40.false
 
 pub text_length-requires : goal.text_length-requires
 text_length-requires t c =

@@ -11,7 +11,8 @@ returns-then-sign-ne40 t c =
     leaf_put c.args.block.row.now _ _ c.args.block.inside _ c.first_sign-sign.ensures c.if-sign-ne40.true _ _
 
 pub halves-requires : goal.halves-requires
-halves-requires t c = above c.args.block.row.now _ _ c.args.block.inside _ c.first_sign-sign.ensures c.if-sign-ne40.false
+halves-requires t c = above c.args.block.row.now _ _ c.args.block.inside _ c.first_sign-sign.ensures
+    c.if-sign-ne40.false
 
 pub write_text-middle-requires : goal.write_text-middle-requires
 write_text-middle-requires t c =

@@ -25,6 +25,7 @@ pub returns : goal.returns
 returns c =
     let (row, height, number) = c.whole.ensures in
     let (answer, buffer) =
-    written _ c.args.row.now c.args.buffer.now c.if-row-ne-ROW_BYTES.false _ c.text_fits.ensures c.if-not-text_fits.false
+    written _ c.args.row.now c.args.buffer.now c.if-row-ne-ROW_BYTES.false _ c.text_fits.ensures
+    c.if-not-text_fits.false
     _ _ (rw (row, height, number) at c.write_text.ensures) in
     record { answer = answer; buffer = buffer }

@@ -11,6 +11,9 @@ returns c =
     let a = c.args in
     let low = c.spread-low in
     let high = c.spread-high in
-    word_halves (constant_leaf constant_levels a.x) a.w (low.result / 2 ^ 32) (high.result / 2 ^ 32) (omega (arith, low.type_inv))
-    (λ i l. bit_shift low.result 32 i ∙ low.ensures (32 + i) (omega arith) ∙ c.digit.ensures ∙ ap (bit a.x) (omega arith))
-    (λ i l. bit_shift high.result 32 i ∙ high.ensures (32 + i) (omega arith) ∙ c.digit-2.ensures ∙ ap (bit a.x) (omega arith))
+    word_halves (constant_leaf constant_levels a.x) a.w (low.result / 2 ^ 32) (high.result / 2 ^ 32)
+    (omega (arith, low.type_inv))
+    (λ i l. bit_shift low.result 32 i ∙ low.ensures (32 + i) (omega arith) ∙ c.digit.ensures
+    ∙ ap (bit a.x) (omega arith))
+    (λ i l. bit_shift high.result 32 i ∙ high.ensures (32 + i) (omega arith) ∙ c.digit-2.ensures
+    ∙ ap (bit a.x) (omega arith))

@@ -17,5 +17,6 @@ loop-c-preserved c =
     let t = c.in-Some.ensures.steps in
     record {
       within = omega (arith, t.less);
-      parts = parts_more constant_levels (omega arith) _ _ l.c-iterator.rest _ c.in-Some.c t.out c.put_constant.ensures l.invariant.parts;
+      parts = parts_more constant_levels (omega arith) _ _ l.c-iterator.rest _ c.in-Some.c t.out c.put_constant.ensures
+          l.invariant.parts;
     }

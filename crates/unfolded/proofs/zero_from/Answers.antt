@@ -7,4 +7,5 @@ pub loop-w-preserved : goal.loop-w-preserved
 loop-w-preserved c =
     let l = c.loop-w in
     let x = c.word_at-all in
-    zero_more c.args.rows.now l.w x.result x.ensures (λ j. (c.type_inv.rows j).fits) x.type_inv (8 * c.args.start) l.all (omega arith) l.invariant
+    zero_more c.args.rows.now l.w x.result x.ensures (λ j. (c.type_inv.rows j).fits) x.type_inv (8 * c.args.start) l.all
+    (omega arith) l.invariant

@@ -7,4 +7,5 @@ use Rattle.words.proofs.failing_word.Goals as goal
 
 pub returns : goal.returns
 returns c i h =
-    bit_of_and _ _ i ∙ ap (◌&&◌ (bit c.args.x i)) (not_bits c.clause_word.result i _ c.clause_word.type_inv h (c.clause_word.ensures i h))
+    bit_of_and _ _ i ∙ ap (◌&&◌ (bit c.args.x i))
+    (not_bits c.clause_word.result i _ c.clause_word.type_inv h (c.clause_word.ensures i h))

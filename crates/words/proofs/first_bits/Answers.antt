@@ -8,4 +8,7 @@ use Rattle.words.proofs.first_bits.Goals as goal
 pub returns : goal.returns
 returns c =
     let n = c.args.count in
-    rw (power_shift n (omega (arith, c.requires))) (omega (arith, and_le_r c.args.x (2 ^ n - 1), pow_pos n, pow_mono {i = n} {j = 32} c.requires), first_bits c.args.x n)
+    rw (power_shift n (omega (arith, c.requires))) (
+      omega (arith, and_le_r c.args.x (2 ^ n - 1), pow_pos n, pow_mono {i = n} {j = 32} c.requires),
+      first_bits c.args.x n,
+    )

@@ -19,7 +19,8 @@ returns-then-r-eq0 c i h =
     let a = c.args in
     let z : bit l.r i ≡ false = ap (λ x. bit x i) c.if-r-eq0.true ∙ bit_zero i in
     bit_zero i
-    ∙ sym (section_stays (bit a.x i) a.clauses.now (λ t. bit (get_or a.terms.now t 0) i) a.start l.k a.count (omega arith) (sym (l.invariant i h) ∙ z))
+    ∙ sym (section_stays (bit a.x i) a.clauses.now (λ t. bit (get_or a.terms.now t 0) i) a.start l.k a.count
+    (omega arith) (sym (l.invariant i h) ∙ z))
 
 pub clause_word-r-requires : goal.clause_word-r-requires
 clause_word-r-requires c = clauses_at c.requires c.loop-k.k (omega arith)
@@ -35,4 +36,5 @@ pub returns : goal.returns
 returns c i h =
     let e : c.loop-k.k ≡ c.args.count = omega arith in
     let a = c.args in
-    c.loop-k.invariant i h ∙ ap (λ k. bit a.x i && all_clauses a.clauses.now (λ t. bit (get_or a.terms.now t 0) i) a.start k) e
+    c.loop-k.invariant i h ∙ ap (λ k. bit a.x i
+    && all_clauses a.clauses.now (λ t. bit (get_or a.terms.now t 0) i) a.start k) e

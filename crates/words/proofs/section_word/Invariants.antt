@@ -5,4 +5,5 @@ use Rattle.words.specs.Clause.{all_clauses}
 use Rattle.words.proofs.section_word.Given as goal
 
 abbrev pub invariant-loop-k : goal.invariant-loop-k
-invariant-loop-k l = (i : ℕ) → i < 64 → bit l.r i ≡ (bit l.x i && all_clauses l.clauses (λ t. bit (get_or l.terms t 0) i) l.start l.k)
+invariant-loop-k l = (i : ℕ) → i < 64
+    → bit l.r i ≡ (bit l.x i && all_clauses l.clauses (λ t. bit (get_or l.terms t 0) i) l.start l.k)

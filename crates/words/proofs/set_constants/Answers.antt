@@ -22,11 +22,13 @@ loop-i-preserved c =
     record {
       within = omega (arith, t.less);
       among = λ k s. l.invariant.among k (and_left (bit l.i-iterator.rest k) _ (subst T (t.out k) s));
-      words = words_more _ l.i-iterator.rest _ _ _ l.terms c.in-Some.i c.spread.result (omega arith) l.invariant.among t.set t.out
+      words = words_more _ l.i-iterator.rest _ _ _ l.terms c.in-Some.i c.spread.result (omega arith) l.invariant.among
+          t.set t.out
           (λ k h. c.spread.ensures k h ∙ c.digit.ensures) l.invariant.words;
     }
 
 pub returns : goal.returns
 returns c n m old w h wo wv =
     let l = c.loop-i in
-    terms_changed n m c.args.named c.args.values old w c.args.terms.now l.terms h wo wv (rw c.in-None.ensures.steps at l.invariant.words)
+    terms_changed n m c.args.named c.args.values old w c.args.terms.now l.terms h wo wv
+    (rw c.in-None.ensures.steps at l.invariant.words)

@@ -21,10 +21,12 @@ loop-p-preserved c =
     let apart : (t : ℕ) → t < a.n + a.m → (t ≡ s → ⊥) → pos t ≡ l.p → ⊥ =
     λ t h n e. n (sym (position_twice a.n a.m t h) ∙ ap pos (e ∙ sym v.1) ∙ position_twice a.n a.m s v.0) in
     record {
-      set = store_law (λ t x. t < a.n + a.m → a.from ≤ pos t → pos t < l.p + 1 → Digits a.n a.m a.w t x) l.terms s c.digit_word.result in_list
+      set = store_law (λ t x. t < a.n + a.m → a.from ≤ pos t → pos t < l.p + 1 → Digits a.n a.m a.w t x) l.terms s
+          c.digit_word.result in_list
           (λ t n h b d. l.invariant.set t h b (omega (arith, apart t h n)))
           (λ h b d i k. c.digit_word.ensures i k ∙ ap (bit (64 * a.w + i)) (sym v.1));
-      kept = store_law (λ t x. (t < a.n + a.m → pos t < a.from) → x ≡ get_or a.terms.now t 0) l.terms s c.digit_word.result in_list
+      kept = store_law (λ t x. (t < a.n + a.m → pos t < a.from) → x ≡ get_or a.terms.now t 0) l.terms s
+          c.digit_word.result in_list
           (λ t n. l.invariant.kept t) (λ f. absurd (omega (arith, f v.0, v.1)));
     }
 

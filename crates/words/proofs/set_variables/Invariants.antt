@@ -6,6 +6,7 @@ use Rattle.words.proofs.set_variables.Given as goal
 
 abbrev pub invariant-loop-p : goal.invariant-loop-p
 invariant-loop-p l = record {
-  set : (t : ℕ) → t < l.n + l.m → l.from ≤ position l.n l.m t → position l.n l.m t < l.p → Digits l.n l.m l.w t (get_or l.terms t 0);
+  set : (t : ℕ) → t < l.n + l.m → l.from ≤ position l.n l.m t → position l.n l.m t < l.p
+      → Digits l.n l.m l.w t (get_or l.terms t 0);
   kept : (t : ℕ) → (t < l.n + l.m → position l.n l.m t < l.from) → get_or l.terms t 0 ≡ get_or l.initial.terms t 0;
 }

@@ -6,4 +6,5 @@ use Rattle.words.proofs.start_terms.Goals as goal
 pub returns : goal.returns
 returns c =
     rw c.from.ensures
-    (terms_started c.args.n c.args.m c.spread.result _ _ c.requires.0 (omega arith) c.requires.1 c.set_variables.ensures c.spread.ensures)
+    (terms_started c.args.n c.args.m c.spread.result _ _ c.requires.0 (omega arith) c.requires.1 c.set_variables.ensures
+    c.spread.ensures)

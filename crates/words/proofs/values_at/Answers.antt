@@ -18,12 +18,16 @@ leaf_values-requires c =
 -- it fits, since no more than 32 constants are named
 pub overflow_cast-result : goal.overflow_cast-result
 overflow_cast-result c =
-    record { fits = within_lt 32 c.args.named c.leaf_values.result _ c.requires.0 c.leaf_values.ensures (omega arith) c.leaf_values.type_inv }
+    record {
+      fits = within_lt 32 c.args.named c.leaf_values.result _ c.requires.0 c.leaf_values.ensures (omega arith)
+          c.leaf_values.type_inv;
+    }
 
 pub returns : goal.returns
 returns c =
     let a = c.args in
     let r = c.leaf_values.result in
     let bits : (i : ℕ) → bit r i ≡ (bit a.named i && bit (get_or a.constants.now i 0) (a.b * 2 ^ (5 - a.h))) =
-    subst (λ p. (i : ℕ) → bit r i ≡ (bit a.named i && bit (get_or a.constants.now i 0) (a.b * p))) (power a.h c.requires.1) c.leaf_values.ensures in
+    subst (λ p. (i : ℕ) → bit r i ≡ (bit a.named i && bit (get_or a.constants.now i 0) (a.b * p)))
+    (power a.h c.requires.1) c.leaf_values.ensures in
     values_is constant_levels _ _ _ _ r c.leaf_values.type_inv bits

@@ -11,4 +11,10 @@ pack-requires c = subst InBytes (sym c.ask.ensures.outcome) (outcome_fits _ _ _)
 pub returns : goal.returns
 returns c =
     let G = c.ask.ensures in
-    given_packed c.args.question.now _ _ _ _ _ (record { outcome = G.outcome; answer = G.answer; work = G.work; model = G.model }) _ c.pack.ensures
+    given_packed c.args.question.now _ _ _ _ _ (record {
+      outcome = G.outcome;
+      answer = G.answer;
+      work = G.work;
+      model =
+          G.model;
+    }) _ c.pack.ensures

@@ -10,5 +10,6 @@ returns c =
     let a = c.args.a in
     let b = c.args.b in
     let shared = set_in_both (2 ^ constant_levels) a b in
-    let told = c.join_number.ensures ∙ ap (join_number constant_levels) c.join_constants.ensures.numbers ∙ number_cases constant_levels shared (a + b) in
+    let told = c.join_number.ensures ∙ ap (join_number constant_levels) c.join_constants.ensures.numbers
+    ∙ number_cases constant_levels shared (a + b) in
     record { tree = join_told constant_levels a b (omega arith) (omega arith) _ told; numbers = told }

@@ -6,7 +6,8 @@ use Rattle.commands.proofs.opening.read_head.Goals as goal
 
 pub returns-in_default : goal.returns-in_default
 returns-in_default c =
-    no_kind c.args.bytes.now c.if-bytes-lt1.false c.if-bytes-ne-HEAD_BYTE.false c.if-bytes-lt4.false c.in_default.ensures
+    no_kind c.args.bytes.now c.if-bytes-lt1.false c.if-bytes-ne-HEAD_BYTE.false c.if-bytes-lt4.false
+    c.in_default.ensures
 
 pub invariant_of-result : goal.invariant_of-result
 invariant_of-result c =

@@ -10,10 +10,16 @@ pub bounds-row-j-then-height-le3 : goal.bounds-row-j-then-height-le3
 bounds-row-j-then-height-le3 c = byte_at c.args.row.now _ _ c.requires c.if-height-le3.true _ c.power-blocks.ensures
 
 pub overflow_mul-start : goal.overflow_mul-start
-overflow_mul-start c = omega (arith, part_fits c.args.row.now _ _ c.requires c.if-height-le3.false _ c.power-size.ensures)
+overflow_mul-start c = omega (
+  arith,
+  part_fits c.args.row.now _ _ c.requires c.if-height-le3.false _ c.power-size.ensures,
+)
 
 pub overflow_add-start : goal.overflow_add-start
-overflow_add-start c = omega (arith, part_fits c.args.row.now _ _ c.requires c.if-height-le3.false _ c.power-size.ensures)
+overflow_add-start c = omega (
+  arith,
+  part_fits c.args.row.now _ _ c.requires c.if-height-le3.false _ c.power-size.ensures,
+)
 
 pub slice_bounds-fill-end : goal.slice_bounds-fill-end
 slice_bounds-fill-end c = part_fits c.args.row.now _ _ c.requires c.if-height-le3.false _ c.power-size.ensures

@@ -8,7 +8,8 @@ use Rattle.words.specs.SetBits.{TakesLowest}
 use Rattle.words.proofs.SetBitsIterator.next.Goals as goal
 
 taken : (x y i : ℕ) → x < 2 ^ 64 → (x ≡ 0 → ⊥) → i ≡ first_below 64 (bit x) → y ≤ x
-    → ((k : ℕ) → bit y k ≡ (bit x k && not (eqb k (first_below 64 (bit x))))) → TakesLowest (record { rest = x }) i (record { rest = y })
+    → ((k : ℕ) → bit y k ≡ (bit x k && not (eqb k (first_below 64 (bit x)))))
+    → TakesLowest (record { rest = x }) i (record { rest = y })
 taken x y i small some e less out =
     let low = lowest_set x i small some e in
     let out_i : (k : ℕ) → bit y k ≡ (bit x k && not (eqb k i)) = rw e out in
@@ -22,9 +23,11 @@ taken x y i small some e less out =
 
 pub returns-clause-steps : goal.returns-clause-steps
 returns-clause-steps c =
-    taken c.args.self.now.rest _ _ (omega arith) c.if-self-eq0.false c.lowest-i.ensures c.without_lowest-self.ensures.0 c.without_lowest-self.ensures.1
+    taken c.args.self.now.rest _ _ (omega arith) c.if-self-eq0.false c.lowest-i.ensures c.without_lowest-self.ensures.0
+    c.without_lowest-self.ensures.1
 
 pub returns-clause-goes : goal.returns-clause-goes
 returns-clause-goes c =
-    let t = taken c.args.self.now.rest _ _ (omega arith) c.if-self-eq0.false c.lowest-i.ensures c.without_lowest-self.ensures.0 c.without_lowest-self.ensures.1 in
+    let t = taken c.args.self.now.rest _ _ (omega arith) c.if-self-eq0.false c.lowest-i.ensures
+    c.without_lowest-self.ensures.0 c.without_lowest-self.ensures.1 in
     record { on = λ f. (tt, tt, t.less); keeps = tt; rests = λ f. tt }

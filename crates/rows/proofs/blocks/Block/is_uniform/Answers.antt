@@ -9,7 +9,8 @@ bounds-self-self c =
 
 pub returns-then-self-le3 : goal.returns-then-self-le3
 returns-then-self-le3 c =
-    test_at c.args.self.row.now _ _ c.args.self.inside c.if-self-le3.true _ c.power-blocks.ensures _ c.is_block.result c.is_block.ensures
+    test_at c.args.self.row.now _ _ c.args.self.inside c.if-self-le3.true _ c.power-blocks.ensures _ c.is_block.result
+    c.is_block.ensures
 
 pub overflow_mul-start : goal.overflow_mul-start
 overflow_mul-start c =
@@ -25,4 +26,5 @@ slice_bounds-is_filled-end c =
 
 pub returns : goal.returns
 returns c =
-    test_part c.args.self.row.now _ _ c.args.self.inside c.if-self-le3.false _ c.power-size.ensures _ c.is_filled.result c.is_filled.ensures
+    test_part c.args.self.row.now _ _ c.args.self.inside c.if-self-le3.false _ c.power-size.ensures _ c.is_filled.result
+    c.is_filled.ensures
