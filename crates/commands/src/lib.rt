@@ -15,7 +15,7 @@ use format::{Command, Fault, Leading, Section, Shape, Taken, Test};
 pub const CONSTANT_SIZE: usize = 5;
 
 // The byte of term number k of a clause with so many terms, 0 where it has none.
-fn term_byte(bytes: &[u8], i: usize, count: usize, k: usize) -> u8
+pub fn term_byte(bytes: &[u8], i: usize, count: usize, k: usize) -> u8
     requires { i + count ≤ length bytes.now }
     ensures { result ≡ term_byte bytes.now i count k }
 {

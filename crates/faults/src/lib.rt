@@ -3,7 +3,7 @@
 
 pub mod sections;
 
-ghost use Rattle.std.specs.Prelude.{◌≡◌, ◌+◌, ◌≤◌};
+ghost use Rattle.std.specs.Prelude.{◌≡◌, ◌+◌, ◌≤◌, eqb};
 ghost use Rattle.format.specs.Format.{read_at, names, variables_for, term_named, all_named, clause_fault};
 ghost use Rattle.format.specs.Format.{constant_fault};
 ghost use Rattle.format.specs.Stored.{count_of, Counted};
@@ -140,8 +140,8 @@ fn fault_of(
     }
 }
 
-// The command at an offset, or why it is refused.
-pub fn read_command(
+// The command at an offset of a question with this head, or why it is refused.
+pub fn read_under(
     bytes: &[u8],
     at: usize,
     head: Head,
@@ -155,4 +155,32 @@ pub fn read_command(
     let taken = commands::read_at(bytes, at)?;
     fault_of(head, constants, counts, taken.command)?;
     Ok(taken)
+}
+
+// The kind that stands for a number: only kind 0 has no second system.
+fn kind_for(number: u8) -> Kind
+    ensures { eqb (kind_value result) 0 ≡ eqb number 0 }
+{
+    match number {
+        0 => Kind::Satisfiability,
+        _ => Kind::Entailment,
+    }
+}
+
+// The same by the numbers of a head, of which the kind may be any.
+pub fn read_command(
+    bytes: &[u8],
+    at: usize,
+    kind: u8,
+    free: usize,
+    own: usize,
+    constants: usize,
+    counts: &[usize; 4],
+) -> Result<Taken, Fault>
+    requires own_bound { free + own ≤ 12 }
+    requires counted { Counted counts.now }
+    ensures { step_told result ≡ judged_of kind free own constants counts.now (read_at bytes.now at) }
+{
+    let kind = kind_for(kind);
+    read_under(bytes, at, Head { kind, free, own }, constants, counts)
 }

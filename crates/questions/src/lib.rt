@@ -58,7 +58,7 @@ fn read_commands(bytes: &[u8], head: Head, clauses: &mut [u8]) -> Result<Questio
     let mut named: u64 = 0;
     let mut at = 4 + CONSTANT_SIZE * defined;
     loop {
-        let step = faults::read_command(bytes, at, head, defined, &counts);
+        let step = faults::read_under(bytes, at, head, defined, &counts);
         let Ok(Taken { command, next }) = step else {
             return Err(Refused {
                 fault: step.unwrap_err(),
@@ -96,8 +96,9 @@ pub fn read(bytes: &[u8], clauses: &mut [u8; CLAUSE_BYTES]) -> Result<Question, 
         → Stands (kind_value x.kind) (stored_of x clauses.new) q) }
     ensures first { IfOk result (λ x. x.defined ≡ leading most_constants bytes.now 0) }
 {
-    match opening::read_head(bytes) {
-        Ok(head) => read_commands(bytes, head, clauses),
-        Err(fault) => Err(Refused { fault, place: 0 }),
-    }
+    let head = match opening::read_head(bytes) {
+        Ok(head) => head,
+        Err(fault) => return Err(Refused { fault, place: 0 }),
+    };
+    read_commands(bytes, head, clauses)
 }

@@ -6,7 +6,7 @@ ghost use Rattle.std.specs.Prelude.{◌≡◌, ◌+◌, ◌*◌, ◌^◌, ◌≤
 ghost use Rattle.shares.specs.Constant.{constant_levels};
 ghost use Rattle.shares.specs.Text.{text};
 ghost use Rattle.rows.specs.Rows.{row_levels, row_bytes};
-ghost use Rattle.rows.specs.Blocks.{block_tree};
+ghost use Rattle.rows.specs.Blocks.{Inside, block_tree};
 ghost use Rattle.text.specs.Texts.{refusal_number, row_text, text_answer, text_after};
 ghost use Rattle.text.specs.Put.{Put};
 
@@ -48,46 +48,45 @@ fn first_sign(block: Block<'_>) -> u8
     b'('
 }
 
-// The length of the text of a block.
-fn text_length(block: Block<'_>) -> usize
-    ensures { (result ≡ length (text (block_tree block.entry.row.now block.entry.height block.entry.number)))
-        × (result + 2 ≤ 3 * 2 ^ block.entry.height) }
+// The length of the text of block `number`. This and the next take a block by its numbers, since a struct of four words
+// would go through memory at each half.
+fn text_length(row: &[u8], height: usize, number: usize) -> usize
+    requires { Inside height number (length row.now) }
+    ensures { (result ≡ length (text (block_tree row.now height number))) × (result + 2 ≤ 3 * 2 ^ height) }
 {
+    let block = Block {
+        row,
+        height,
+        number,
+    };
     if first_sign(block) != b'(' {
         return 1;
     }
     let (left, right) = block.halves();
-    2 + text_length(left) + text_length(right)
+    2 + text_length(row, left.height, left.number) + text_length(row, right.height, right.number)
 }
 
-// Writes the text of a block from an offset of the buffer on, and gives the offset after it.
-fn write_text(block: Block<'_>, buffer: &mut [u8], at: usize) -> usize
-    requires { at + length (text (block_tree block.row.now block.height block.number)) ≤ length buffer.old }
-    ensures { Put (text (block_tree block.entry.row.now block.entry.height block.entry.number)) buffer.old at result
-        buffer.new }
+// Writes the text of block `number` from an offset of the buffer on, and gives the offset after it.
+fn write_text(row: &[u8], height: usize, number: usize, buffer: &mut [u8], at: usize) -> usize
+    requires inside { Inside height number (length row.now) }
+    requires room { at + length (text (block_tree row.now height number)) ≤ length buffer.old }
+    ensures { Put (text (block_tree row.now height number)) buffer.old at result buffer.new }
 {
+    let block = Block {
+        row,
+        height,
+        number,
+    };
     let sign = first_sign(block);
     buffer[at] = sign;
     if sign != b'(' {
         return at + 1;
     }
     let (left, right) = block.halves();
-    let middle = write_text(left, buffer, at + 1);
-    let end = write_text(right, buffer, middle);
+    let middle = write_text(row, left.height, left.number, buffer, at + 1);
+    let end = write_text(row, right.height, right.number, buffer, middle);
     buffer[end] = b')';
     end + 1
-}
-
-// A row as one block.
-fn whole(row: &[u8]) -> Block<'_>
-    requires { length row.now ≡ row_bytes constant_levels }
-    ensures { (result.row.now ≡ row.now) × (result.height ≡ row_levels constant_levels) × (result.number ≡ 0) }
-{
-    Block {
-        row,
-        height: ROW_LEVELS,
-        number: 0,
-    }
 }
 
 // Whether the text of a row fits so many bytes.
@@ -98,7 +97,7 @@ fn text_fits(row: &[u8], room: usize) -> bool
     if LONGEST_TEXT <= room {
         return true;
     }
-    text_length(whole(row)) <= room
+    text_length(row, ROW_LEVELS, 0) <= room
 }
 
 // Writes the text of a row to the buffer, and gives its length.
@@ -112,5 +111,5 @@ pub fn tree_text(row: &[u8], buffer: &mut [u8]) -> Result<usize, TextRefusal>
     if !text_fits(row, buffer.len()) {
         return Err(TextRefusal::TooLong);
     }
-    Ok(write_text(whole(row), buffer, 0))
+    Ok(write_text(row, ROW_LEVELS, 0, buffer, 0))
 }

@@ -1,7 +1,7 @@
 // The printing program: reads one question from standard input, asks it, and prints the answer.
 #![tactic(auto)]
 
-ghost use Rattle.std.specs.Prelude.{◌≡◌, cond, None, Some};
+ghost use Rattle.std.specs.Prelude.{◌≡◌, cond, [], ◌∷◌, ◌+◌, ◌/◌, ◌%◌, None, Some};
 ghost use Rattle.shares.specs.Constant.{constant_levels};
 ghost use Rattle.systems.specs.Answers.{shows};
 ghost use Rattle.rows.specs.Rows.{row_levels};
@@ -21,12 +21,36 @@ fn shown_height(answer: Answer) -> Option<usize>
     decide::is_shown(answer.finding).then_some(answer.height)
 }
 
-// Each of these writes to standard output, and stops at the first write that fails.
+// Each of these writes to standard output, and stops at the first write that fails. Each piece of a line is a write of
+// its own, which a reader of messages sees.
 fn say_verdict(rt: &impl Print, answer: Answer) -> io::Result<()> {
     if answer.is_yes() {
         return rt.write_all(b"answer yes\n");
     }
     rt.write_all(b"answer no\n")
+}
+
+// The name of a variable, with a space after it: `v` and two decimal digits. `print!` promises nothing of what it
+// prints, so this is no `{variable:02}`.
+fn name_of(variable: usize) -> [u8; 4]
+    ensures { result ≡ (0x76 ∷ (0x30 + variable / 10 % 10) ∷ (0x30 + variable % 10) ∷ 0x20 ∷ []) }
+{
+    let tens = (48 + variable / 10 % 10) as u8;
+    let ones = (48 + variable % 10) as u8;
+    [b'v', tens, ones, b' ']
+}
+
+// Words and a number, which end a line.
+fn say_number(rt: &impl Print, words: &[u8], number: usize) -> io::Result<()> {
+    rt.write_all(words)?;
+    rt.print(number)?;
+    rt.write_all(b"\n")
+}
+
+fn say_refused(rt: &impl Print, refusal: Refusal) -> io::Result<()> {
+    rt.write_all(b"refused ")?;
+    rt.print(u8::from(refusal))?;
+    say_number(rt, b" at ", refusal.place())
 }
 
 // The line of one variable. Every row of an answer has a text, and it fits.
@@ -39,9 +63,9 @@ fn say_row(rt: &impl Print, variable: usize, row: &[u8], text: &mut [u8]) -> io:
     let Some(written) = text.get(..n) else {
         return Err(io::Error::from(ErrorKind::InvalidData));
     };
-    print!(rt; "v{variable:02} ")?;
+    rt.write_all(&name_of(variable))?;
     rt.write_all(written)?;
-    println!(rt; "")
+    rt.write_all(b"\n")
 }
 
 fn say_rows(rt: &impl Print, answer: &[u8], free: usize, text: &mut [u8]) -> io::Result<()> {
@@ -54,7 +78,7 @@ fn say_rows(rt: &impl Print, answer: &[u8], free: usize, text: &mut [u8]) -> io:
 // A shown solution. The buffer takes the text of every row.
 fn say_solution(rt: &impl Print, answer: &[u8], free: usize, height: usize) -> io::Result<()> {
     let mut text = [0u8; LONGEST_TEXT];
-    println!(rt; "height {height}")?;
+    say_number(rt, b"height ", height)?;
     say_rows(rt, answer, free, &mut text)
 }
 
@@ -62,8 +86,8 @@ fn say_solution(rt: &impl Print, answer: &[u8], free: usize, height: usize) -> i
 fn say_reason(rt: &impl Print, answer: Answer) -> io::Result<()> {
     match answer.finding {
         Finding::Satisfied | Finding::Unsatisfied => Ok(()),
-        Finding::Missed(j) => println!(rt; "reason 3 {j}"),
-        _ => println!(rt; "reason {}", answer.reason()),
+        Finding::Missed(j) => say_number(rt, b"reason 3 ", j),
+        _ => say_number(rt, b"reason ", usize::from(answer.reason())),
     }
 }
 
@@ -85,10 +109,7 @@ fn say(
 ) -> io::Result<()> {
     match outcome {
         Ok(answer) => say_answer(rt, free, rows, answer),
-        Err(refusal) => {
-            rt.write_all(b"refused ")?;
-            println!(rt; "{} at {}", u8::from(refusal), refusal.place())
-        }
+        Err(refusal) => say_refused(rt, refusal),
     }
 }
 

@@ -9,33 +9,45 @@ use shares::Way;
 use std::io;
 use std::io::Read;
 
-// The way in which a clause fails, and the leaf. This and what follows stop at the first write that fails.
+// What is said of a way, and the leaf. This and what follows stop at the first write that fails. Each piece of a line
+// is a write of its own, which a reader of messages sees.
+fn say_way(rt: &impl Print, words: &[u8], leaf: usize) -> io::Result<()> {
+    rt.write_all(words)?;
+    rt.write_all(b" at ")?;
+    rt.print(leaf)
+}
+
 fn say_failing(rt: &impl Print, failing: Failing) -> io::Result<()> {
-    let leaf = failing.leaf;
     match failing.way {
         Way::Holds => Ok(()),
-        Way::Overlap => print!(rt; " overlap at {leaf}"),
-        Way::Surplus => print!(rt; " surplus at {leaf}"),
-        Way::Shortfall => print!(rt; " shortfall at {leaf}"),
+        Way::Overlap => say_way(rt, b" overlap", failing.leaf),
+        Way::Surplus => say_way(rt, b" surplus", failing.leaf),
+        Way::Shortfall => say_way(rt, b" shortfall", failing.leaf),
     }
 }
 
 // A clause that is broken; a disequation fails at no leaf.
 fn say_broken(rt: &impl Print, broken: BrokenClause) -> io::Result<()> {
-    print!(rt; "broken {}", broken.number)?;
+    rt.write_all(b"broken ")?;
+    rt.print(broken.number)?;
     if let Some(failing) = broken.failing {
         say_failing(rt, failing)?;
     }
-    println!(rt; "")
+    rt.write_all(b"\n")
+}
+
+fn say_refused(rt: &impl Print, refusal: Refusal) -> io::Result<()> {
+    rt.write_all(b"refused ")?;
+    rt.print(u8::from(refusal))?;
+    rt.write_all(b" at ")?;
+    rt.print(refusal.place())?;
+    rt.write_all(b"\n")
 }
 
 // What is printed for rows.
 fn say(rt: &impl Print, judged: Result<Verdict, Refusal>) -> io::Result<()> {
     match judged {
-        Err(refusal) => {
-            rt.write_all(b"refused ")?;
-            println!(rt; "{} at {}", u8::from(refusal), refusal.place())
-        }
+        Err(refusal) => say_refused(rt, refusal),
         Ok(Verdict::Accepted) => rt.write_all(b"accepted\n"),
         Ok(Verdict::Broken(broken)) => say_broken(rt, broken),
         Ok(Verdict::Extending) => rt.write_all(b"extends\n"),

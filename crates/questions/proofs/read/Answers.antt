@@ -10,8 +10,8 @@ read_commands-requires-clause-in_bounds c = (head_taken _ _ _ _ c.in-Ok.ensures)
 pub read_commands-requires-clause-own_value : goal.read_commands-requires-clause-own_value
 read_commands-requires-clause-own_value c = (head_taken _ _ _ _ c.in-Ok.ensures).1
 
-pub returns-in-Ok : goal.returns-in-Ok
-returns-in-Ok c =
+pub returns : goal.returns
+returns c =
     let E = c.read_commands.ensures in
     let same = read_on_lem _ _ _ _ c.in-Ok.ensures in
     record {

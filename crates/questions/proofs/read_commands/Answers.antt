@@ -22,7 +22,7 @@ pub returns-in_default : goal.returns-in_default
 returns-in_default c =
     let G =
     refused_turn _ _ _ _ _ _ _ c.loop-command.invariant.0 _
-    (ap step_told (sym c.unwrap_err.ensures) ∙ c.read_command-step.ensures) _ refl in
+    (ap step_told (sym c.unwrap_err.ensures) ∙ c.read_under-step.ensures) _ refl in
     record { answer = G.0; clauses = G.1; stands = tt; first = tt }
 
 pub returns-then-next-bytes : goal.returns-then-next-bytes

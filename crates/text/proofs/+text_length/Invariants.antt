@@ -2,4 +2,4 @@
 use Rattle.text.proofs.+text_length.Given as goal
 
 abbrev pub decreases-text_length : goal.decreases-text_length
-decreases-text_length l = l.block.height
+decreases-text_length l = l.height

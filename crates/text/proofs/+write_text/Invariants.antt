@@ -2,4 +2,4 @@
 use Rattle.text.proofs.+write_text.Given as goal
 
 abbrev pub decreases-write_text : goal.decreases-write_text
-decreases-write_text l = l.block.height
+decreases-write_text l = l.height

@@ -16,6 +16,4 @@ returns-then-room-ge-LONGEST_TEXT c =
 
 pub returns : goal.returns
 returns c =
-    let (row, height, number) = c.whole.ensures in
-    let counted = rw (row, height, number) at c.text_length.ensures.0 in
-    ap (λ (n : ℕ). leb n c.args.room) (counted ∙ ap length (row_text_lem _ c.args.row.now))
+    ap (λ (n : ℕ). leb n c.args.room) (c.text_length.ensures.0 ∙ ap length (row_text_lem _ c.args.row.now))

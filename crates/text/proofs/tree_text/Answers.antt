@@ -15,17 +15,14 @@ returns-then-not-text_fits c =
     c.text_fits.ensures c.if-not-text_fits.true in
     record { answer = answer; buffer = buffer }
 
-pub write_text-requires : goal.write_text-requires
-write_text-requires c =
-    let (row, height, number) = c.whole.ensures in
-    rw (row, height, number)
-    (room _ c.args.row.now c.args.buffer.now c.if-row-ne-ROW_BYTES.false _ c.text_fits.ensures c.if-not-text_fits.false)
+pub write_text-requires-clause-room : goal.write_text-requires-clause-room
+write_text-requires-clause-room c =
+    room _ c.args.row.now c.args.buffer.now c.if-row-ne-ROW_BYTES.false _ c.text_fits.ensures c.if-not-text_fits.false
 
 pub returns : goal.returns
 returns c =
-    let (row, height, number) = c.whole.ensures in
     let (answer, buffer) =
     written _ c.args.row.now c.args.buffer.now c.if-row-ne-ROW_BYTES.false _ c.text_fits.ensures
     c.if-not-text_fits.false
-    _ _ (rw (row, height, number) at c.write_text.ensures) in
+    _ _ c.write_text.ensures in
     record { answer = answer; buffer = buffer }

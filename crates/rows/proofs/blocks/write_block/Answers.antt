@@ -1,5 +1,6 @@
 -- The byte of a block, or its part of the row, lies within the row.
-use Rattle.std.proofs.Common.{arith}
+use Rattle.std.proofs.Common.{◌-◌, arith}
+use lib.Pow.{pow_pos}
 use Rattle.rows.proofs.Parts.{byte_at, part_fits}
 use Rattle.rows.proofs.blocks.write_block.Goals as goal
 
@@ -21,5 +22,11 @@ overflow_add-start c = omega (
   part_fits c.args.row.now _ _ c.requires c.if-height-le3.false _ c.power-size.ensures,
 )
 
+-- a shorter part does too, so a body that fills less falls at its bytes, and not here
 pub slice_bounds-fill-end : goal.slice_bounds-fill-end
-slice_bounds-fill-end c = part_fits c.args.row.now _ _ c.requires c.if-height-le3.false _ c.power-size.ensures
+slice_bounds-fill-end c = omega (
+  arith,
+  part_fits c.args.row.now _ _ c.requires c.if-height-le3.false _ c.power-size.ensures,
+  c.power-size.ensures,
+  pow_pos (c.args.height - 3),
+)
